@@ -1,0 +1,34 @@
+-- Whether two positions are near, modulo the lattice (document 01, "Matched atoms"): the root of the summed squares is below the tolerance.
+-- Assumes nothing.
+use mathlib.Core.Bool.{Bool}
+use mathlib.Core.List.{List}
+use Prim.Native.Nat.{ℕ, _+_, _*_}
+use lib.ListN.{getD}
+use lib.Ieee.{Float, nan, binary64, add, sub, mul, lt, ofBits}
+use Rattle.common.specs.Whole.{nearestWhole}
+use Rattle.common.specs.Root.{sqrt}
+use Rattle.cells.specs.declared.Cell.{Cell}
+
+-- an axis difference less its own rounding
+abbrev pub wrapped : Float → Float → Float
+wrapped a b = let d = sub binary64 a b in sub binary64 d (nearestWhole d)
+
+-- 0.0 + a x + b y + c z, in that order
+abbrev pub dot : Float → Float → Float → Float → Float → Float → Float
+dot a b c x y z = add binary64 (add binary64 (add binary64 (ofBits binary64 0) (mul binary64 a x)) (mul binary64 b y)) (mul binary64 c z)
+
+-- the summed squares of the difference (x, y, z) times the rows of the lattice l
+unfoldable pub squares : List Float → Float → Float → Float → Float
+squares l x y z =
+    let row : ℕ → Float = λ k. dot (getD l (k * 3) nan) (getD l (k * 3 + 1) nan) (getD l (k * 3 + 2) nan) x y z in
+    dot (row 0) (row 1) (row 2) (row 0) (row 1) (row 2)
+
+-- the summed squares for position i of pos and position j of rot
+unfoldable pub distance2 : Cell → List Float → List Float → ℕ → ℕ → Float
+distance2 cell pos rot i j =
+    let axis : ℕ → Float = λ k. wrapped (getD pos (i * 3 + k) nan) (getD rot (j * 3 + k) nan) in
+    squares (cell .lattice) (axis 0) (axis 1) (axis 2)
+
+-- Position i of pos is near position j of rot. `lt` is false where a NaN stands, so NaN is never near.
+unfoldable pub near : Cell → List Float → List Float → ℕ → ℕ → Bool
+near cell pos rot i j = lt (sqrt binary64 (distance2 cell pos rot i j)) (cell .symprec)

@@ -1,0 +1,74 @@
+// The distance leaf and the matching of atoms.
+mod near;
+mod slots;
+
+ghost use mathlib.Core.Path.{_≡_};
+ghost use Rattle.cells.specs.Matching.{matchingNumber, judged, computePermutation};
+use tables::Answer;
+use tables::limits::LIMIT2;
+
+// A crystal's cell: the lattice's nine numbers, row after row, and the tolerance.
+pub struct Cell {
+    pub lattice: [f64; 9],
+    pub symprec: f64,
+}
+
+// What matching answers: document 01's true and false, or a refusal.
+pub enum Matching {
+    Matched,
+    NotMatched,
+    Refused(Answer),
+}
+
+// The number of an answer: 0 for true, 64 for false, and document 01's number of a refusal.
+pub fn matching_number(m: Matching) -> u8
+    ensures { λ r. ⌜ r ≡ matchingNumber m ⌝ }
+{
+    match m {
+        Matching::Matched => 0,
+        Matching::NotMatched => 64,
+        Matching::Refused(a) => tables::number(a),
+    }
+}
+
+fn judge(len_slots: usize, len_pos: usize, len_rot: usize, num_pos: usize) -> Answer
+    ensures { λ r. ⌜ r ≡ judged «len_slots» «len_pos» «len_rot» «num_pos» ⌝ }
+{
+    if num_pos > LIMIT2 {
+        return Answer::CountAboveLimit;
+    }
+    if len_slots != num_pos {
+        return Answer::WrongLength;
+    }
+    if len_pos != 3 * num_pos {
+        return Answer::WrongLength;
+    }
+    if len_rot != 3 * num_pos {
+        return Answer::WrongLength;
+    }
+    Answer::Done
+}
+
+// Which rotated position each position lands on: slot j of rot_atom gets the position that is near rot_pos j, or -1. The answer is true exactly if all slots
+// are filled.
+pub fn compute_permutation(
+    rot_atom: &mut [i64],
+    cell: Cell,
+    pos: &[f64],
+    rot_pos: &[f64],
+    num_pos: usize,
+) -> Matching
+    ensures { λ r. ⌜ (r, now («rot_atom» .exit)) ≡ computePermutation (now («rot_atom» .entry)) cell (now (pos .entry)) (now («rot_pos» .entry)) «num_pos» ⌝ }
+{
+    let a = judge(rot_atom.len(), pos.len(), rot_pos.len(), num_pos);
+    if tables::is_refusal(a) {
+        return Matching::Refused(a);
+    }
+    slots::clear(rot_atom);
+    slots::place_all(rot_atom, cell, pos, rot_pos);
+    if slots::all_filled(rot_atom) {
+        Matching::Matched
+    } else {
+        Matching::NotMatched
+    }
+}

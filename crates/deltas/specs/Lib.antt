@@ -1,0 +1,3 @@
+pub mod RotateDelta
+pub mod Rows
+pub mod Guard

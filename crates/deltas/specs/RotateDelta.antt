@@ -1,0 +1,91 @@
+-- `rotate_delta_fc2s` and `rotate_delta_fc3s` (document 01, "Third and fourth order"): one definition over m, the number of atoms of a block
+-- of the deltas, 2 or 3. Definitions only.
+use mathlib.Core.List.{List, [], _∷_}
+use mathlib.Core.Bool.{Bool, _||_}
+use Prim.Native.Nat.{ℕ, zero, suc, _+_, _*_, _/_, _%_, _^_}
+use lib.IntN.{ℤ}
+use lib.ListN.{length, getD, replicate}
+use lib.Ieee.{Float, nan, add, mul, binary64}
+use Rattle.lists.specs.Tab.{tab, times}
+use Rattle.blocks.specs.Block.{block}
+use Rattle.rotations.specs.Rotation.{plusZero, rotated}
+use Rattle.tables.specs.declared.Answer.{Answer}
+use Rattle.tables.specs.declared.Answer.the-variants.{Done, CountAboveLimit, WrongLength, IndexOutOfRange}
+use Rattle.tables.specs.Answers.{after, refuseIf}
+use Rattle.tables.specs.Conditions.{anyAbove, anyWrong, outOfRange, indexAt}
+use Rattle.tables.specs.Limits.{limit3, limit4, limitList}
+
+-- What a call brings beside the result and the work slice. deltas has one set for each displacement, one after the other. Site symmetry s has
+-- the nine numbers of block s of siteSymCart, and sends atom a to rotMapSyms[s * numAtom + a]. invU has three rows of `total` numbers.
+pub record Deltas : Type 0 where
+  pub deltas : List Float
+  pub invU : List Float
+  pub siteSymCart : List Float
+  pub rotMapSyms : List ℤ
+  pub numAtom : ℕ
+  pub numSiteSym : ℕ
+  pub numDisp : ℕ
+
+-- one for each pair of a displacement and a site symmetry: pair n is displacement n / numSiteSym with site symmetry n % numSiteSym
+abbrev pub total : Deltas → ℕ
+total D = D .numDisp * D .numSiteSym
+
+-- ---- the result
+
+-- The block of the deltas that pair n brings to block b: that of its displacement, for the images of b's atoms. The last atom of block b is
+-- b % numAtom, and the others are the atoms of b / numAtom.
+unfoldable pub source : Deltas → ℕ → ℕ → ℕ → ℕ
+source D n zero b = n / D .numSiteSym
+source D n (suc m) b = source D n m (b / D .numAtom) * D .numAtom + indexAt (D .rotMapSyms) (n % D .numSiteSym * D .numAtom + b % D .numAtom)
+
+-- that block turned by the pair's site symmetry on each leg
+unfoldable pub turned : Deltas → ℕ → ℕ → ℕ → List Float
+turned D m n b = rotated (block 9 (n % D .numSiteSym) (D .siteSymCart)) m (block (3 ^ m) (source D n m b) (D .deltas))
+
+-- Row k of invU times the numbers at place p of the turned blocks, of the first t pairs: summed from 0.0, pair after pair.
+unfoldable pub summed : Deltas → ℕ → ℕ → ℕ → ℕ → ℕ → Float
+summed D m t b k p = times t (λ n s. add binary64 s (mul binary64 (getD (D .invU) (k * total D + n) nan) (getD (turned D m n b) p nan))) plusZero
+
+-- Number q of the result. Block b of it has 3 ^ m numbers for each first direction k, the direction of the displaced atom.
+abbrev pub number : Deltas → ℕ → ℕ → Float
+number D m q = summed D m (total D) (q / 3 ^ m / 3) (q / 3 ^ m % 3) (q % 3 ^ m)
+
+-- the whole result; without a pair it is +0.0 everywhere
+unfoldable pub rotatedDeltas : Deltas → ℕ → List Float
+rotatedDeltas D m = tab (D .numAtom ^ m * (3 * 3 ^ m)) (number D m)
+
+-- ---- refusals
+
+-- 1
+abbrev pub countsAbove : ℕ → ℕ → ℕ → ℕ → Bool
+countsAbove limit numAtom numSiteSym numDisp = anyAbove limit (numAtom ∷ []) || anyAbove limitList (numSiteSym ∷ numDisp ∷ [])
+
+-- 2: the length of each slice and the one stated for it; a block of the deltas has w numbers, and there are b of them for each displacement
+abbrev pub lengths : Deltas → ℕ → ℕ → ℕ → ℕ → List (ℕ × ℕ)
+lengths D b w lengthResult lengthWork =
+    (lengthResult, b * (3 * w))
+    ∷ (length (D .deltas), D .numDisp * b * w)
+    ∷ (length (D .invU), 3 * total D)
+    ∷ (length (D .siteSymCart), D .numSiteSym * 9)
+    ∷ (length (D .rotMapSyms), D .numSiteSym * D .numAtom)
+    ∷ (lengthWork, total D * w)
+    ∷ []
+
+unfoldable pub judged : ℕ → ℕ → Deltas → ℕ → ℕ → Answer
+judged limit m D lengthResult lengthWork =
+    refuseIf (countsAbove limit (D .numAtom) (D .numSiteSym) (D .numDisp)) CountAboveLimit
+    (refuseIf (anyWrong (lengths D (D .numAtom ^ m) (3 ^ m) lengthResult lengthWork)) WrongLength
+    (refuseIf (outOfRange (D .numAtom) (D .rotMapSyms)) IndexOutOfRange Done))
+
+-- ---- the calls: the answer, the result and the work slice
+
+unfoldable pub rotateDelta : ℕ → ℕ → Deltas → List Float → List Float → Answer × List Float × List Float
+rotateDelta limit m D result work =
+    let a = judged limit m D (length result) (length work) in
+    (a, after a (rotatedDeltas D m) result, after a (replicate (length work) plusZero) work)
+
+abbrev pub rotateDeltaFc2s : Deltas → List Float → List Float → Answer × List Float × List Float
+rotateDeltaFc2s = rotateDelta limit3 2
+
+abbrev pub rotateDeltaFc3s : Deltas → List Float → List Float → Answer × List Float × List Float
+rotateDeltaFc3s = rotateDelta limit4 3

@@ -1,0 +1,34 @@
+use Rattle.fc2.specs.FullLoops.{ownAt}
+use borrow.Author.Needs.{needs}
+use Rattle.fc2.proofs.full.average_own.Statement.{statement}
+use Rattle.fc2.proofs.full.average_own.Tie as tie
+use Rattle.fc2.proofs.full.average_own.Reads as reads
+use Rattle.fc2.proofs.full.average_own.Lts as lts
+use Rattle.blocks.proofs.read9.Reads as read9-reads
+use Rattle.blocks.proofs.write9.Reads as write9-reads
+use Rattle.fc2.proofs.full.evened.Reads as evened-reads
+
+-- src/full.rt:193:9
+read9-requires : tie.Need-read9-requires
+read9-requires c κs = search needs
+
+-- src/full.rt:194:27
+evened-requires : tie.Need-evened-requires
+evened-requires c κs = search needs
+
+-- src/full.rt:194:5
+write9-requires : tie.Need-write9-requires
+write9-requires c κs = search needs
+
+-- src/full.rt:189:1
+same-length : tie.Need-same-length
+same-length c = search needs
+
+-- src/full.rt:189:1
+returns : tie.Need-returns
+unfolding ownAt
+returns c = cc
+
+pub average-own-spec : {M : Type 1} → statement M
+average-own-spec =
+    tie.close (tie.spec read9-requires evened-requires write9-requires same-length returns)

@@ -1,0 +1,91 @@
+-- What the loops of full.rt leave is the symmetrized set, and what the call's answer says. Assumes nothing.
+use mathlib.Core.Path.{_≡_, refl, sym, ap, _∙_}
+use mathlib.Core.Bool.{true, false, _||_}
+use mathlib.Core.List.{List, [], _∷_}
+use Prim.Native.Nat.{ℕ, zero, suc, _*_, _≤_}
+use lib.ListN.{length}
+use borrow.Author.Tests.{le-ltb, eq-eqb}
+use lib.Ieee.{Float}
+use Rattle.lists.specs.Tab.{times, length-tab}
+use Rattle.tables.specs.declared.Answer.{Answer}
+use Rattle.tables.specs.declared.Answer.the-variants.{Done, CountAboveLimit, WrongLength}
+use Rattle.tables.specs.Answers.{isRefusal, passed, after-done, after-refusal, is-done}
+use Rattle.tables.specs.Conditions.{anyAbove, anyWrong, not-above, not-wrong}
+use Rattle.tables.specs.Limits.{limit2, limitLevel}
+use Rattle.fc2.specs.Full.{fill, inverse, columnDrift, rowDrift, pairAverages, diagonalBlocks, oneLevel, symmetrized, judgedFull, permTransSymmetrizeFc}
+use Rattle.fc2.specs.FullLoops.{rows, pairs, diagonals, swept, worked, Sized}
+use Rattle.fc2.specs.FullLaws.{or-none}
+use Rattle.fc2.specs.FullDrifts.{columns-make, rows-make}
+use Rattle.fc2.specs.FullPairs.{pairs-make, diagonals-make}
+
+-- every stage keeps the length
+pub length-fill : (n : ℕ) (f : ℕ → ℕ → ℕ → ℕ → Float) → length (fill n f) ≡ n * n * 9
+unfolding fill
+length-fill n f = length-tab (n * n * 9) _
+
+module _ (n : ℕ) where
+  pub length-level : (xs : List Float) → length (oneLevel n xs) ≡ n * n * 9
+  unfolding oneLevel pairAverages
+  length-level xs = length-fill n _
+
+  length-columns : (xs : List Float) → length (columnDrift n xs) ≡ n * n * 9
+  unfolding columnDrift
+  length-columns xs = length-fill n _
+
+  length-rows : (xs : List Float) → length (rowDrift n xs) ≡ n * n * 9
+  unfolding rowDrift
+  length-rows xs = length-fill n _
+
+  pub length-symmetrized : (level : ℕ) (xs : List Float) → length (symmetrized n level xs) ≡ n * n * 9
+  unfolding symmetrized diagonalBlocks
+  length-symmetrized level xs = length-fill n _
+
+  level-make : (xs : List Float) → length xs ≡ n * n * 9 → swept n (inverse n) xs ≡ oneLevel n xs
+  unfolding swept oneLevel
+  level-make xs e =
+      ap (λ l. pairs n (rows n (inverse n) l)) (columns-make n xs e)
+      ∙ ap (pairs n) (rows-make n (columnDrift n xs) (length-columns xs))
+      ∙ pairs-make n (rowDrift n (columnDrift n xs)) (length-rows (columnDrift n xs))
+
+  length-levels : (level : ℕ) (xs : List Float) → length xs ≡ n * n * 9 → length (times level (λ _. oneLevel n) xs) ≡ n * n * 9
+  unfolding times
+  length-levels zero xs e = e
+  length-levels (suc level) xs e = length-level (times level (λ _. oneLevel n) xs)
+
+  levels-make : (level : ℕ) (xs : List Float) → length xs ≡ n * n * 9 → times level (λ _. swept n (inverse n)) xs ≡ times level (λ _. oneLevel n) xs
+  unfolding times
+  levels-make zero xs e = refl
+  levels-make (suc level) xs e =
+      ap (swept n (inverse n)) (levels-make level xs e) ∙ level-make (times level (λ _. oneLevel n) xs) (length-levels level xs e)
+
+  pub work-makes : (level : ℕ) (xs : List Float) → length xs ≡ n * n * 9 → worked n level (inverse n) xs ≡ symmetrized n level xs
+  unfolding worked symmetrized
+  work-makes level xs e =
+      ap (diagonals n) (levels-make level xs e) ∙ diagonals-make n (times level (λ _. oneLevel n) xs) (length-levels level xs e)
+
+-- ---- the answer
+
+module _ (a : Answer) (xs : List Float) (n level : ℕ) (e : a ≡ judgedFull (length xs) n level) where
+  -- what is known of a set that is worked on
+  pub sized : isRefusal a ≡ false → Sized n (length xs)
+  sized h =
+      let (c, r) = passed (anyAbove limit2 (n ∷ []) || anyAbove limitLevel (level ∷ [])) CountAboveLimit _ refl (sym e ∙ is-done a h) in
+      let (l, _) = passed (anyWrong ((length xs, n * n * 9) ∷ [])) WrongLength Done refl r in
+      record {
+        small = not-above limit2 (n ∷ []) (or-none (anyAbove limit2 (n ∷ [])) (anyAbove limitLevel (level ∷ [])) c .0) .0;
+        long = not-wrong ((length xs, n * n * 9) ∷ []) l .0;
+      }
+
+  pub call-refused : isRefusal a ≡ true → (a, xs) ≡ permTransSymmetrizeFc xs n level
+  unfolding permTransSymmetrizeFc
+  call-refused h = rw (sym e) (ap (λ l. (a, l)) (sym (after-refusal a (symmetrized n level xs) xs h)))
+
+  pub call-done : isRefusal a ≡ false → (Done, symmetrized n level xs) ≡ permTransSymmetrizeFc xs n level
+  unfolding permTransSymmetrizeFc
+  call-done h = rw (sym e) (ap (λ b. (b, symmetrized n level xs)) (sym (is-done a h)) ∙ ap (λ l. (a, l)) (sym (after-done a (symmetrized n level xs) xs h)))
+
+-- a call within the limits, with a set of the stated length, is done
+pub call-within : (xs : List Float) (n level : ℕ) → n ≤ 1024 → level ≤ 1000 → length xs ≡ n * n * 9 → permTransSymmetrizeFc xs n level ≡ (Done, symmetrized n level xs)
+call-within xs n level h g e =
+    let j : judgedFull (length xs) n level ≡ Done = rw (le-ltb 1024 n h, le-ltb 1000 level g, eq-eqb (length xs) (n * n * 9) e) refl in
+    sym (call-done Done xs n level (sym j) refl)

@@ -1,0 +1,134 @@
+use Prim.Native.Nat.{_<_}
+use borrow.Author.Needs.{needs}
+use Rattle.fc3.specs.Loops.{p2s-read, read-tables, Found, all-in, marks-in, took}
+use Rattle.fc3.proofs.compact.take.Statement.{statement}
+use Rattle.fc3.proofs.compact.take.Tie as tie
+use Rattle.fc3.proofs.compact.take.Reads as reads
+use Rattle.fc3.proofs.compact.take.Lts as lts
+use Rattle.fc3.proofs.compact.mark.Reads as mark-reads
+use Rattle.fc3.proofs.spread.work_group.Reads as work-group-reads
+use Rattle.places.proofs.block3.Reads as block3-reads
+use Rattle.places.proofs.read_out3.Reads as read-out3-reads
+use Rattle.tables.proofs.atoms.p2s_at.Reads as p2s-at-reads
+
+-- src/compact.rt:49:9
+p2s-at-requires : tie.Need-p2s-at-requires
+p2s-at-requires c κs =
+    let s = c .before .before in
+    p2s-read _ _ _ _ (s .pre .0) (s .args .p .0) (s .args .j .0) (s .args .k .0) (s .pre .1) .0
+
+-- src/compact.rt:50:9
+block3-requires : tie.Need-block3-requires
+block3-requires c κs = search needs
+
+-- src/compact.rt:51:9
+block3-requires-2 : tie.Need-block3-requires-2
+block3-requires-2 c κs = search needs
+
+-- src/compact.rt:52:9
+read-out3-requires : tie.Need-read-out3-requires
+read-out3-requires c κs =
+    let g = c .before .before in
+    let s = g .before .before .before in
+    let v : g .p2s-at .result .0 < s .args .n-satom = rw (g .p2s-at .ensures) (p2s-read _ _ _ _ (s .pre .0) (s .args .p .0) (s .args .j .0) (s .args .k .0) (s .pre .1) .1) in
+    (read-tables _ _ _ _ (s .pre .0), s .pre .1 .1, v, s .pre .1 .2)
+
+-- src/compact.rt:53:9
+read-out3-requires-2 : tie.Need-read-out3-requires-2
+read-out3-requires-2 c κs =
+    let g = c .before .before .before in
+    let s = g .before .before .before in
+    let v : g .p2s-at .result .0 < s .args .n-satom = rw (g .p2s-at .ensures) (p2s-read _ _ _ _ (s .pre .0) (s .args .p .0) (s .args .j .0) (s .args .k .0) (s .pre .1) .1) in
+    (read-tables _ _ _ _ (s .pre .0), s .pre .1 .1, s .pre .1 .2, v)
+
+-- src/compact.rt:54:9
+read-out3-requires-3 : tie.Need-read-out3-requires-3
+read-out3-requires-3 c κs =
+    let g = c .before .before .before .before in
+    let s = g .before .before .before in
+    let v : g .p2s-at .result .0 < s .args .n-satom = rw (g .p2s-at .ensures) (p2s-read _ _ _ _ (s .pre .0) (s .args .p .0) (s .args .j .0) (s .args .k .0) (s .pre .1) .1) in
+    (read-tables _ _ _ _ (s .pre .0), s .pre .1 .2, v, s .pre .1 .1)
+
+-- src/compact.rt:55:9
+read-out3-requires-4 : tie.Need-read-out3-requires-4
+read-out3-requires-4 c κs =
+    let g = c .before .before .before .before .before in
+    let s = g .before .before .before in
+    let v : g .p2s-at .result .0 < s .args .n-satom = rw (g .p2s-at .ensures) (p2s-read _ _ _ _ (s .pre .0) (s .args .p .0) (s .args .j .0) (s .args .k .0) (s .pre .1) .1) in
+    (read-tables _ _ _ _ (s .pre .0), s .pre .1 .2, s .pre .1 .1, v)
+
+-- src/compact.rt:56:5
+mark-requires : tie.Need-mark-requires
+mark-requires c κs =
+    let o4 = c .before in
+    let o3 = o4 .before in
+    let o2 = o3 .before in
+    let o1 = o2 .before in
+    let k2 = o1 .before in
+    let k1 = k2 .before in
+    let g = k1 .before in
+    let s = g .before .before .before in
+    let a = s .args in
+    let f : Found _ _ _ _ (s .pre .0) (a .p .0) (a .j .0) (a .k .0) (s .pre .1) (g .p2s-at .result .0) (k1 .block3 .result) (k2 .block32 .result) (o1 .read-out3 .result) (o2 .read-out32 .result) (o3 .read-out33 .result) (o4 .read-out34 .result) =
+    record { rep = g .p2s-at .ensures; ijk = k1 .block3 .ensures; ikj = k2 .block32 .ensures; jik = o1 .read-out3 .ensures; jki = o2 .read-out32 .ensures; kij = o3 .read-out33 .ensures; kji = o4 .read-out34 .ensures } in
+    rw (s .pre .0 .work-length)
+    (marks-in _ _ _ _ (s .pre .0) (a .p .0) (a .j .0) (a .k .0) (s .pre .1) _ _ _ _ _ _ _ f)
+
+-- src/compact.rt:57:5
+work-group-requires : tie.Need-work-group-requires
+work-group-requires c κs =
+    let o4 = c .before .before .before .before .before in
+    let o3 = o4 .before in
+    let o2 = o3 .before in
+    let o1 = o2 .before in
+    let k2 = o1 .before in
+    let k1 = k2 .before in
+    let g = k1 .before in
+    let s = g .before .before .before in
+    let a = s .args in
+    let f : Found _ _ _ _ (s .pre .0) (a .p .0) (a .j .0) (a .k .0) (s .pre .1) (g .p2s-at .result .0) (k1 .block3 .result) (k2 .block32 .result) (o1 .read-out3 .result) (o2 .read-out32 .result) (o3 .read-out33 .result) (o4 .read-out34 .result) =
+    record { rep = g .p2s-at .ensures; ijk = k1 .block3 .ensures; ikj = k2 .block32 .ensures; jik = o1 .read-out3 .ensures; jki = o2 .read-out32 .ensures; kij = o3 .read-out33 .ensures; kji = o4 .read-out34 .ensures } in
+    all-in _ _ _ _ (s .pre .0) (a .p .0) (a .j .0) (a .k .0) (s .pre .1) _ _ _ _ _ _ _ f
+
+-- src/compact.rt:31:1
+same-length : tie.Need-same-length
+same-length c = search needs
+
+-- src/compact.rt:31:1
+same-length-2 : tie.Need-same-length-2
+same-length-2 c = search needs
+
+-- src/compact.rt:31:1
+returns : tie.Need-returns
+returns c =
+    let w = c .before .before in
+    let m = w .before .before .before .before in
+    let o4 = m .before .before in
+    let o3 = o4 .before in
+    let o2 = o3 .before in
+    let o1 = o2 .before in
+    let k2 = o1 .before in
+    let k1 = k2 .before in
+    let g = k1 .before in
+    let s = g .before .before .before in
+    let a = s .args in
+    let f : Found _ _ _ _ (s .pre .0) (a .p .0) (a .j .0) (a .k .0) (s .pre .1) (g .p2s-at .result .0) (k1 .block3 .result) (k2 .block32 .result) (o1 .read-out3 .result) (o2 .read-out32 .result) (o3 .read-out33 .result) (o4 .read-out34 .result) =
+    record { rep = g .p2s-at .ensures; ijk = k1 .block3 .ensures; ikj = k2 .block32 .ensures; jik = o1 .read-out3 .ensures; jki = o2 .read-out32 .ensures; kij = o3 .read-out33 .ensures; kji = o4 .read-out34 .ensures } in
+    took _ _ _ _ (s .pre .0) (a .p .0) (a .j .0) (a .k .0) (s .pre .1) _ _ _ _ _ _ _ f (a .fc3 .now) (a .done .now) (w .work-group .ensures) (m .mark .ensures)
+
+pub take-spec : {M : Type 1} → statement M
+take-spec =
+    tie.close
+    (tie.spec
+    p2s-at-requires
+    block3-requires
+    block3-requires-2
+    read-out3-requires
+    read-out3-requires-2
+    read-out3-requires-3
+    read-out3-requires-4
+    mark-requires
+    work-group-requires
+    same-length
+    same-length-2
+    returns)

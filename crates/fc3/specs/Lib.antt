@@ -1,0 +1,6 @@
+pub mod Transpose
+pub mod Mean
+pub mod Symmetrize
+pub mod Spread
+pub mod Loops
+pub mod TransposeLoops

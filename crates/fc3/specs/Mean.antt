@@ -1,0 +1,117 @@
+-- The mean of six numbers (document 01: summed in the Rust's order and divided once), and what a group of blocks of third order holds of it.
+-- Assumes nothing.
+use mathlib.Core.Path.{_≡_, refl, sym, ap, ap₂, _∙_}
+use Prim.Native.Nat.{ℕ, _+_, _*_, _≤_, _<_}
+use native.Mathlib.Omega.{arith}
+use lib.Dec.{lit<}
+use mathlib.Core.List.{List, [], _∷_, map}
+use lib.ListN.{length, getD}
+use lib.Ieee.{Float, nan, binary64, add, div, ofBits}
+use Rattle.lists.specs.Tab.{tab, tabFrom, getD-tab, tab-ext}
+use Rattle.lists.specs.Elements.{straight}
+use Rattle.lists.specs.Digits.{room}
+use Rattle.blocks.specs.Block.{block, getD-block}
+use Rattle.places.specs.Orders.{Order, six}
+use Rattle.orbits.specs.Blockwise.{inBlock}
+use Rattle.orbits.specs.Transposed.{turned, turned-is-below}
+use Rattle.orbits.specs.Groups.{spots, meanBlock}
+use Rattle.orbits.specs.Scatter.{turned-straight}
+use Rattle.orbits.specs.Turns.{gathered, lnm, mln, mnl, nlm, nml, lnm-is, mln-is, mnl-is, nlm-is, nml-is}
+
+-- a sum from the left, from a start
+abbrev pub sumFrom : Float → List Float → Float
+sumFrom s [] = s
+sumFrom s (x ∷ xs) = sumFrom (add binary64 s x) xs
+
+-- the sum begins with the first number, so that six times -0.0 gives -0.0; divided by 6.0
+abbrev pub mean6 : List Float → Float
+mean6 [] = nan
+mean6 (x ∷ xs) = div binary64 (sumFrom x xs) (ofBits binary64 0x4018_0000_0000_0000)
+
+-- the six blocks' means, position by position: each block already turned to the first one's directions
+unfoldable pub means : List Float → List Float → List Float → List Float → List Float → List Float → List Float
+means a b c d e f = tab 27 (λ k. mean6 (getD a k nan ∷ getD b k nan ∷ getD c k nan ∷ getD d k nan ∷ getD e k nan ∷ getD f k nan ∷ []))
+
+-- a block turned by an order
+unfoldable pub turnedBlock : List ℕ → List Float → List Float
+turnedBlock σ v = tab 27 (λ k. getD v (turned 2 σ k) nan)
+
+pub in27 : inBlock 2 ≡ 27
+unfolding inBlock room
+in27 = refl
+
+-- six blocks of a set of n numbers
+pub record Blocks6 (n b0 b1 b2 b3 b4 b5 : ℕ) : Type 0 where
+  pub in0 : b0 * 27 + 27 ≤ n
+  pub in1 : b1 * 27 + 27 ≤ n
+  pub in2 : b2 * 27 + 27 ≤ n
+  pub in3 : b3 * 27 + 27 ≤ n
+  pub in4 : b4 * 27 + 27 ≤ n
+  pub in5 : b5 * 27 + 27 ≤ n
+
+-- ---- the means of a group
+
+pub means-same : {a b c d e f a′ b′ c′ d′ e′ f′ : List Float} → a ≡ a′ → b ≡ b′ → c ≡ c′ → d ≡ d′ → e ≡ e′ → f ≡ f′ → means a b c d e f ≡ means a′ b′ c′ d′ e′ f′
+means-same p q r s t u = cc
+
+-- what the literal of `orbits::turn` is: the block turned
+pub lnm-turned : {r v w : List Float} → r ≡ gathered v lnm → v ≡ w → r ≡ turnedBlock (0 ∷ 2 ∷ 1 ∷ []) w
+unfolding turnedBlock
+lnm-turned {v = v} e f = e ∙ lnm-is v ∙ ap (λ v. tab 27 (λ k. getD v (turned 2 (0 ∷ 2 ∷ 1 ∷ []) k) nan)) f
+
+pub mln-turned : {r v w : List Float} → r ≡ gathered v mln → v ≡ w → r ≡ turnedBlock (1 ∷ 0 ∷ 2 ∷ []) w
+unfolding turnedBlock
+mln-turned {v = v} e f = e ∙ mln-is v ∙ ap (λ v. tab 27 (λ k. getD v (turned 2 (1 ∷ 0 ∷ 2 ∷ []) k) nan)) f
+
+pub mnl-turned : {r v w : List Float} → r ≡ gathered v mnl → v ≡ w → r ≡ turnedBlock (1 ∷ 2 ∷ 0 ∷ []) w
+unfolding turnedBlock
+mnl-turned {v = v} e f = e ∙ mnl-is v ∙ ap (λ v. tab 27 (λ k. getD v (turned 2 (1 ∷ 2 ∷ 0 ∷ []) k) nan)) f
+
+pub nlm-turned : {r v w : List Float} → r ≡ gathered v nlm → v ≡ w → r ≡ turnedBlock (2 ∷ 0 ∷ 1 ∷ []) w
+unfolding turnedBlock
+nlm-turned {v = v} e f = e ∙ nlm-is v ∙ ap (λ v. tab 27 (λ k. getD v (turned 2 (2 ∷ 0 ∷ 1 ∷ []) k) nan)) f
+
+pub nml-turned : {r v w : List Float} → r ≡ gathered v nml → v ≡ w → r ≡ turnedBlock (2 ∷ 1 ∷ 0 ∷ []) w
+unfolding turnedBlock
+nml-turned {v = v} e f = e ∙ nml-is v ∙ ap (λ v. tab 27 (λ k. getD v (turned 2 (2 ∷ 1 ∷ 0 ∷ []) k) nan)) f
+
+plain : 0 ∷ 1 ∷ 2 ∷ [] ≡ straight 3
+unfolding straight tab tabFrom
+plain = refl
+
+pub turned-plain : (k : ℕ) → k < inBlock 2 → turned 2 (0 ∷ 1 ∷ 2 ∷ []) k ≡ k
+turned-plain k h = ap (λ σ. turned 2 σ k) plain ∙ turned-straight 2 k h
+
+-- the number of a turned block
+at-turned : (σ : List ℕ) (o : Order 2 σ) (b : ℕ) (xs : List Float) (k : ℕ) → k < 27 → getD (turnedBlock σ (block 27 b xs)) k nan ≡ getD xs (b * 27 + turned 2 σ k) nan
+unfolding turnedBlock
+at-turned σ o b xs k h =
+    getD-tab 27 (λ k. getD (block 27 b xs) (turned 2 σ k) nan) k nan h ∙ getD-block 27 b xs (turned 2 σ k) (rw in27 at (turned-is-below 2 σ k o (rw in27 h)))
+
+module _ (xs : List Float) (b0 b1 b2 b3 b4 b5 : ℕ) where
+  pub means-are : means (block 27 b0 xs) (turnedBlock (0 ∷ 2 ∷ 1 ∷ []) (block 27 b1 xs)) (turnedBlock (1 ∷ 0 ∷ 2 ∷ []) (block 27 b2 xs))
+      (turnedBlock (1 ∷ 2 ∷ 0 ∷ []) (block 27 b3 xs)) (turnedBlock (2 ∷ 0 ∷ 1 ∷ []) (block 27 b4 xs)) (turnedBlock (2 ∷ 1 ∷ 0 ∷ []) (block 27 b5 xs))
+      ≡ meanBlock mean6 2 six (b0 ∷ b1 ∷ b2 ∷ b3 ∷ b4 ∷ b5 ∷ []) xs
+  unfolding means meanBlock spots six
+  means-are =
+      ap (λ n. tab n (λ k. mean6 (getD (block 27 b0 xs) k nan ∷ getD (turnedBlock (0 ∷ 2 ∷ 1 ∷ []) (block 27 b1 xs)) k nan ∷ getD (turnedBlock (1 ∷ 0 ∷ 2 ∷ []) (block 27 b2 xs)) k nan
+      ∷ getD (turnedBlock (1 ∷ 2 ∷ 0 ∷ []) (block 27 b3 xs)) k nan ∷ getD (turnedBlock (2 ∷ 0 ∷ 1 ∷ []) (block 27 b4 xs)) k nan ∷ getD (turnedBlock (2 ∷ 1 ∷ 0 ∷ []) (block 27 b5 xs)) k nan ∷ []))) (sym in27)
+      ∙ tab-ext nan (inBlock 2) _ _ (λ k h.
+      let hk : k < 27 = rw in27 at h in
+      same
+      (getD-block 27 b0 xs k hk ∙ first k h)
+      (at-turned (0 ∷ 2 ∷ 1 ∷ []) (refl, omega arith) b1 xs k hk ∙ at b1 (turned 2 (0 ∷ 2 ∷ 1 ∷ []) k))
+      (at-turned (1 ∷ 0 ∷ 2 ∷ []) (refl, omega arith) b2 xs k hk ∙ at b2 (turned 2 (1 ∷ 0 ∷ 2 ∷ []) k))
+      (at-turned (1 ∷ 2 ∷ 0 ∷ []) (refl, omega arith) b3 xs k hk ∙ at b3 (turned 2 (1 ∷ 2 ∷ 0 ∷ []) k))
+      (at-turned (2 ∷ 0 ∷ 1 ∷ []) (refl, omega arith) b4 xs k hk ∙ at b4 (turned 2 (2 ∷ 0 ∷ 1 ∷ []) k))
+      (at-turned (2 ∷ 1 ∷ 0 ∷ []) (refl, omega arith) b5 xs k hk ∙ at b5 (turned 2 (2 ∷ 1 ∷ 0 ∷ []) k)))
+    where
+      at : (b t : ℕ) → getD xs (b * 27 + t) nan ≡ getD xs (b * inBlock 2 + t) nan
+      at b t = ap (λ c. getD xs (b * c + t) nan) (sym in27)
+
+      first : (k : ℕ) → k < inBlock 2 → getD xs (b0 * 27 + k) nan ≡ getD xs (b0 * inBlock 2 + turned 2 (0 ∷ 1 ∷ 2 ∷ []) k) nan
+      first k h = ap₂ (λ c t. getD xs (b0 * c + t) nan) (sym in27) (sym (turned-plain k h))
+
+      same : {a b c d e f a′ b′ c′ d′ e′ f′ : Float} → a ≡ a′ → b ≡ b′ → c ≡ c′ → d ≡ d′ → e ≡ e′ → f ≡ f′
+          → mean6 (a ∷ b ∷ c ∷ d ∷ e ∷ f ∷ []) ≡ mean6 (a′ ∷ b′ ∷ c′ ∷ d′ ∷ e′ ∷ f′ ∷ [])
+      same p q r s t u = rw (p, q, r, s, t, u)

@@ -1,0 +1,5 @@
+// Third order (fc3.rs).
+pub mod compact;
+pub mod mean;
+pub mod spread;
+pub mod transpose;

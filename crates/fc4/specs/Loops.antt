@@ -1,0 +1,163 @@
+-- The symmetrizers' loops of fourth order, over any shift tables: one visit, all of them, and the calls. Assumes nothing.
+use mathlib.Core.Path.{_≡_, refl, sym, ap, ap₂, _∙_}
+use mathlib.Core.Bool.{Bool, true, false, cond}
+use Prim.Native.Nat.{ℕ, zero, suc, _+_, _*_, _≤_, _<_}
+use native.Mathlib.Nat.{mul-le-mul, le-refl}
+use native.Mathlib.Omega.{arith}
+use mathlib.Core.List.{List, [], _∷_}
+use lib.Dec.{eqb}
+use lib.ListN.{length, getD, replicate, length-replicate, getD-replicate}
+use lib.Ieee.{Float, nan}
+use borrow.Author.Tests.{eq-eqb, ne-eqb}
+use Rattle.lists.specs.Tab.{times}
+use Rattle.lists.specs.Digits.{room}
+use Rattle.tables.specs.Shifts.{Shifts, Laws}
+use Rattle.tables.specs.Limits.{limit4}
+use Rattle.tables.specs.declared.Answer.{Answer}
+use Rattle.tables.specs.declared.Answer.the-variants.{Done, CountAboveLimit, WrongLength}
+use Rattle.tables.specs.Answers.{isRefusal, after, is-done, passed, refused-call, done-call}
+use Rattle.tables.specs.Conditions.{not-above, not-wrong}
+use Rattle.tables.specs.Compact.{ShiftTables, shiftsOf, Compact, judgedCompact, done-compact}
+use Rattle.places.specs.Places.{size}
+use Rattle.places.specs.Orders.{twentyFour, twentyFour-group}
+use Rattle.places.specs.Whole.{whole, whole-laws, size-whole}
+use Rattle.orbits.specs.Groups.{groupBlocks, meanBlock, spreadBlock}
+use Rattle.orbits.specs.Spread.{setAll}
+use Rattle.orbits.specs.Symmetric.{symmetrized}
+use Rattle.orbits.specs.GroupLoop.{State, worked, markedVisit, marked-leaves}
+use Rattle.fc4.specs.Mean.{mean24, Blocks24}
+use Rattle.fc4.specs.Blocks.{blocks-in, marks-in}
+use Rattle.fc4.specs.Symmetrize.{setPermutationSymmetryCompactFc4, judgedFull4, setPermutationSymmetryFc4}
+
+-- a compact set of fourth order that passed the guard, and a work slice of k atoms' places
+abbrev pub Ready : ℕ → ℕ → ℕ → ShiftTables → Type 0
+Ready lenSet k lenWork T = Compact limit4 3 lenSet k lenWork T
+
+-- 24 entries of a done table of n
+pub record Marks24 (n : ℕ) (bs : List ℕ) : Type 0 where
+  pub count : length bs ≡ 24
+  pub inside : (s : ℕ) → s < 24 → getD bs s 0 < n
+
+-- of a set and its done table: the group with the blocks bs marked, worked out and written
+unfoldable pub takenBlocks : List ℕ → State → State
+takenBlocks bs s = (spreadBlock 3 twentyFour bs (meanBlock mean24 3 twentyFour bs (s .0)) (s .0), setAll bs 1 (s .1))
+
+-- one visit
+abbrev pub visitAt : Shifts → ℕ → State → State
+visitAt S = markedVisit mean24 3 twentyFour S
+
+-- a block that is not marked, and one that is
+module _ (S : Shifts) (b : ℕ) (s : State) where
+  pub visit-free : {bs : List ℕ} {r : State} → getD (s .1) b 0 ≡ 0 → bs ≡ groupBlocks S 3 twentyFour b → r ≡ takenBlocks bs s → r ≡ visitAt S b s
+  unfolding takenBlocks markedVisit worked
+  visit-free {bs} {r} z e f = f ∙ ap (λ bs. takenBlocks bs s) e ∙ sym (rw (eq-eqb (getD (s .1) b 0) 0 z) refl)
+
+  pub visit-met : (getD (s .1) b 0 ≡ 0 → ⊥) → s ≡ visitAt S b s
+  unfolding markedVisit
+  visit-met z = sym (rw (ne-eqb (getD (s .1) b 0) 0 z) refl)
+
+-- where the blocks of a group lie
+pub takes : (S : Shifts) (lenSet lenWork b : ℕ) → Laws S → lenSet ≡ size S 3 → lenWork ≡ room (S .nSatom) 3 (S .nPatom) → b < lenWork → {bs : List ℕ} → bs ≡ groupBlocks S 3 twentyFour b
+    → Blocks24 lenSet bs × Marks24 lenWork bs
+takes S lenSet lenWork b L ls lw h {bs} e =
+    let hb : b < room (S .nSatom) 3 (S .nPatom) = rw lw at h in
+    let B = blocks-in S L b hb lenSet ls in
+    (rw e B, rw (e, lw) (record { count = B .count; inside = marks-in S L b hb }))
+
+-- ---- the calls
+
+module _ (S : Shifts) (set : List Float) (work : List ℕ) (a : Answer) where
+  -- what a call leaves, by the guard's answer
+  abbrev leaves : Answer → Answer × List Float × List ℕ
+  leaves a = (a, after a (symmetrized nan mean24 S 3 twentyFour set) set, after a (replicate (length work) 0) work)
+
+  refused-leaves : isRefusal a ≡ true → _≡_ {A = Answer × List Float × List ℕ} (a, set, work) (leaves a)
+  refused-leaves r = refused-call a (symmetrized nan mean24 S 3 twentyFour set) set (replicate (length work) 0) work r
+
+  -- the work slice cleared, the loop run, and the work slice cleared again
+  done-leaves : Laws S → length set ≡ size S 3 → length work ≡ room (S .nSatom) 3 (S .nPatom) → isRefusal a ≡ false → {cleared marked clear : List ℕ} {new : List Float}
+      → cleared ≡ replicate (length work) 0 → _≡_ {A = State} (new, marked) (times (length cleared) (visitAt S) (set, cleared)) → clear ≡ replicate (length marked) 0 → length marked ≡ length cleared
+      → _≡_ {A = Answer × List Float × List ℕ} (Done, new, clear) (leaves a)
+  done-leaves L ls lw r {cleared} {marked} {clear} {new} c l z k =
+      let lc : length cleared ≡ length work = ap length c ∙ length-replicate (length work) 0 in
+      let B = room (S .nSatom) 3 (S .nPatom) in
+      let n : new ≡ symmetrized nan mean24 S 3 twentyFour set =
+      ap (λ s. s .0) l ∙ ap (λ n. times n (visitAt S) (set, cleared) .0) (lc ∙ lw)
+      ∙ marked-leaves mean24 S L 3 twentyFour twentyFour-group set cleared ls (lc ∙ lw) (λ b h. ap (λ l. getD l b 0) c ∙ getD-replicate (length work) b 0 0 (rw lw h)) in
+      let w : clear ≡ replicate (length work) 0 = z ∙ ap (λ m. replicate m 0) (k ∙ lc) in
+      ap₂ (λ x y. (Done, x, y)) n w
+      ∙ done-call a (symmetrized nan mean24 S 3 twentyFour set) set (replicate (length work) 0) work r
+
+-- the compact set
+pub sized : {k lenSet lenWork : ℕ} (T : ShiftTables) → Ready lenSet k lenWork T → lenSet ≡ size (shiftsOf T) 3
+unfolding size
+sized T R = R .set-length
+
+module _ (set : List Float) (T : ShiftTables) (work : List ℕ) (a : Answer) (e : a ≡ judgedCompact limit4 3 (length set) 3 (length work) T) where
+  pub symmetrize-refused : isRefusal a ≡ true → _≡_ {A = Answer × List Float × List ℕ} (a, set, work) (setPermutationSymmetryCompactFc4 set T work)
+  unfolding setPermutationSymmetryCompactFc4
+  symmetrize-refused r = refused-leaves (shiftsOf T) set work a r ∙ ap (leaves (shiftsOf T) set work a) e
+
+  pub symmetrize-ready : isRefusal a ≡ false → Ready (length set) 3 (length work) T
+  symmetrize-ready r = done-compact limit4 3 (length set) 3 (length work) T (sym e ∙ is-done a r)
+
+  pub symmetrize-done : isRefusal a ≡ false → {cleared marked clear : List ℕ} {new : List Float}
+      → cleared ≡ replicate (length work) 0 → _≡_ {A = State} (new, marked) (times (length cleared) (visitAt (shiftsOf T)) (set, cleared)) → clear ≡ replicate (length marked) 0 → length marked ≡ length cleared
+      → _≡_ {A = Answer × List Float × List ℕ} (Done, new, clear) (setPermutationSymmetryCompactFc4 set T work)
+  unfolding setPermutationSymmetryCompactFc4
+  symmetrize-done r c l z k =
+      let R = symmetrize-ready r in
+      done-leaves (shiftsOf T) set work a (R .rules) (sized T R) (R .work-length) r c l z k ∙ ap (leaves (shiftsOf T) set work a) e
+
+-- ---- the full set
+
+-- a full set of fourth order that passed its guard
+pub record FullReady (lenSet lenWork n : ℕ) : Type 0 where
+  pub atoms : n ≤ 64
+  pub set-length : lenSet ≡ size (whole n) 3
+  pub work-length : lenWork ≡ room n 3 n
+
+-- its lengths, spelled out
+pub full-blocks : (n : ℕ) → room n 3 n ≡ n * n * n * n
+unfolding room
+full-blocks n = refl
+
+full-size : (n : ℕ) → size (whole n) 3 ≡ n * n * n * n * 81
+full-size n = size-whole n 3 ∙ go n
+  where
+    go : (n : ℕ) → room 3 4 (room n 3 n) ≡ n * n * n * n * 81
+    go n = unfold room in omega arith
+
+pub full-takes : {lenSet lenWork n : ℕ} → FullReady lenSet lenWork n → (b : ℕ) → b < lenWork → {bs : List ℕ} → bs ≡ groupBlocks (whole n) 3 twentyFour b → Blocks24 lenSet bs × Marks24 lenWork bs
+unfolding whole
+full-takes {lenSet} {lenWork} {n} R b h e = takes (whole n) lenSet lenWork b (whole-laws n) (R .set-length) (R .work-length) h e
+
+-- products of counts are small
+pub small : (n : ℕ) → n ≤ 64 → (n * n ≤ 4096) × (n * n * n ≤ 262144) × (n * n * n * n ≤ 16777216)
+small n h =
+    let h2 : n * n ≤ 64 * 64 = mul-le-mul h h in
+    let h3 : n * n * n ≤ 64 * 64 * 64 = mul-le-mul h2 h in
+    let h4 : n * n * n * n ≤ 64 * 64 * 64 * 64 = mul-le-mul h3 h in
+    (omega arith, omega arith, omega arith)
+
+module _ (set : List Float) (work : List ℕ) (n : ℕ) (a : Answer) (e : a ≡ judgedFull4 (length set) (length work) n) where
+  pub full-refused : isRefusal a ≡ true → _≡_ {A = Answer × List Float × List ℕ} (a, set, work) (setPermutationSymmetryFc4 set work n)
+  unfolding setPermutationSymmetryFc4
+  full-refused r = refused-leaves (whole n) set work a r ∙ ap (leaves (whole n) set work a) e
+
+  pub full-ready : isRefusal a ≡ false → FullReady (length set) (length work) n
+  unfolding judgedFull4
+  full-ready r =
+      let (q1, e1) = passed _ _ _ refl (sym e ∙ is-done a r) in
+      let (q2, e2) = passed _ _ _ refl e1 in
+      let (h, _) = not-above limit4 (n ∷ []) q1 in
+      let (ls, (lw, _)) = not-wrong ((length set, n * n * n * n * 81) ∷ ((length work, n * n * n * n) ∷ [])) q2 in
+      record { atoms = h; set-length = ls ∙ sym (full-size n); work-length = lw ∙ sym (full-blocks n) }
+
+  pub full-done : isRefusal a ≡ false → {cleared marked clear : List ℕ} {new : List Float}
+      → cleared ≡ replicate (length work) 0 → _≡_ {A = State} (new, marked) (times (length cleared) (visitAt (whole n)) (set, cleared)) → clear ≡ replicate (length marked) 0 → length marked ≡ length cleared
+      → _≡_ {A = Answer × List Float × List ℕ} (Done, new, clear) (setPermutationSymmetryFc4 set work n)
+  unfolding setPermutationSymmetryFc4 whole
+  full-done r c l z k =
+      let R = full-ready r in
+      done-leaves (whole n) set work a (whole-laws n) (R .set-length) (R .work-length) r c l z k ∙ ap (leaves (whole n) set work a) e

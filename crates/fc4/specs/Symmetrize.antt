@@ -1,0 +1,33 @@
+-- The symmetrizers of fourth order (document 01, "Third and fourth order"): what the calls answer and what they leave. Definitions only.
+use mathlib.Core.List.{List, [], _∷_}
+use Prim.Native.Nat.{ℕ, _*_}
+use lib.ListN.{length, replicate}
+use lib.Ieee.{Float, nan}
+use Rattle.tables.specs.declared.Answer.{Answer}
+use Rattle.tables.specs.declared.Answer.the-variants.{Done, CountAboveLimit, WrongLength}
+use Rattle.tables.specs.Answers.{after, refuseIf}
+use Rattle.tables.specs.Conditions.{anyAbove, anyWrong}
+use Rattle.tables.specs.Compact.{ShiftTables, shiftsOf, judgedCompact}
+use Rattle.tables.specs.Limits.{limit4}
+use Rattle.places.specs.Orders.{twentyFour}
+use Rattle.places.specs.Whole.{whole}
+use Rattle.orbits.specs.Symmetric.{symmetrized}
+use Rattle.fc4.specs.Mean.{mean24}
+
+-- the compact set: n_patom × n_satom³ × 81 numbers, n_patom × n_satom³ bytes of work
+unfoldable pub setPermutationSymmetryCompactFc4 : List Float → ShiftTables → List ℕ → Answer × List Float × List ℕ
+setPermutationSymmetryCompactFc4 set T work =
+    let a = judgedCompact limit4 3 (length set) 3 (length work) T in
+    (a, after a (symmetrized nan mean24 (shiftsOf T) 3 twentyFour set) set, after a (replicate (length work) 0) work)
+
+-- the guard of a full set: num_atom⁴ × 81 numbers, num_atom⁴ bytes of work
+unfoldable pub judgedFull4 : ℕ → ℕ → ℕ → Answer
+judgedFull4 lenSet lenWork n =
+    refuseIf (anyAbove limit4 (n ∷ [])) CountAboveLimit
+    (refuseIf (anyWrong ((lenSet, n * n * n * n * 81) ∷ ((lenWork, n * n * n * n) ∷ []))) WrongLength Done)
+
+-- the full set: a compact set in which each atom is its own representative
+unfoldable pub setPermutationSymmetryFc4 : List Float → List ℕ → ℕ → Answer × List Float × List ℕ
+setPermutationSymmetryFc4 set work n =
+    let a = judgedFull4 (length set) (length work) n in
+    (a, after a (symmetrized nan mean24 (whole n) 3 twentyFour set) set, after a (replicate (length work) 0) work)

@@ -1,0 +1,4 @@
+pub mod Sequences
+pub mod Transposes
+pub mod Spelling
+pub mod Symmetrized

@@ -1,0 +1,38 @@
+-- The counterpart of a block that is given by its atoms: the stored block of the atoms in another order. This is how a program finds it from the
+-- tables. Assumes nothing.
+use mathlib.Core.Path.{_≡_, refl, sym, ap, ap₂, _∙_}
+use Prim.Native.Nat.{ℕ, zero, suc, _+_, _*_, _<_}
+use mathlib.Core.List.{List, [], _∷_, map}
+use lib.ListN.{length, getD}
+use Rattle.lists.specs.Elements.{All, Below, pick, map-id}
+use Rattle.lists.specs.Digits.{horner, room, rest, digits, rest-horner, digits-horner}
+use Rattle.tables.specs.Shifts.{Shifts, Laws, row, p2sAt, s2ppAt, nsymAt, nsym-p2s}
+use Rattle.places.specs.Addresses.{storedBlock}
+use Rattle.orbits.specs.Blockwise.{blockAtoms, storedAtoms, openedAtoms, atomsAt}
+use Rattle.orbits.specs.Transposed.{counterpart}
+
+-- the stored block of a list of atoms
+unfoldable pub storedOf : Shifts → List ℕ → ℕ
+storedOf S [] = 0
+storedOf S (i ∷ js) = storedBlock S i js
+
+stored-of : (S : Shifts) (ks : List ℕ) → blockAtoms S (storedAtoms S ks) ≡ storedOf S ks
+unfolding blockAtoms storedAtoms storedOf storedBlock
+stored-of S [] = refl
+stored-of S (i ∷ js) = refl
+
+module _ (S : Shifts) (p : ℕ) (js : List ℕ) (b : Below (S .nSatom) js) where
+  -- the atoms of the block are read off its number
+  pub atoms-are : atomsAt S (length js) (horner (S .nSatom) p js) ≡ p ∷ js
+  unfolding atomsAt
+  atoms-are = ap₂ _∷_ (rest-horner (S .nSatom) p js b) (digits-horner (S .nSatom) p js b)
+
+  pub counterpart-at : (σ : List ℕ) → counterpart S (length js) σ (horner (S .nSatom) p js) ≡ storedOf S (pick 0 σ (p2sAt S p ∷ js))
+  unfolding counterpart openedAtoms
+  counterpart-at σ = ap (λ ks. blockAtoms S (storedAtoms S (pick 0 σ (openedAtoms S ks)))) atoms-are ∙ stored-of S (pick 0 σ (p2sAt S p ∷ js))
+
+  -- a representative's stored block is the block itself
+  pub stored-own : Laws S → p < S .nPatom → storedBlock S (p2sAt S p) js ≡ horner (S .nSatom) p js
+  unfolding storedBlock
+  stored-own L h =
+      ap₂ (horner (S .nSatom)) (L .s2pp-p2s p h) (map-id (λ k. k < S .nSatom) (row S (nsymAt S (p2sAt S p))) js (λ k hk. nsym-p2s S L p k h hk) b)

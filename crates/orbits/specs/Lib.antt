@@ -1,0 +1,13 @@
+pub mod Blockwise
+pub mod Counterparts
+pub mod BlockPairs
+pub mod Transposed
+pub mod Trading
+pub mod Symmetric
+pub mod Spread
+pub mod Symmetrizer
+pub mod Turns
+pub mod Groups
+pub mod GroupLoop
+pub mod Scatter
+pub mod AtBlocks

@@ -1,0 +1,97 @@
+-- The symmetrizers, for every order of the set at once: what each place holds afterwards, and that all orders of any legs then read out the same.
+-- `os` lists the orders in which the legs are read, in the program's order; `mean` makes one number of those reads. Assumes nothing.
+use mathlib.Core.Path.{_≡_, refl, sym, ap, ap₂, _∙_, subst}
+use mathlib.Core.Logic.{_⊎_, inl, inr}
+use mathlib.Core.Bool.{Bool, true, false, not, _&&_, _||_, cond}
+use Prim.Native.Nat.{ℕ, zero, suc, _+_, _*_, _/_, _%_, _≤_, _<_}
+use native.Mathlib.Omega.{arith}
+use mathlib.Core.List.{List, [], _∷_, map}
+use lib.ListN.{length, getD}
+use lib.Dec.{eqb, ltb}
+use borrow.Author.Tests.{eqb-true, eq-eqb}
+use Rattle.lists.specs.Tests.{and-fst, and-snd, both, split, not-both, says}
+use Rattle.tables.specs.Shifts.{Shifts, Laws}
+use Rattle.lists.specs.Tab.{tab}
+use Rattle.lists.specs.Elements.{All, Below, pick, pick-pick, straight, pick-straight, map-same}
+use Rattle.lists.specs.Digits.{room}
+use Rattle.lists.specs.Members.{In, Sub, all-in, in-all, keep, in-keep, keep-in, in-map, map-in, map-sub, least, greatest, least-same, greatest-same, allOf, oneOf, alike, alike-true, all-of, one-of, members-say}
+use Rattle.places.specs.Places.{Leg, Legs, Place, stored, opened, address, place, readOut, fill, size, readOut-fill, stored-place}
+use Rattle.orbits.specs.Blockwise.{inBlock}
+use Rattle.places.specs.Orders.{taken, Order, taken-legs, Group}
+use Rattle.places.specs.Moves.{source, source-stored}
+
+-- ---- what a place holds afterwards
+
+-- the addresses of the legs in each of the orders
+unfoldable pub images : Shifts → List (List ℕ) → List Leg → List ℕ
+images S os xs = map (λ σ. address S (stored S (taken σ xs))) os
+
+-- the first block, in loop order, in which one of the addresses lies
+unfoldable pub firstBlock : ℕ → List ℕ → ℕ
+firstBlock c qs = least (map (λ q. q / c) qs)
+
+-- Of the addresses that lie in the first block, the last: its directions are the last in loop order that write the place.
+unfoldable pub leader : ℕ → List ℕ → ℕ
+leader c qs = greatest (keep (λ q. eqb (q / c) (firstBlock c qs)) qs)
+
+module _ {A : Type 0} (z : A) (mean : List A → A) where
+  -- the mean worked out from the legs at an address
+  unfoldable pub meanAt : Shifts → ℕ → List (List ℕ) → List A → ℕ → A
+  meanAt S m os set q = mean (map (λ r. getD set r z) (images S os (opened S (place S m q))))
+
+  -- the set symmetrized
+  unfoldable pub symmetrized : Shifts → ℕ → List (List ℕ) → List A → List A
+  symmetrized S m os set = fill S m (λ ys. meanAt S m os set (leader (inBlock m) (images S os (opened S ys))))
+
+-- ---- demand 3: all orders of any legs read out the same
+
+-- what the leader is depends on the addresses, not on their order
+pub leader-same : (c : ℕ) (l k : List ℕ) → Sub l k → Sub k l → leader c l ≡ leader c k
+unfolding leader firstBlock
+leader-same c l k s t =
+    let e : firstBlock c l ≡ firstBlock c k = least-same (map (λ q. q / c) l) (map (λ q. q / c) k) (map-sub (λ q. q / c) l k s) (map-sub (λ q. q / c) k l t) in
+    ap (λ f. greatest (keep (λ q. eqb (q / c) f) l)) e
+    ∙ greatest-same (keep (λ q. eqb (q / c) (firstBlock c k)) l) (keep (λ q. eqb (q / c) (firstBlock c k)) k) (kept l k s) (kept k l t)
+  where
+    kept : (a b : List ℕ) → Sub a b → Sub (keep (λ q. eqb (q / c) (firstBlock c k)) a) (keep (λ q. eqb (q / c) (firstBlock c k)) b)
+    kept a b h q i =
+        let (j, e) = keep-in (λ q. eqb (q / c) (firstBlock c k)) a q i in
+        in-keep (λ q. eqb (q / c) (firstBlock c k)) b q (h q j) e
+
+module _ (S : Shifts) (L : Laws S) (m : ℕ) (os : List (List ℕ)) (G : Group m os) where
+  -- the addresses of legs in another order are the same addresses
+  pub images-sub : (τ : List ℕ) (xs : List Leg) → In τ os → Legs S m xs → Sub (images S os (taken τ xs)) (images S os xs)
+  unfolding images
+  images-sub τ xs t p q i =
+      let (σ, h, e) = map-in (λ σ. address S (stored S (taken σ (taken τ xs)))) os q i in
+      rw (e, pick-pick (0, 0) σ τ xs (rw (G .each τ t .0) (G .each σ h .1)))
+      (in-map (λ σ. address S (stored S (taken σ xs))) os (pick 0 σ τ) (G .closed σ τ h t))
+
+  pub images-sup : (τ : List ℕ) (xs : List Leg) → In τ os → Legs S m xs → Sub (images S os xs) (images S os (taken τ xs))
+  unfolding images
+  images-sup τ xs t p q i =
+      let (ρ, h, e) = map-in (λ σ. address S (stored S (taken σ xs))) os q i in
+      let (σ, k, f) = G .solved ρ τ h t in
+      rw (e, ← f, ← pick-pick (0, 0) σ τ xs (rw (G .each τ t .0) (G .each σ k .1)))
+      (in-map (λ σ. address S (stored S (taken σ (taken τ xs)))) os σ k)
+
+  -- nor do they depend on a shift
+  pub images-stored : (xs : List Leg) → Legs S m xs → images S os (opened S (stored S xs)) ≡ images S os xs
+  unfolding images source
+  images-stored xs p =
+      map-same (Order m) (λ σ. address S (stored S (taken σ (opened S (stored S xs))))) (λ σ. address S (stored S (taken σ xs))) os
+      (λ σ o. ap (address S) (source-stored S L m σ xs o p)) (in-all (Order m) os (G .each))
+
+  module _ {A : Type 0} (z : A) (mean : List A → A) where
+    pub symmetric : (set : List A) (τ : List ℕ) (xs : List Leg) → In τ os → Legs S m xs
+        → readOut z S (symmetrized z mean S m os set) (taken τ xs) ≡ readOut z S (symmetrized z mean S m os set) xs
+    unfolding symmetrized
+    symmetric set τ xs t p =
+        let q = taken-legs S m τ xs (G .each τ t) p in
+        let f : List Leg → A = λ ys. meanAt z mean S m os set (leader (inBlock m) (images S os (opened S ys))) in
+        readOut-fill S L z m f (taken τ xs) q
+        ∙ ap (meanAt z mean S m os set)
+        (ap (leader (inBlock m)) (images-stored (taken τ xs) q)
+        ∙ leader-same (inBlock m) (images S os (taken τ xs)) (images S os xs) (images-sub τ xs t p) (images-sup τ xs t p)
+        ∙ ap (leader (inBlock m)) (sym (images-stored xs p)))
+        ∙ sym (readOut-fill S L z m f xs p)

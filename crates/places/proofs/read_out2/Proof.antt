@@ -1,0 +1,35 @@
+use Rattle.places.specs.ReadOuts.{storedIn, s2pp-read, s2pp-small, nsym-read, along, along-below}
+use Rattle.places.proofs.read_out2.Statement.{statement}
+use Rattle.places.proofs.read_out2.Tie as tie
+
+nsym-at-requires : tie.Need-nsym-at-requires
+nsym-at-requires c κs = nsym-read (c .pre .0) (c .args .i .0) (c .pre .1) .0
+
+s2pp-at-requires : tie.Need-s2pp-at-requires
+s2pp-at-requires c κs =
+    let s = c .before in
+    s2pp-read (s .pre .0) (s .args .i .0) (s .pre .1) .0
+
+perms-at-requires : tie.Need-perms-at-requires
+perms-at-requires c κs =
+    let s = c .before .before in
+    along (s .pre .0) (s .args .i .0) (s .pre .1) _ (s .args .j .0) (c .before .nsym-at .ensures) (s .pre .2)
+
+block2-requires : tie.Need-block2-requires
+block2-requires c κs =
+    let s = c .before .before .before in
+    let T = s .pre .0 in
+    let t = c .before .before .nsym-at .ensures in (
+      T .satoms,
+      s2pp-small T (s .args .i .0) (s .pre .1) _ (c .before .s2pp-at .ensures),
+      along-below T (s .args .i .0) (s .pre .1) _ (s .args .j .0) _ t (c .perms-at .ensures) (s .pre .2),
+    )
+
+returns : tie.Need-returns
+unfolding storedIn
+returns c = cc
+
+pub read-out2-spec : {M : Type 1} → statement M
+read-out2-spec =
+    tie.close
+    (tie.spec nsym-at-requires s2pp-at-requires perms-at-requires block2-requires returns)

@@ -1,0 +1,178 @@
+// The one address rule of every order, in code: no other crate has an address sum of its own.
+// A block of numbers is named by its number; crate blocks reads and writes it by that.
+ghost use mathlib.Core.Path.{_≡_};
+ghost use mathlib.Core.List.{[], _∷_};
+ghost use Prim.Native.Nat.{_+_, _*_, _≤_, _<_};
+ghost use Rattle.lists.specs.Digits.{horner};
+ghost use Rattle.places.specs.ReadOuts.{Tables, storedIn};
+use tables::atoms::PrimAtom;
+use tables::atoms::SuperAtom;
+use tables::atoms::nsym_at;
+use tables::atoms::perms_at;
+use tables::atoms::s2pp_at;
+
+// Place a of part b, where each part has n places: one more digit of an address.
+fn place_in(b: usize, n: usize, a: usize) -> usize
+    requires { ⌜ (b < 1073741824) × (n ≤ 1024) × (a < n) ⌝ }
+    ensures { λ r. ⌜ r ≡ b * n + a ⌝ }
+{
+    b * n + a
+}
+
+// The number of the block of first atom a and then j, of n atoms.
+fn number2(a: usize, j: SuperAtom, n: usize) -> usize
+    requires { ⌜ (n ≤ 1024) × (a < 1024) × (j .0 < n) ⌝ }
+    ensures { λ r. ⌜ r ≡ horner n a (j .0 ∷ []) ⌝ }
+{
+    place_in(a, n, j.0)
+}
+
+// The same for j and k.
+fn number3(a: usize, j: SuperAtom, k: SuperAtom, n: usize) -> usize
+    requires { ⌜ (n ≤ 1024) × (a < 1024) × (j .0 < n) × (k .0 < n) ⌝ }
+    ensures { λ r. ⌜ r ≡ horner n a (j .0 ∷ k .0 ∷ []) ⌝ }
+{
+    place_in(number2(a, j, n), n, k.0)
+}
+
+// The same for j, k and l.
+fn number4(a: usize, j: SuperAtom, k: SuperAtom, l: SuperAtom, n: usize) -> usize
+    requires { ⌜ (n ≤ 1024) × (a < 1024) × (j .0 < n) × (k .0 < n) × (l .0 < n) ⌝ }
+    ensures { λ r. ⌜ r ≡ horner n a (j .0 ∷ k .0 ∷ l .0 ∷ []) ⌝ }
+{
+    place_in(number3(a, j, k, n), n, l.0)
+}
+
+// Block (p, j) of a compact set of second order.
+pub fn block2(p: PrimAtom, j: SuperAtom, n_satom: usize) -> usize
+    requires { ⌜ («n_satom» ≤ 1024) × (p .0 < 1024) × (j .0 < «n_satom») ⌝ }
+    ensures { λ r. ⌜ r ≡ horner «n_satom» (p .0) (j .0 ∷ []) ⌝ }
+{
+    number2(p.0, j, n_satom)
+}
+
+// Block (p, j, k) of a compact set of third order.
+pub fn block3(p: PrimAtom, j: SuperAtom, k: SuperAtom, n_satom: usize) -> usize
+    requires { ⌜ («n_satom» ≤ 1024) × (p .0 < 1024) × (j .0 < «n_satom») × (k .0 < «n_satom») ⌝ }
+    ensures { λ r. ⌜ r ≡ horner «n_satom» (p .0) (j .0 ∷ k .0 ∷ []) ⌝ }
+{
+    number3(p.0, j, k, n_satom)
+}
+
+// Block (p, j, k, l) of a compact set of fourth order.
+pub fn block4(p: PrimAtom, j: SuperAtom, k: SuperAtom, l: SuperAtom, n_satom: usize) -> usize
+    requires { ⌜ («n_satom» ≤ 1024) × (p .0 < 1024) × (j .0 < «n_satom») × (k .0 < «n_satom») × (l .0 < «n_satom») ⌝ }
+    ensures { λ r. ⌜ r ≡ horner «n_satom» (p .0) (j .0 ∷ k .0 ∷ l .0 ∷ []) ⌝ }
+{
+    number4(p.0, j, k, l, n_satom)
+}
+
+// Block (i, j) of a full set of second order, whose first atom is one of the supercell too.
+pub fn full2(i: SuperAtom, j: SuperAtom, n: usize) -> usize
+    requires { ⌜ (n ≤ 1024) × (i .0 < n) × (j .0 < n) ⌝ }
+    ensures { λ r. ⌜ r ≡ horner n (i .0) (j .0 ∷ []) ⌝ }
+{
+    number2(i.0, j, n)
+}
+
+// Block (i, j, k) of a full set of third order.
+pub fn full3(i: SuperAtom, j: SuperAtom, k: SuperAtom, n: usize) -> usize
+    requires { ⌜ (n ≤ 1024) × (i .0 < n) × (j .0 < n) × (k .0 < n) ⌝ }
+    ensures { λ r. ⌜ r ≡ horner n (i .0) (j .0 ∷ k .0 ∷ []) ⌝ }
+{
+    number3(i.0, j, k, n)
+}
+
+// Block (i, j, k, l) of a full set of fourth order.
+pub fn full4(i: SuperAtom, j: SuperAtom, k: SuperAtom, l: SuperAtom, n: usize) -> usize
+    requires { ⌜ (n ≤ 1024) × (i .0 < n) × (j .0 < n) × (k .0 < n) × (l .0 < n) ⌝ }
+    ensures { λ r. ⌜ r ≡ horner n (i .0) (j .0 ∷ k .0 ∷ l .0 ∷ []) ⌝ }
+{
+    number4(i.0, j, k, l, n)
+}
+
+// The position of directions a, b in a block of 9.
+pub fn dir2(a: usize, b: usize) -> usize
+    requires { ⌜ (a < 3) × (b < 3) ⌝ }
+    ensures { λ r. ⌜ r ≡ horner 3 a (b ∷ []) ⌝ }
+{
+    place_in(a, 3, b)
+}
+
+// The position of directions a, b, c in a block of 27.
+pub fn dir3(a: usize, b: usize, c: usize) -> usize
+    requires { ⌜ (a < 3) × (b < 3) × (c < 3) ⌝ }
+    ensures { λ r. ⌜ r ≡ horner 3 a (b ∷ c ∷ []) ⌝ }
+{
+    place_in(dir2(a, b), 3, c)
+}
+
+// The position of directions a, b, c, d in a block of 81.
+pub fn dir4(a: usize, b: usize, c: usize, d: usize) -> usize
+    requires { ⌜ (a < 3) × (b < 3) × (c < 3) × (d < 3) ⌝ }
+    ensures { λ r. ⌜ r ≡ horner 3 a (b ∷ c ∷ d ∷ []) ⌝ }
+{
+    place_in(dir3(a, b, c), 3, d)
+}
+
+// The read-out entry for atoms (i, j) is this stored block: the one at s2pp[i] and the image of j under row nsym_list[i].
+pub fn read_out2(
+    s2pp: &[i64],
+    nsym_list: &[i64],
+    perms: &[i64],
+    i: SuperAtom,
+    j: SuperAtom,
+    n_satom: usize,
+) -> usize
+    requires { ⌜ Tables «n_satom» (now s2pp) (now «nsym_list») (now perms) × (i .0 < «n_satom») × (j .0 < «n_satom») ⌝ }
+    ensures { λ r. ⌜ r ≡ storedIn «n_satom» (now (s2pp .entry)) (now («nsym_list» .entry)) (now (perms .entry)) (i .0) (j .0 ∷ []) ⌝ }
+{
+    let t = nsym_at(nsym_list, i);
+    block2(s2pp_at(s2pp, i), perms_at(perms, n_satom, t, j), n_satom)
+}
+
+// The same for atoms (i, j, k): the block at s2pp[i] and the images of j and k.
+pub fn read_out3(
+    s2pp: &[i64],
+    nsym_list: &[i64],
+    perms: &[i64],
+    i: SuperAtom,
+    j: SuperAtom,
+    k: SuperAtom,
+    n_satom: usize,
+) -> usize
+    requires { ⌜ Tables «n_satom» (now s2pp) (now «nsym_list») (now perms) × (i .0 < «n_satom») × (j .0 < «n_satom») × (k .0 < «n_satom») ⌝ }
+    ensures { λ r. ⌜ r ≡ storedIn «n_satom» (now (s2pp .entry)) (now («nsym_list» .entry)) (now (perms .entry)) (i .0) (j .0 ∷ k .0 ∷ []) ⌝ }
+{
+    let t = nsym_at(nsym_list, i);
+    block3(
+        s2pp_at(s2pp, i),
+        perms_at(perms, n_satom, t, j),
+        perms_at(perms, n_satom, t, k),
+        n_satom,
+    )
+}
+
+// The same for atoms (i, j, k, l): the block at s2pp[i] and the images of j, k and l.
+pub fn read_out4(
+    s2pp: &[i64],
+    nsym_list: &[i64],
+    perms: &[i64],
+    i: SuperAtom,
+    j: SuperAtom,
+    k: SuperAtom,
+    l: SuperAtom,
+    n_satom: usize,
+) -> usize
+    requires { ⌜ Tables «n_satom» (now s2pp) (now «nsym_list») (now perms) × (i .0 < «n_satom») × (j .0 < «n_satom») × (k .0 < «n_satom») × (l .0 < «n_satom») ⌝ }
+    ensures { λ r. ⌜ r ≡ storedIn «n_satom» (now (s2pp .entry)) (now («nsym_list» .entry)) (now (perms .entry)) (i .0) (j .0 ∷ k .0 ∷ l .0 ∷ []) ⌝ }
+{
+    let t = nsym_at(nsym_list, i);
+    block4(
+        s2pp_at(s2pp, i),
+        perms_at(perms, n_satom, t, j),
+        perms_at(perms, n_satom, t, k),
+        perms_at(perms, n_satom, t, l),
+        n_satom,
+    )
+}

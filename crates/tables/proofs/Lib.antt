@@ -1,0 +1,4 @@
+pub mod Integers
+pub mod Loops
+pub mod Together
+pub mod Rooms

@@ -1,0 +1,77 @@
+-- What a call answers (document 01, "The refusal line on a job sheet"): done, or the first refusal that applies, and what either leaves.
+-- Assumes nothing.
+use mathlib.Core.Path.{_≡_, refl, sym, ap, _∙_}
+use mathlib.Core.Bool.{Bool, true, false, cond, true≢false, false≢true}
+use Prim.Native.Nat.{ℕ}
+use Rattle.tables.specs.declared.Answer.{Answer}
+use Rattle.tables.specs.declared.Answer.the-variants.{Done, CountAboveLimit, WrongLength, IndexOutOfRange, BadSlab, BadRepresentative, BadShiftTables}
+
+-- document 01's number of each refusal; 0 for a call that is done
+abbrev pub numberOf : Answer → ℕ
+numberOf Done = 0
+numberOf CountAboveLimit = 1
+numberOf WrongLength = 2
+numberOf IndexOutOfRange = 3
+numberOf BadSlab = 4
+numberOf BadRepresentative = 5
+numberOf BadShiftTables = 6
+
+abbrev pub isRefusal : Answer → Bool
+isRefusal Done = false
+isRefusal CountAboveLimit = true
+isRefusal WrongLength = true
+isRefusal IndexOutOfRange = true
+isRefusal BadSlab = true
+isRefusal BadRepresentative = true
+isRefusal BadShiftTables = true
+
+-- what a call leaves of something lent to it: the new value if it is done, the old one if it is refused
+unfoldable pub after : {A : Type 0} → Answer → A → A → A
+after a new old = cond (isRefusal a) old new
+
+-- the refusal r where its condition holds, otherwise what the conditions after it say
+abbrev pub refuseIf : Bool → Answer → Answer → Answer
+refuseIf b r next = cond b r next
+
+-- ---- laws
+
+-- an answer that is no refusal is Done
+pub is-done : (a : Answer) → isRefusal a ≡ false → a ≡ Done
+is-done Done e = refl
+is-done CountAboveLimit e = absurd (true≢false e)
+is-done WrongLength e = absurd (true≢false e)
+is-done IndexOutOfRange e = absurd (true≢false e)
+is-done BadSlab e = absurd (true≢false e)
+is-done BadRepresentative e = absurd (true≢false e)
+is-done BadShiftTables e = absurd (true≢false e)
+
+-- a refused call leaves what it was lent
+pub after-refusal : {A : Type 0} (a : Answer) (new old : A) → isRefusal a ≡ true → after a new old ≡ old
+unfolding after
+after-refusal a new old e = rw e
+
+pub after-done : {A : Type 0} (a : Answer) (new old : A) → isRefusal a ≡ false → after a new old ≡ new
+unfolding after
+after-done a new old e = rw e
+
+-- what a refusal's condition says where the call is done
+pub passed : (b : Bool) (r next : Answer) → isRefusal r ≡ true → refuseIf b r next ≡ Done → (b ≡ false) × (next ≡ Done)
+passed true r next h e = absurd (false≢true (sym (ap isRefusal e) ∙ h))
+passed false r next h e = (refl, e)
+
+-- the answer where a condition applies, and where it does not
+pub refused : (b : Bool) (r next : Answer) → b ≡ true → r ≡ refuseIf b r next
+refused b r next e = rw e
+
+pub not-refused : (b : Bool) (r next : Answer) → b ≡ false → next ≡ refuseIf b r next
+not-refused b r next e = rw e
+
+-- a call on a set and a work slice: refused, it leaves both; done, it leaves the new set and the cleared work slice
+module _ {A B : Type 0} (a : Answer) (new old : A) (clear work : B) where
+  pub refused-call : isRefusal a ≡ true → _≡_ {A = Answer × A × B} (a, old, work) (a, after a new old, after a clear work)
+  unfolding after
+  refused-call e = rw e
+
+  pub done-call : isRefusal a ≡ false → _≡_ {A = Answer × A × B} (Done, new, clear) (a, after a new old, after a clear work)
+  unfolding after
+  done-call e = ap (λ r. (r, new, clear)) (sym (is-done a e)) ∙ rw e

@@ -1,0 +1,265 @@
+//! Recorded answers of the original's compute_permutation.
+use crate::cells::compute_permutation;
+use crate::record::{checksum, counted, float_word, Record, Replay};
+use crate::rng::Rng;
+
+/// What the slots hold before each call.
+const BEFORE: i64 = 7;
+
+/// Document 01's limit of num_pos.
+const LIMIT: usize = 1024;
+
+#[derive(Clone)]
+struct Call {
+    num_pos: usize,
+    lattice: [f64; 9],
+    symprec: f64,
+    slots: usize,
+    pos: Vec<f64>,
+    rot_pos: Vec<f64>,
+}
+
+impl Call {
+    fn new(lattice: [f64; 9], symprec: f64, pos: Vec<f64>, rot_pos: Vec<f64>) -> Call {
+        Call { num_pos: pos.len() / 3, lattice, symprec, slots: pos.len() / 3, pos, rot_pos }
+    }
+
+    /// The refusal by document 01, or 0.
+    fn refusal(&self) -> u64 {
+        let n = self.num_pos;
+        if n > LIMIT {
+            1
+        } else if self.slots != n || self.pos.len() != 3 * n || self.rot_pos.len() != 3 * n {
+            2
+        } else {
+            0
+        }
+    }
+
+    fn record(&self) -> Record {
+        let refusal = self.refusal();
+        let mut slots = vec![BEFORE; self.slots];
+        let matched = refusal == 0
+            && compute_permutation(&mut slots, &self.lattice, &self.pos, &self.rot_pos, self.num_pos, self.symprec);
+        let mut words = vec![refusal, matched as u64];
+        words.extend([self.num_pos, self.slots, self.pos.len(), self.rot_pos.len()].map(|n| n as u64));
+        words.push(float_word(self.symprec));
+        words.extend(self.lattice.map(float_word));
+        words.extend(self.pos.iter().chain(&self.rot_pos).map(|x| float_word(*x)));
+        words.extend(slots.iter().map(|s| *s as u64));
+        counted(words)
+    }
+}
+
+const UNIT: [f64; 9] = [1.0, 0.0, 0.0, 0.0, 1.0, 0.0, 0.0, 0.0, 1.0];
+const SKEW: [f64; 9] = [5.1, -0.3, 0.2, 1.7, 4.4, 0.1, -0.9, 0.6, 7.3];
+const FLAT: [f64; 9] = [1.0, 2.0, 0.0, 2.0, 4.0, 0.0, 0.0, 0.0, 0.0];
+const NOTHING: [f64; 9] = [0.0; 9];
+const INFINITE: [f64; 9] = [f64::INFINITY, 0.0, 0.0, 0.0, 1.0, 0.0, 0.0, 0.0, 1.0];
+const HUGE: [f64; 9] = [1e300, 0.0, 0.0, 0.0, -1e300, 0.0, 0.0, 0.0, 1e-300];
+const NO_NUMBER: [f64; 9] = [1.0, 0.0, 0.0, 0.0, f64::NAN, 0.0, 0.0, 0.0, 1.0];
+const LATTICES: [[f64; 9]; 7] = [UNIT, SKEW, FLAT, NOTHING, INFINITE, HUGE, NO_NUMBER];
+
+/// Tolerances of every kind; the last three are those that matchings use.
+const TOLERANCES: [f64; 12] = [
+    0.0,
+    -0.0,
+    -1.0,
+    f64::NEG_INFINITY,
+    f64::INFINITY,
+    f64::NAN,
+    5e-324,
+    1e-200,
+    f64::MAX,
+    1e-12,
+    1e-5,
+    0.25,
+];
+
+fn positions(r: &mut Rng, n: usize) -> Vec<f64> {
+    (0..3 * n).map(|_| r.unit()).collect()
+}
+
+/// The positions in another order, each moved by a whole number of cells.
+fn permuted(r: &mut Rng, pos: &[f64], order: &[usize]) -> Vec<f64> {
+    let mut moved = vec![];
+    for a in order {
+        for k in 0..3 {
+            moved.push(pos[a * 3 + k] + (r.below(7) as f64 - 3.0));
+        }
+    }
+    moved
+}
+
+/// What becomes of the positions that are matched against.
+#[derive(Clone, Copy)]
+enum Kind {
+    Same,
+    Near,
+    Permuted,
+    Distorted,
+    Incomplete,
+    Crowded,
+    NoNumber,
+    Infinite,
+    Huge,
+}
+
+const KINDS: [Kind; 9] = [
+    Kind::Same,
+    Kind::Near,
+    Kind::Permuted,
+    Kind::Distorted,
+    Kind::Incomplete,
+    Kind::Crowded,
+    Kind::NoNumber,
+    Kind::Infinite,
+    Kind::Huge,
+];
+
+/// Positions and what they are matched against.
+fn pair(r: &mut Rng, kind: Kind, n: usize) -> (Vec<f64>, Vec<f64>) {
+    let mut pos = positions(r, n);
+    let mut order: Vec<usize> = (0..n).collect();
+    match kind {
+        Kind::Same | Kind::Huge => {}
+        // a few neighbours exchanged
+        Kind::Near => order.chunks_mut(5).for_each(|c| c.reverse()),
+        _ => order = r.order(n),
+    }
+    let mut rot = match kind {
+        Kind::Same => pos.clone(),
+        _ => permuted(r, &pos, &order),
+    };
+    let last = 3 * n;
+    match kind {
+        Kind::Distorted => rot.iter_mut().for_each(|x| *x += (r.unit() - 0.5) * 3e-5),
+        Kind::Incomplete if n > 0 => rot[r.below(last)] += 0.4,
+        // several atoms in one place: the lowest free slot takes the first
+        Kind::Crowded => {
+            pos.iter_mut().for_each(|x| *x = (*x * 2.0).round() / 4.0);
+            rot = permuted(r, &pos, &order);
+        }
+        Kind::NoNumber if n > 0 => rot[r.below(last)] = f64::NAN,
+        Kind::Infinite if n > 0 => pos[r.below(last)] = f64::INFINITY,
+        Kind::Huge => {
+            // whole numbers so large that nothing is left of a fraction
+            for (k, x) in pos.iter_mut().enumerate() {
+                *x = [1e15, -4.5e15, 2f64.powi(64), -1e300][k % 4] * (1.0 + *x);
+            }
+            rot = pos.clone();
+            rot.iter_mut().step_by(3).for_each(|x| *x = -*x);
+        }
+        _ => {}
+    }
+    (pos, rot)
+}
+
+fn matched() -> Vec<Call> {
+    let mut r = Rng::new(3);
+    let mut calls = vec![];
+    for n in [0, 1, 2, 17] {
+        for (k, kind) in KINDS.into_iter().enumerate() {
+            for (t, symprec) in TOLERANCES.into_iter().enumerate() {
+                // no atom: one kind is enough; 17 atoms: every ninth pairing, and the usual tolerances
+                let usual = t + 3 >= TOLERANCES.len();
+                if n == 0 && k > 0 || n == 17 && !(usual && t + 1 < TOLERANCES.len()) && (k + t) % 9 != 0 {
+                    continue;
+                }
+                let (pos, rot) = pair(&mut r, kind, n);
+                let lattice = if usual { [UNIT, SKEW][k % 2] } else { LATTICES[(k + t) % 7] };
+                calls.push(Call::new(lattice, symprec, pos, rot));
+            }
+        }
+        for lattice in LATTICES {
+            let (pos, rot) = pair(&mut r, Kind::Permuted, n);
+            calls.push(Call::new(lattice, 1e-5, pos, rot));
+        }
+    }
+    for kind in [Kind::Same, Kind::Near, Kind::Permuted, Kind::Distorted, Kind::Incomplete, Kind::Crowded] {
+        let (pos, rot) = pair(&mut r, kind, 64);
+        calls.push(Call::new(SKEW, 1e-4, pos, rot));
+    }
+    calls
+}
+
+/// Sheets 8, 9 and 10 of document 01.
+fn sheets() -> Vec<Call> {
+    let origin = || vec![0.0; 3];
+    vec![
+        Call::new(UNIT, 1e-5, vec![], vec![]),
+        Call::new(UNIT, 2f64.powi(-600), origin(), origin()),
+        Call::new(UNIT, 0.0, origin(), origin()),
+        Call::new(UNIT, 0.1875, vec![0.25, 0.0, 0.0, 0.0, 0.0, 0.0], vec![0.125, 0.0, 0.0, 0.375, 0.0, 0.0]),
+        Call::new(UNIT, 0.125, vec![0.125, 0.0, 0.0], origin()),
+        Call::new(UNIT, 0.125, vec![0.25, 0.0, 0.0], vec![0.375, 0.0, 0.0]),
+    ]
+}
+
+fn refused() -> Vec<Call> {
+    let mut r = Rng::new(4);
+    let (pos, rot) = pair(&mut r, Kind::Permuted, 2);
+    let base = Call::new(SKEW, 1e-5, pos, rot);
+    let mut calls = vec![];
+    for num_pos in [0, 1, 3, 1024, 1025, usize::MAX / 2, usize::MAX] {
+        calls.push(Call { num_pos, ..base.clone() });
+    }
+    calls.push(Call { slots: 1, ..base.clone() });
+    calls.push(Call { slots: 3, ..base.clone() });
+    calls.push(Call { pos: vec![0.5; 5], ..base.clone() });
+    calls.push(Call { pos: vec![0.5; 7], ..base.clone() });
+    calls.push(Call { rot_pos: vec![0.5; 5], ..base.clone() });
+    calls.push(Call { rot_pos: vec![], ..base });
+    calls
+}
+
+/// The words of a record: how many follow; refusal; 1 for true; num_pos; lengths of slots, pos, rot_pos;
+/// symprec; nine lattice numbers; pos; rot_pos; the slots after the call, which all held 7 before it.
+pub fn replay() -> Replay {
+    let mut calls = sheets();
+    calls.extend(matched());
+    calls.extend(refused());
+    let records: Vec<Record> = calls.iter().map(Call::record).collect();
+    let answers = |refusal: u64, matched: u64| records.iter().filter(|r| r[1] == refusal && r[2] == matched).count();
+    let stdout = format!(
+        "matching: {} compared, 0 differ\ntrue: {}\nfalse: {}\nrefused, 1: {}\nrefused, 2: {}\nchecksum {}\n",
+        records.len(),
+        answers(0, 1),
+        answers(0, 0),
+        answers(1, 0),
+        answers(2, 0),
+        checksum(&records)
+    );
+    Replay { records, stdout }
+}
+
+#[cfg(test)]
+mod tests {
+    use super::*;
+
+    // refusal, answer, slots
+    fn answer(call: &Call) -> (u64, bool, Vec<i64>) {
+        let record = call.record();
+        let slots = record[record.len() - call.slots..].iter().map(|s| *s as i64).collect();
+        (record[1], record[2] == 1, slots)
+    }
+
+    #[test]
+    fn sheets_of_document_01() {
+        let answers: Vec<_> = sheets().iter().map(answer).collect();
+        assert_eq!(answers[0], (0, true, vec![]));
+        assert_eq!(answers[1], (0, true, vec![0]));
+        assert_eq!(answers[2], (0, false, vec![-1]));
+        assert_eq!(answers[3], (0, false, vec![0, -1]));
+        assert_eq!(answers[4], (0, false, vec![-1]));
+        assert_eq!(answers[5], (0, false, vec![-1]));
+    }
+
+    #[test]
+    fn refused_calls_leave_the_slots() {
+        for call in refused() {
+            let (refusal, matched, slots) = answer(&call);
+            assert!(refusal > 0 && !matched && slots.iter().all(|s| *s == BEFORE));
+        }
+    }
+}
