@@ -4,6 +4,7 @@
 //! GULLYFORK_PHONORS is the folder of cells.rs, common.rs, fc2.rs, fc3.rs and fc4.rs, and
 //! GULLYFORK_STATICLIB that of libcapi.a. A relative path starts at this package's folder.
 use std::path::{Path, PathBuf};
+use std::process::Command;
 use std::{env, fs};
 
 const ORIGINALS: [&str; 5] = ["cells", "common", "fc2", "fc3", "fc4"];
@@ -26,17 +27,43 @@ fn name_originals(from: &Path) -> String {
     text
 }
 
+/// The names that the library defines.
+fn defined(library: &Path) -> Vec<String> {
+    let nm = Command::new("nm").arg("--defined-only").arg(library).output().expect("nm can be run");
+    let text = String::from_utf8_lossy(&nm.stdout).into_owned();
+    text.lines().filter_map(|line| line.split(" T ").nth(1)).map(str::to_string).collect()
+}
+
+/// The names that src/c_names.rs declares.
+fn declared() -> Vec<String> {
+    println!("cargo:rerun-if-changed=src/c_names.rs");
+    let text = fs::read_to_string("src/c_names.rs").unwrap();
+    let name = |line: &str| line.trim().strip_prefix("pub fn ").map(|rest| rest.split('(').next().unwrap().to_string());
+    text.lines().filter_map(name).collect()
+}
+
+/// The list of the names that are there; for each other one a function in its place that must not be called.
+fn stand_ins(there: &[String]) -> String {
+    let (present, missing): (Vec<String>, Vec<String>) = declared().into_iter().partition(|name| there.contains(name));
+    let mut text = format!("pub const PRESENT: &[&str] = &{present:?};\n");
+    for name in missing {
+        text += &format!("#[no_mangle]\nextern \"C\" fn {name}() {{\n    panic!(\"{name} is not in the library\")\n}}\n");
+    }
+    text
+}
+
 fn main() {
-    let originals = name_originals(&folder("GULLYFORK_PHONORS", "../../shared/docs/src/src"));
     let out = PathBuf::from(env::var("OUT_DIR").unwrap());
+    let originals = name_originals(&folder("GULLYFORK_PHONORS", "../../shared/docs/src/src"));
     fs::write(out.join("originals.rs"), originals).unwrap();
 
-    println!("cargo:rustc-check-cfg=cfg(port)");
-    let library = folder("GULLYFORK_STATICLIB", "../target/staticlib");
-    println!("cargo:rerun-if-changed={}", library.join("libcapi.a").display());
-    if let Ok(found) = fs::canonicalize(library.join("libcapi.a")) {
+    let library = folder("GULLYFORK_STATICLIB", "../target/staticlib").join("libcapi.a");
+    println!("cargo:rerun-if-changed={}", library.display());
+    let mut there = vec![];
+    if let Ok(found) = fs::canonicalize(library) {
         println!("cargo:rustc-link-search=native={}", found.parent().unwrap().display());
         println!("cargo:rustc-link-lib=static=capi");
-        println!("cargo:rustc-cfg=port");
+        there = defined(&found);
     }
+    fs::write(out.join("stand_ins.rs"), stand_ins(&there)).unwrap();
 }

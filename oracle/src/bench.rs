@@ -1,67 +1,133 @@
-//! Times of the port against the original and the hardware: both sides in one process, alternating,
-//! the least of many runs.
-use crate::rng::Rng;
-use crate::{common, port};
+//! Times of the port against the unchanged Rust: both sides in one process, alternating, the least of many runs.
+use crate::call::{Call, Lent, Numbers};
+use crate::call_tables::Check;
+use crate::memory::most_of;
+use crate::shifts::Tables;
+use rayon::{ThreadPool, ThreadPoolBuilder};
 use std::hint::black_box;
 use std::time::Instant;
 
-/// More than a branch predictor learns by heart.
-const VALUES: usize = 65536;
-const RUNS: usize = 100;
+pub struct Bench {
+    one: ThreadPool,
+    two: ThreadPool,
+    /// How long a row may take, in seconds.
+    patience: f64,
+}
 
-/// The least time of each side for a pass over the values, in seconds.
-fn race<T>(x: &[f64], out: &mut [T], sides: [&dyn Fn(&[f64], &mut [T]); 2]) -> [f64; 2] {
-    let mut best = [f64::MAX; 2];
-    for _ in 0..RUNS {
-        for (k, side) in sides.iter().enumerate() {
-            let start = Instant::now();
-            side(black_box(x), black_box(&mut *out));
-            best[k] = best[k].min(start.elapsed().as_secs_f64());
+/// Least times in seconds.
+struct Times {
+    port: f64,
+    one: f64,
+    two: f64,
+    /// A copy of the set: the least that a call can take that reads and writes it once.
+    copy: f64,
+    /// The same call where the last entry of the tables breaks a rule: all that is judged before the work begins.
+    guard: f64,
+}
+
+fn clock<T>(work: impl FnOnce() -> T) -> f64 {
+    let start = Instant::now();
+    black_box(work());
+    start.elapsed().as_secs_f64()
+}
+
+fn copy_one(to: &mut Lent, from: &Lent) {
+    match (&mut to.numbers, &from.numbers) {
+        (Numbers::Floats(a), Numbers::Floats(b)) => a.copy_from_slice(b),
+        (Numbers::Integers(a), Numbers::Integers(b)) => a.copy_from_slice(b),
+        (Numbers::Bytes(a), Numbers::Bytes(b)) => a.copy_from_slice(b),
+        _ => unreachable!("slices of the same call"),
+    }
+}
+
+fn restore<C: Call>(to: &mut C, from: &mut C) {
+    let from = from.parts().slices;
+    to.parts().slices.iter_mut().zip(&from).for_each(|(a, b)| copy_one(a, b));
+}
+
+/// The copy of the set alone, the first slice.
+fn copy_of_set<C: Call>(to: &mut C, from: &mut C) -> f64 {
+    let (mut to, from) = (to.parts().slices, from.parts().slices);
+    clock(|| copy_one(black_box(&mut to[0]), black_box(&from[0])))
+}
+
+fn agree<C: Call>(a: &mut C, b: &mut C) -> bool {
+    let (a, b) = (a.parts().slices, b.parts().slices);
+    let nan = |s: &Lent, k: usize| matches!(s.numbers, Numbers::Floats(_)) && f64::from_bits(s.word(k)).is_nan();
+    let same = |x: &Lent, y: &Lent| (0..x.len()).all(|k| x.word(k) == y.word(k) || nan(x, k) && nan(y, k));
+    a.iter().zip(&b).all(|(x, y)| x.work || same(x, y))
+}
+
+impl Bench {
+    pub fn new(patience: f64) -> Bench {
+        let pool = |n| ThreadPoolBuilder::new().num_threads(n).build().expect("threads");
+        Bench { one: pool(1), two: pool(2), patience }
+    }
+
+    pub fn head(&self) {
+        println!("| call | size | port, us | the Rust, us | ratio | guard, us | ratio without it | ratio, 2 threads | copy, us | heap / work, kB |");
+        println!("|---|---|---|---|---|---|---|---|---|---|");
+    }
+
+    fn times<C: Call + Send>(&self, call: &mut C, refuse: Option<fn(&mut C)>, threads: bool) -> Times {
+        let (mut mine, mut theirs) = (call.clone(), call.clone());
+        let mut least = Times { port: f64::MAX, one: f64::MAX, two: f64::MAX, copy: f64::MAX, guard: f64::MAX };
+        let start = Instant::now();
+        let mut runs = 0;
+        while runs < 3 || (runs < 400 && start.elapsed().as_secs_f64() < self.patience) {
+            least.copy = least.copy.min(copy_of_set(&mut mine, call));
+            restore(&mut mine, call);
+            if let Some(refuse) = refuse {
+                refuse(&mut mine);
+                least.guard = least.guard.min(clock(|| assert_eq!(black_box(&mut mine).port(), 6)));
+                restore(&mut mine, call);
+            }
+            least.port = least.port.min(clock(|| black_box(&mut mine).port()));
+            restore(&mut theirs, call);
+            least.one = least.one.min(self.one.install(|| clock(|| black_box(&mut theirs).original())));
+            if threads {
+                restore(&mut theirs, call);
+                least.two = least.two.min(self.two.install(|| clock(|| black_box(&mut theirs).original())));
+            }
+            runs += 1;
         }
+        assert!(agree(&mut mine, &mut theirs), "the sides differ");
+        least
     }
-    best
-}
 
-fn row(name: &str, values: &str, times: [f64; 2]) {
-    let ns = times.map(|t| t * 1e9 / VALUES as f64);
-    println!("| {name} | {values} | {:.1} | {:.1} | {:.2} |", ns[0], ns[1], ns[0] / ns[1]);
-}
+    /// A row of the table: how many times the port's time the Rust takes. `refuse` spoils the last thing that is judged,
+    /// where that takes time, and `threads` says that the Rust uses them.
+    pub fn row<C: Call + Send>(&self, name: &str, size: &str, mut call: C, refuse: Option<fn(&mut C)>, threads: bool) {
+        let times = self.times(&mut call, refuse, threads);
+        let mut again = call.clone();
+        let heap = most_of(|| self.one.install(|| again.original())) / 1024;
+        let lent = call.parts().slices.iter().filter(|s| s.work).map(|s| s.len() * s.width()).sum::<usize>() / 1024;
+        let us = |t: f64| if t == f64::MAX { "".into() } else { format!("{:.1}", t * 1e6) };
+        let ratio = |t: f64, to: f64| if t == f64::MAX { "".into() } else { format!("{:.2}", t / to) };
+        let work = times.port - times.guard;
+        // a small rest of two large times says nothing
+        let without = if work < 0.05 * times.port { "".into() } else { ratio(times.one, work) };
+        let columns = [
+            us(times.port),
+            us(times.one),
+            ratio(times.one, times.port),
+            us(times.guard),
+            without,
+            ratio(times.two, times.port),
+            us(times.copy),
+            format!("{heap} / {lent}"),
+        ];
+        println!("| {name} | {size} | {} |", columns.join(" | "));
+    }
 
-fn each<T>(f: impl Fn(f64) -> T) -> impl Fn(&[f64], &mut [T]) {
-    move |x, out| {
-        for (o, x) in out.iter_mut().zip(x) {
-            *o = f(*x);
+    /// The least time of the table check alone, in seconds.
+    pub fn check(&self, tables: &Tables) -> f64 {
+        let mut call = Check(tables.clone());
+        let start = Instant::now();
+        let mut least = f64::MAX;
+        while start.elapsed().as_secs_f64() < self.patience / 4.0 {
+            least = least.min(clock(|| assert_eq!(black_box(&mut call).port(), 0)));
         }
-    }
-}
-
-// The other side as a call through a C name too, as the port's is.
-#[inline(never)]
-extern "C" fn hardware_root(x: f64) -> f64 {
-    x.sqrt()
-}
-
-pub fn common() {
-    let mut r = Rng::new(5);
-    let mut values = |f: &dyn Fn(&mut Rng) -> f64| (0..VALUES).map(|_| f(&mut r)).collect::<Vec<_>>();
-    let roots = [
-        ("0 to 1", values(&|r| r.unit())),
-        ("any size", values(&|r| f64::from_bits(r.bits() % 0x7FF0_0000_0000_0000))),
-    ];
-    let whole = [
-        ("-2 to 2", values(&|r| r.unit() * 4.0 - 2.0)),
-        ("-1000 to 1000", values(&|r| r.unit() * 2000.0 - 1000.0)),
-        ("any below 2^60", values(&|r| r.unit() * 2f64.powi(r.below(120) as i32 - 60))),
-    ];
-    let (mut floats, mut integers) = (vec![0.0; VALUES], vec![0; VALUES]);
-    println!("| call | values | port, ns | other side, ns | ratio |\n|---|---|---|---|---|");
-    for (name, x) in &roots {
-        row("sqrt, against the hardware, two roots to an instruction", name, race(x, &mut floats, [&each(port::sqrt), &each(|x| x.sqrt())]));
-        row("sqrt, against the hardware, one root to an instruction", name, race(x, &mut floats, [&each(port::sqrt), &each(|x| black_box(x).sqrt())]));
-        row("sqrt, against the hardware behind a call", name, race(x, &mut floats, [&each(port::sqrt), &each(|x| black_box(hardware_root as extern "C" fn(f64) -> f64)(x))]));
-    }
-    for (name, x) in &whole {
-        row("round, against f64::round", name, race(x, &mut floats, [&each(port::round), &each(|x| x.round())]));
-        row("nint, against the original", name, race(x, &mut integers, [&each(port::nint), &each(common::nint)]));
+        least
     }
 }

@@ -1,43 +1,110 @@
-//! The port against the original at scale.
-use crate::floats::pattern;
-use crate::record::float_word;
+//! The port against the originals, call by call.
+use crate::call::Call;
+use crate::call_compact::Name;
+use crate::compare_limits::limits;
 use crate::rng::Rng;
-use crate::{common, port};
+use crate::tally::Tally;
+use crate::{compare_common, compare_lists, makers, port};
 
-/// Says what differs, the first few times.
-fn tell(differences: &mut u64, name: &str, b: u64, port: u64, original: u64) {
-    *differences += 1;
-    if *differences <= 20 {
-        println!("{name} of {b:016x}: {port:016x}, the original {original:016x}");
+/// Every public call, and the lists of transposes, in the order in which they are compared.
+pub const CALLS: [&str; 22] = [
+    "nint",
+    "round",
+    "sqrt",
+    "check_shift_tables",
+    "compute_permutation",
+    "perm_trans_symmetrize_fc",
+    "perm_trans_symmetrize_compact_fc",
+    "set_index_permutation_symmetry_compact_fc",
+    "drift_report",
+    "distribute_fc2",
+    "set_permutation_symmetry_fc3",
+    "set_permutation_symmetry_compact_fc3",
+    "transpose_compact_fc3",
+    "distribute_fc3",
+    "rotate_delta_fc2s",
+    "set_permutation_symmetry_fc4",
+    "set_permutation_symmetry_compact_fc4",
+    "transpose_compact_fc4",
+    "distribute_fc4",
+    "rotate_delta_fc3s",
+    "lists of transposes",
+    "lists that spell the same order",
+];
+
+/// Of nint, round and sqrt so many patterns are tried for each call of the others.
+const PATTERNS: u64 = 100;
+
+fn beside<C: Call>(tally: &mut Tally, r: &mut Rng, count: u64, make: impl Fn(&mut Rng) -> C) {
+    tally.calls(r, count, &make, &|call: &mut C| call.port());
+}
+
+fn run(tally: &mut Tally, r: &mut Rng, count: u64) {
+    match tally.name.clone().as_str() {
+        "nint" | "round" | "sqrt" => compare_common::patterns(tally, r, count * PATTERNS),
+        "check_shift_tables" => beside(tally, r, count, makers::check),
+        "compute_permutation" => beside(tally, r, count, makers::matching),
+        "perm_trans_symmetrize_fc" => beside(tally, r, count, |r| makers::full(r, 2)),
+        "perm_trans_symmetrize_compact_fc" => beside(tally, r, count, |r| makers::compact(r, Name::Symmetrize2)),
+        "set_index_permutation_symmetry_compact_fc" => beside(tally, r, count, |r| makers::compact(r, Name::Exchange2)),
+        "drift_report" => beside(tally, r, count, makers::drift),
+        "distribute_fc2" => beside(tally, r, count, makers::distribute),
+        "set_permutation_symmetry_fc3" => beside(tally, r, count, |r| makers::full(r, 3)),
+        "set_permutation_symmetry_compact_fc3" => beside(tally, r, count, |r| makers::compact(r, Name::Symmetrize3)),
+        "transpose_compact_fc3" => beside(tally, r, count, |r| makers::compact(r, Name::Transpose3)),
+        "distribute_fc3" => beside(tally, r, count, |r| makers::slabs(r, 3)),
+        "rotate_delta_fc2s" => beside(tally, r, count, |r| makers::deltas(r, 3)),
+        "set_permutation_symmetry_fc4" => beside(tally, r, count, |r| makers::full(r, 4)),
+        "set_permutation_symmetry_compact_fc4" => beside(tally, r, count, |r| makers::compact(r, Name::Symmetrize4)),
+        "transpose_compact_fc4" => beside(tally, r, count, |r| makers::compact(r, Name::Transpose4)),
+        "distribute_fc4" => beside(tally, r, count, |r| makers::slabs(r, 4)),
+        "rotate_delta_fc3s" => beside(tally, r, count, |r| makers::deltas(r, 4)),
+        "lists of transposes" => compare_lists::lists(tally, r, count),
+        _ => compare_lists::same_order(tally, r, count),
     }
 }
 
-/// nint, round and sqrt on `count` patterns. True if all agree, any NaN equal to any NaN.
-pub fn common(seed: u64, count: u64) -> bool {
-    let mut r = Rng::new(seed);
-    let mut differences = [0u64; 3];
-    let mut numberless = [0u64; 2];
-    for _ in 0..count {
-        let b = pattern(&mut r);
-        let x = f64::from_bits(b);
-        let (n, m) = (port::nint(x) as u64, common::nint(x) as u64);
-        if n != m {
-            tell(&mut differences[0], "nint", b, n, m);
-        }
-        let pairs = [
-            ("round", float_word(port::round(x)), float_word(x.round())),
-            ("sqrt", float_word(port::sqrt(x)), float_word(x.sqrt())),
-        ];
-        for (k, (name, p, o)) in pairs.into_iter().enumerate() {
-            numberless[k] += f64::from_bits(o).is_nan() as u64;
-            if p != o {
-                tell(&mut differences[k + 1], name, b, p, o);
-            }
-        }
+/// Whether the library has what the comparison of that name calls.
+fn present(name: &str) -> bool {
+    port::has(if name.starts_with("lists") { "transpose_compact_fc3" } else { name })
+}
+
+/// One comparison, with random numbers of its own; None if the library does not have the call.
+fn one(name: &str, seed: u64, count: u64) -> Option<Tally> {
+    let place = CALLS.iter().position(|call| *call == name)?;
+    if !present(name) {
+        println!("{name}: not in the library, left out");
+        return None;
     }
-    println!("seed {seed}, {count} patterns for each function");
-    println!("nint: {} differences", differences[0]);
-    println!("round: {} differences, {} answers NaN", differences[1], numberless[0]);
-    println!("sqrt: {} differences, {} answers NaN", differences[2], numberless[1]);
-    count > 0 && differences == [0; 3]
+    let mut tally = Tally::new(name);
+    run(&mut tally, &mut Rng::new(seed.wrapping_mul(1000) + place as u64), count);
+    println!("{}", tally.line());
+    if let Some((_, what)) = &tally.smallest {
+        println!("  the shortest input that differs: {what}");
+    }
+    Some(tally)
+}
+
+/// `count` calls of the given name, or of each name, or the calls at their limits. True if there were some and all
+/// agree, any NaN equal to any NaN.
+pub fn compare(name: &str, seed: u64, count: u64) -> Option<bool> {
+    if !["all", "limits"].contains(&name) && !CALLS.contains(&name) {
+        return None;
+    }
+    let names = || CALLS.iter().filter(|call| name == "all" || **call == name);
+    // the originals on one thread: the calls are too small for more
+    let pool = rayon::ThreadPoolBuilder::new().num_threads(1).build().expect("a thread");
+    let tallies: Vec<Tally> = pool.install(|| match name {
+        "limits" => limits(seed),
+        _ => names().filter_map(|call| one(call, seed, count)).collect(),
+    });
+    let sum = |f: fn(&Tally) -> u64| tallies.iter().map(f).sum::<u64>();
+    let (numbers, nans, differences) = (sum(|t| t.numbers), sum(|t| t.nans), sum(|t| t.differences));
+    let calls = sum(|t| t.answers.values().sum());
+    let absent: Vec<&&str> = names().filter(|call| !present(call)).collect();
+    println!("seed {seed}: {calls} calls, {numbers} numbers ({nans} NaN), {differences} differences");
+    if !absent.is_empty() {
+        println!("left out, for the library does not have them: {absent:?}");
+    }
+    Some(calls > 0 && differences == 0)
 }

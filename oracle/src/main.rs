@@ -6,24 +6,52 @@ use std::path::Path;
 
 include!(concat!(env!("OUT_DIR"), "/originals.rs"));
 
-#[cfg(port)]
 mod bench;
-#[cfg(port)]
+mod bench_common;
+mod bench_rows;
+mod c_names;
+mod call;
+mod call_compact;
+mod call_deltas;
+mod call_distribute;
+mod call_drift;
+mod call_full;
+mod call_matching;
+mod call_slabs;
+mod call_tables;
+#[cfg(test)]
+mod can_fail;
 mod compare;
+mod compare_common;
+mod compare_limits;
+mod compare_lists;
+mod edges;
+mod fc2_records;
+mod fc_records;
 mod flip;
 mod floats;
+mod groups;
+mod makers;
 mod matching;
-#[cfg(port)]
+mod memory;
 mod port;
 mod record;
 mod rng;
 mod shift_records;
 mod shifts;
+mod slab_records;
+mod spoil;
+mod tally;
+mod values;
+mod wild;
 
-const USAGE: &str = "oracle record common|shifts|matching FOLDER
+#[global_allocator]
+static HEAP: memory::Counting = memory::Counting;
+
+const USAGE: &str = "oracle record common|shifts|matching|second|third|fourth|distribute|deltas FOLDER
 oracle flip PROGRAM FOLDER COUNT
-oracle compare common SEED COUNT
-oracle bench common";
+oracle compare all|limits|CALL [SEED [COUNT]]
+oracle bench all|common|cells|fc2|fc3|fc4|tables [SECONDS]";
 
 /// Some(true) if all went well, Some(false) if the port differs, None if the words are no command.
 type Outcome = Option<bool>;
@@ -34,6 +62,11 @@ fn record(name: &str, folder: &Path) -> Outcome {
         "common" => floats::replay(),
         "shifts" => shift_records::replay(),
         "matching" => matching::replay(),
+        "second" => fc2_records::replay(),
+        "third" => fc_records::replay(3),
+        "fourth" => fc_records::replay(4),
+        "distribute" => slab_records::distribute(),
+        "deltas" => slab_records::deltas(),
         _ => return None,
     };
     fs::write(folder.join("stdin"), record::pages(&replay.records)).expect("stdin can be written");
@@ -42,22 +75,37 @@ fn record(name: &str, folder: &Path) -> Outcome {
     Some(true)
 }
 
-#[cfg(port)]
-fn against_port(words: &[&str]) -> Outcome {
-    match words {
-        ["compare", "common", seed, count] => Some(compare::common(seed.parse().ok()?, count.parse().ok()?)),
-        ["bench", "common"] => {
-            bench::common();
-            Some(true)
-        }
+/// So many calls of each name by default: 150,000 in all, beside the patterns of nint, round and sqrt.
+const COUNT: u64 = 8000;
+
+fn compare(words: &[&str]) -> Outcome {
+    let number = |k: usize, default: u64| words.get(k).map_or(Some(default), |w| w.parse().ok());
+    match words.len() {
+        1..=3 => compare::compare(words[0], number(1, 1)?, number(2, COUNT)?),
         _ => None,
     }
 }
 
-#[cfg(not(port))]
-fn against_port(_: &[&str]) -> Outcome {
-    eprintln!("compare and bench need libcapi.a: run `rt staticlib capi` and build again");
-    Some(false)
+fn bench(name: &str, patience: f64) -> Outcome {
+    let bench = bench::Bench::new(patience);
+    let groups: [(&str, fn(&bench::Bench)); 4] =
+        [("cells", bench_rows::matching), ("fc2", bench_rows::second), ("fc3", bench_rows::third), ("fc4", bench_rows::fourth)];
+    let known = ["all", "common", "tables"].contains(&name) || groups.iter().any(|(group, _)| *group == name);
+    if ["all", "common"].contains(&name) {
+        bench_common::common();
+    }
+    if !["common", "tables"].contains(&name) && known {
+        bench.head();
+        groups.iter().filter(|(group, _)| name == "all" || name == *group).for_each(|(_, rows)| rows(&bench));
+    }
+    if ["all", "tables"].contains(&name) {
+        bench_rows::checks(&bench);
+    }
+    if known {
+        let cores = std::thread::available_parallelism().map_or(0, |n| n.get());
+        println!("{cores} cores; peak memory of the whole run: {} MB", memory::peak().map_or("?".into(), |m| m.to_string()));
+    }
+    known.then_some(true)
 }
 
 fn main() {
@@ -66,7 +114,13 @@ fn main() {
     let outcome = match words[..] {
         ["record", name, folder] => record(name, Path::new(folder)),
         ["flip", program, folder, count] => count.parse().ok().map(|count| flip::flip(program, Path::new(folder), count)),
-        ["compare", ..] | ["bench", ..] => against_port(&words),
+        ["compare", ..] | ["bench", ..] if !port::has("nint") => {
+            eprintln!("compare and bench need libcapi.a: run `rt staticlib capi` and build again");
+            Some(false)
+        }
+        ["compare", ..] => compare(&words[1..]),
+        ["bench", name] => bench(name, 1.5),
+        ["bench", name, seconds] => seconds.parse().ok().and_then(|seconds| bench(name, seconds)),
         _ => None,
     };
     if outcome.is_none() {

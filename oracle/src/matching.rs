@@ -52,16 +52,16 @@ impl Call {
 }
 
 const UNIT: [f64; 9] = [1.0, 0.0, 0.0, 0.0, 1.0, 0.0, 0.0, 0.0, 1.0];
-const SKEW: [f64; 9] = [5.1, -0.3, 0.2, 1.7, 4.4, 0.1, -0.9, 0.6, 7.3];
+pub const SKEW: [f64; 9] = [5.1, -0.3, 0.2, 1.7, 4.4, 0.1, -0.9, 0.6, 7.3];
 const FLAT: [f64; 9] = [1.0, 2.0, 0.0, 2.0, 4.0, 0.0, 0.0, 0.0, 0.0];
 const NOTHING: [f64; 9] = [0.0; 9];
 const INFINITE: [f64; 9] = [f64::INFINITY, 0.0, 0.0, 0.0, 1.0, 0.0, 0.0, 0.0, 1.0];
 const HUGE: [f64; 9] = [1e300, 0.0, 0.0, 0.0, -1e300, 0.0, 0.0, 0.0, 1e-300];
 const NO_NUMBER: [f64; 9] = [1.0, 0.0, 0.0, 0.0, f64::NAN, 0.0, 0.0, 0.0, 1.0];
-const LATTICES: [[f64; 9]; 7] = [UNIT, SKEW, FLAT, NOTHING, INFINITE, HUGE, NO_NUMBER];
+pub const LATTICES: [[f64; 9]; 7] = [UNIT, SKEW, FLAT, NOTHING, INFINITE, HUGE, NO_NUMBER];
 
 /// Tolerances of every kind; the last three are those that matchings use.
-const TOLERANCES: [f64; 12] = [
+pub const TOLERANCES: [f64; 12] = [
     0.0,
     -0.0,
     -1.0,
@@ -93,7 +93,7 @@ fn permuted(r: &mut Rng, pos: &[f64], order: &[usize]) -> Vec<f64> {
 
 /// What becomes of the positions that are matched against.
 #[derive(Clone, Copy)]
-enum Kind {
+pub enum Kind {
     Same,
     Near,
     Permuted,
@@ -105,7 +105,7 @@ enum Kind {
     Huge,
 }
 
-const KINDS: [Kind; 9] = [
+pub const KINDS: [Kind; 9] = [
     Kind::Same,
     Kind::Near,
     Kind::Permuted,
@@ -118,7 +118,7 @@ const KINDS: [Kind; 9] = [
 ];
 
 /// Positions and what they are matched against.
-fn pair(r: &mut Rng, kind: Kind, n: usize) -> (Vec<f64>, Vec<f64>) {
+pub fn pair(r: &mut Rng, kind: Kind, n: usize) -> (Vec<f64>, Vec<f64>) {
     let mut pos = positions(r, n);
     let mut order: Vec<usize> = (0..n).collect();
     match kind {

@@ -1,22 +1,25 @@
-//! The port's C names.
+//! The port's functions of numbers, and which C names the library has.
+use crate::c_names;
 
-mod c {
-    extern "C" {
-        pub fn gf_nint(x: f64) -> i64;
-        pub fn gf_round(x: f64) -> f64;
-        pub fn gf_sqrt(x: f64) -> f64;
-    }
+mod stand_ins {
+    include!(concat!(env!("OUT_DIR"), "/stand_ins.rs"));
+}
+
+/// Whether the library has the C name of the call.
+pub fn has(call: &str) -> bool {
+    let name = format!("gf_{call}");
+    stand_ins::PRESENT.contains(&name.as_str())
 }
 
 // SAFETY, for each: numbers by value, no precondition.
 pub fn nint(x: f64) -> i64 {
-    unsafe { c::gf_nint(x) }
+    unsafe { c_names::gf_nint(x) }
 }
 
 pub fn round(x: f64) -> f64 {
-    unsafe { c::gf_round(x) }
+    unsafe { c_names::gf_round(x) }
 }
 
 pub fn sqrt(x: f64) -> f64 {
-    unsafe { c::gf_sqrt(x) }
+    unsafe { c_names::gf_sqrt(x) }
 }

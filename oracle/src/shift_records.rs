@@ -31,7 +31,7 @@ impl Call {
     }
 }
 
-fn groups() -> Vec<Group> {
+pub fn groups() -> Vec<Group> {
     let z2 = cyclic(2);
     vec![cyclic(1), cyclic(2), cyclic(3), cyclic(4), product(&z2, &z2), s3(), q8()]
 }
@@ -53,7 +53,7 @@ fn good(r: &mut Rng) -> Vec<Call> {
 }
 
 /// No table at all: all entries for the given counts are 0.
-fn zeros(n_satom: usize, n_patom: usize, num_trans: usize) -> Tables {
+pub fn zeros(n_satom: usize, n_patom: usize, num_trans: usize) -> Tables {
     Tables {
         n_satom,
         n_patom,
@@ -183,7 +183,7 @@ fn with_broken(r: &mut Rng, broken: [bool; 8]) -> Option<Tables> {
 }
 
 /// One change that leaves lengths and ranges as they are stated.
-fn damage(r: &mut Rng, t: &mut Tables) {
+pub fn damage(r: &mut Rng, t: &mut Tables) {
     let (ns, nt) = (t.n_satom, t.num_trans);
     match r.below(7) {
         // two images of a row exchanged

@@ -48,7 +48,7 @@ pub fn loop5() -> Group {
 }
 
 /// The four tables and their counts, as a call is given them; the lengths may be any.
-#[derive(Clone)]
+#[derive(Clone, Debug, PartialEq)]
 pub struct Tables {
     pub n_satom: usize,
     pub n_patom: usize,
@@ -98,8 +98,23 @@ pub fn tables(g: &Group, n_patom: usize, r: Option<&mut Rng>) -> Tables {
 }
 
 impl Tables {
-    fn row(&self, t: usize, a: usize) -> usize {
+    pub fn row(&self, t: usize, a: usize) -> usize {
         self.perms[t * self.n_satom + a] as usize
+    }
+
+    /// No count is zero, and the lengths are those stated.
+    pub fn sized(&self) -> bool {
+        let (s, p, n) = (self.n_satom, self.n_patom, self.num_trans);
+        s.min(p).min(n) > 0
+            && self.p2s.len() == p
+            && self.s2pp.len() == s
+            && self.nsym_list.len() == s
+            && n.checked_mul(s) == Some(self.perms.len())
+    }
+
+    /// All the rules hold. The entries are in range.
+    pub fn obey(&self) -> bool {
+        self.rules() == [true; 8]
     }
 
     /// The rules of "Shift tables", in document 01's order. The entries are in range.
@@ -123,12 +138,17 @@ impl Tables {
     /// The refusal, or 0, of a call with these tables, of a compact set and a work slice of the lengths
     /// of second order, at the given limit of the atoms.
     pub fn verdict(&self, limit: usize, set: usize, work: usize) -> u64 {
+        let blocks = self.n_patom.saturating_mul(self.n_satom);
+        self.judged(limit, set == blocks.saturating_mul(9) && work == blocks)
+    }
+
+    /// The refusal, or 0, of a call with these tables, whose other slices have the right lengths or not.
+    pub fn judged(&self, limit: usize, right: bool) -> u64 {
         let (ns, np, nt) = (self.n_satom, self.n_patom, self.num_trans);
         if ns > limit || np > limit || nt > limit {
             return 1;
         }
-        if set != np * ns * 9
-            || work != np * ns
+        if !right
             || self.perms.len() != nt * ns
             || self.p2s.len() != np
             || self.s2pp.len() != ns
@@ -140,7 +160,7 @@ impl Tables {
         if bad(&self.perms, ns) || bad(&self.p2s, ns) || bad(&self.s2pp, np) || bad(&self.nsym_list, nt) {
             return 3;
         }
-        if self.rules() == [true; 8] {
+        if self.obey() {
             0
         } else {
             6

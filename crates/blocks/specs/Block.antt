@@ -5,7 +5,7 @@ use mathlib.Core.Bool.{Bool, true, false, cond}
 use mathlib.Core.List.{List, _++_}
 use mathlib.Core.Logic.{_⊎_, inl, inr, ⊎-elim}
 use Prim.Native.Nat.{ℕ, suc, _+_, _*_, _-_, _/_, _%_, _<_, _≤_}
-use native.Mathlib.Nat.{div-add-mod', mod-lt, mul-add-div-right, mul-add-mod-self-right, mod-eq-of-lt, div-eq-of-lt, add-zero, mul-le-mul-right}
+use native.Mathlib.Nat.{div-add-mod', mod-lt, mul-le-mul-right}
 use native.Mathlib.Omega.{arith}
 use lib.Dec.{eqb}
 use borrow.Author.Tests.{eq-eqb, ne-eqb}
@@ -14,6 +14,7 @@ use lib.Seq.{ext-getD, getD-append-add, getD-take, getD-drop, length-take-le, dr
 use lib.Ieee.{Float, nan}
 use Rattle.lists.specs.Tab.{tab, length-tab, getD-tab, is-tab, part-tab}
 use Rattle.lists.specs.Cases.{lt-or-le, eq-or-ne}
+use Rattle.lists.specs.Digits.{quotient, remainder}
 
 -- block b of xs
 unfoldable pub block : ℕ → ℕ → List Float → List Float
@@ -54,10 +55,10 @@ module _ (w b : ℕ) (v xs : List Float) (q : ℕ) (h : q < length xs) where
 
 module _ (w b k : ℕ) (h : k < w) where
   pub block-of : (b * w + k) / w ≡ b
-  block-of = mul-add-div-right (omega arith) b k ∙ ap (λ n. b + n) (div-eq-of-lt h) ∙ add-zero b
+  block-of = quotient w b k h
 
   pub place-of : (b * w + k) % w ≡ k
-  place-of = mul-add-mod-self-right b w k ∙ mod-eq-of-lt h
+  place-of = remainder w b k h
 
 -- block b lies inside the list
 pub inside : (w b k n : ℕ) → k < w → b * w + w ≤ n → b * w + k < n

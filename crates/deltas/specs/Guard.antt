@@ -114,16 +114,6 @@ module _ (D : Deltas) (n : ℕ) (h : n < total D) where
 
 -- ---- the guard
 
-pub or-here : (a b : Bool) → a ≡ true → true ≡ (a || b)
-or-here a b e = rw e
-
-pub or-next : {r : Bool} (a b : Bool) → a ≡ false → r ≡ b → r ≡ (a || b)
-or-next a b e g = rw e g
-
-pub not-not : {r : Bool} (o : Bool) → r ≡ not o → not r ≡ o
-not-not true e = ap not e
-not-not false e = ap not e
-
 -- what the lengths are compared with
 pub record Sizes (b w numAtom numSiteSym numDisp : ℕ) : Type 0 where
   pub total-few : numDisp * numSiteSym ≤ 1048576

@@ -11,12 +11,12 @@ use lib.ListN.{length, getD, set, replicate, length-set, length-replicate, getD-
 use lib.Seq.{getD-set-other}
 use lib.Ieee.{Float, nan, add, mul, binary64}
 use borrow.Author.Count.{below-none}
-use Rattle.lists.specs.Tab.{tab, length-tab, getD-tab, is-tab, fill-more, times}
+use Rattle.lists.specs.Tab.{tab, length-tab, getD-tab, is-tab, fill-more, times, times-same}
 use Rattle.lists.specs.Cases.{eq-or-ne}
 use Rattle.blocks.specs.Block.{block, putBlock, length-putBlock, getD-block, put-inside, put-outside, block-of, place-of}
 use Rattle.tables.specs.Conditions.{indexAt}
 use Rattle.rotations.specs.Rotation.{plusZero, coefficients, sums}
-use Rattle.rotations.specs.Laws.{times-same, sums-rotated}
+use Rattle.rotations.specs.Laws.{sums-rotated}
 use Rattle.deltas.specs.RotateDelta.{Deltas, total, source, turned, summed, number, rotatedDeltas}
 
 -- ---- definitions

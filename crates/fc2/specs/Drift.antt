@@ -18,7 +18,8 @@ use Rattle.fc2.specs.declared.drift.Drift.the-variants.{Still, Worst, No
 use Rattle.fc2.specs.declared.drift.DriftReport.{DriftReport}
 use Rattle.fc2.specs.declared.drift.DriftAnswer.{DriftAnswer}
 use Rattle.fc2.specs.declared.drift.DriftAnswer.the-variants.{Report, Refused}
-use Rattle.fc2.specs.Full.{zero as zeroF, rowSum}
+use Rattle.lines.specs.Nine.{zero as zeroF}
+use Rattle.fc2.specs.Full.{rowSum}
 
 -- ---- the cases: a number for each, and its value
 

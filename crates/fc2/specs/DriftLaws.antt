@@ -13,23 +13,24 @@ use lib.Ieee.{Float, nan, inf, fin, binary64, add, neg, lt, eq, ne, fits, isNan,
 use lib.Pow.{pow-pos}
 use lib.Ieee.Fits.{up-pos, down-pos}
 use borrow.Author.Tests.{lt-ltb, le-ltb, ltb-true, ltb-false, eq-eqb, ne-eqb, eqb-true}
-use Rattle.lists.specs.Tab.{times}
-use Rattle.lists.specs.Tests.{every, some, split, refuted, some-of, not-both}
+use Rattle.lists.specs.Tab.{times, times-same, times-nest}
+use Rattle.lists.specs.Tests.{every, some, split, refuted, some-of, not-both, or-none, and-false}
 use Rattle.blocks.specs.Block.{block-of, place-of}
 use Rattle.tables.specs.declared.Answer.{Answer}
 use Rattle.tables.specs.declared.Answer.the-variants.{Done, CountAboveLimit, WrongLength}
 use Rattle.tables.specs.Answers.{isRefusal, passed, is-done}
-use Rattle.tables.specs.Conditions.{anyAbove, anyWrong, not-above, not-wrong}
+use Rattle.tables.specs.Conditions.{anyAbove, anyWrong, or-false, not-above, not-wrong}
 use Rattle.tables.specs.Limits.{limit2}
 use Rattle.fc2.specs.declared.drift.Drift.{Drift}
 use Rattle.fc2.specs.declared.drift.Drift.the-variants.{Still, Worst, NoNumber}
 use Rattle.fc2.specs.declared.drift.Seen.{Seen}
 use Rattle.fc2.specs.declared.drift.DriftAnswer.{DriftAnswer}
 use Rattle.fc2.specs.declared.drift.DriftAnswer.the-variants.{Report, Refused}
-use Rattle.fc2.specs.Full.{zero as zeroF, rowSum, entry}
-use Rattle.fc2.specs.FullLoops.{lineSums, zeros, Sized}
-use Rattle.fc2.specs.FullLaws.{or-none, or-false, and-false, getD-nine, times-ext, times-add}
-use Rattle.fc2.specs.FullDrifts.{line-sum}
+use Rattle.lines.specs.Nine.{zero as zeroF, zeros}
+use Rattle.lines.specs.Lines.{lineSums, Sized}
+use Rattle.lines.specs.Drifts.{row-sums}
+use Rattle.fc2.specs.Full.{rowSum}
+use Rattle.fc2.specs.FullDrifts.{row-sum}
 use Rattle.fc2.specs.Drift.{numberOf, absolute, isZero, larger, sumAt, firstOf, worst, driftOf, placeOf, reportAt, judgedDrift, driftReport, Reported}
 use Rattle.fc2.specs.DriftLoops.{look, start, lookRow, scanned, concluded}
 
@@ -272,7 +273,7 @@ module _ (S : ℕ → Float) where
 
     none-more : isNone r ≡ false → some (suc r) isNone ≡ some r isNone
     unfolding some
-    none-more h = ap (λ b. some r isNone || b) h ∙ or-false (some r isNone)
+    none-more h = ap (λ b. some r isNone || b) h ∙ or-none (some r isNone)
 
     first-more : isNone r ≡ false → some (suc r) isNone ≡ true → c .first ≡ firstOf (suc r) isNone
     unfolding firstOf
@@ -338,7 +339,7 @@ all-none S = refl
 
 none-of : (S : ℕ → Float) (r : ℕ) → some (suc r) (λ k. isNan (S k)) ≡ false → (some r (λ k. isNan (S k)) ≡ false) × (isNan (S r) ≡ false)
 unfolding some
-none-of S r h = or-none (some r (λ k. isNan (S k))) (isNan (S r)) h
+none-of S r h = or-false (some r (λ k. isNan (S k))) (isNan (S r)) h
 
 module _ (S : ℕ → Float) where
   module _ (r : ℕ) (h : isNan (S r) ≡ false) (c : Clean S r) where
@@ -483,38 +484,25 @@ module _ (xs : List Float) (n : ℕ) (ok : isRefusal (judgedDrift (length xs) n)
 
 -- ---- the sums, one after another
 
-times-times : {A : Type 0} (n m : ℕ) (f : ℕ → A → A) (x : A) → times n (λ i. times m (λ p. f (i * m + p))) x ≡ times (n * m) f x
-unfolding times
-times-times zero m f x = let e : 0 * m ≡ 0 = omega arith in rw e refl
-times-times (suc n) m f x =
-    let e : suc n * m ≡ n * m + m = omega arith in
-    ap (times m (λ p. f (n * m + p))) (times-times n m f x) ∙ sym (times-add (n * m) m f x) ∙ ap (λ k. times k f x) (sym e)
-
-row-sum : (n : ℕ) (xs : List Float) (i p : ℕ) → p < 9 → getD (lineSums (i * n) 1 n xs zeros) p nan ≡ sumAt n xs (i * 9 + p)
-unfolding sumAt rowSum entry
-row-sum n xs i p h =
-    line-sum (i * n) 1 n xs zeros p h
-    ∙ ap (λ z. times n (λ k t. add binary64 t (getD xs ((i * n + k * 1) * 9 + p) nan)) z) (getD-nine (λ _. zeroF) p h)
-    ∙ times-ext n _ _ zeroF (λ k hk t.
-    let r = i * 9 + p in
-    let e : (i * n + k * 1) * 9 + p ≡ (i * n + k) * 9 + p = omega arith in
-    let w : (i * n + k * 1) * 9 + p ≡ (r / 9 * n + k) * 9 + (r % 9 / 3 * 3 + r % 9 % 3) =
-    e ∙ ap₂ (λ a b. (a * n + k) * 9 + b) (sym (block-of 9 i p h)) (sym (div-add-mod' (r % 9) 3 ∙ place-of 9 i p h)) in
-    ap (λ q. add binary64 t (getD xs q nan)) w)
+sum-at : (n : ℕ) (xs : List Float) (i p : ℕ) → p < 9 → getD (lineSums (i * n) 1 n xs zeros) p nan ≡ sumAt n xs (i * 9 + p)
+unfolding sumAt
+sum-at n xs i p h =
+    row-sums n xs i p h ∙ row-sum n xs i p
+    ∙ ap₂ (λ a b. rowSum n xs a (b / 3) (b % 3)) (sym (block-of 9 i p h)) (sym (place-of 9 i p h))
 
 scanned-sums : (n : ℕ) (xs : List Float) → scanned n xs ≡ times (n * 9) (λ r. look r (sumAt n xs r)) start
 unfolding scanned lookRow
 scanned-sums n xs =
-    times-ext n _ _ start (λ i hi c. times-ext 9 _ _ c (λ p hp t. ap (λ x. look (i * 9 + p) x t) (row-sum n xs i p hp)))
-    ∙ times-times n 9 (λ r. look r (sumAt n xs r)) start
+    times-same n _ _ start (λ i hi c. times-same 9 _ _ c (λ p hp t. ap (λ x. look (i * 9 + p) x t) (sum-at n xs i p hp)))
+    ∙ sym (times-nest n 9 (λ r. look r (sumAt n xs r)) start)
 
 module _ (a : Answer) (xs : List Float) (n : ℕ) (e : a ≡ judgedDrift (length xs) n) where
   -- what is known of a set that is reported on
-  pub sized : isRefusal a ≡ false → Sized n (length xs)
+  pub sized : isRefusal a ≡ false → Sized n n (length xs)
   sized h =
       let (c, r) = passed (anyAbove limit2 (n ∷ [])) CountAboveLimit _ refl (sym e ∙ is-done a h) in
       let (l, _) = passed (anyWrong ((length xs, n * n * 9) ∷ [])) WrongLength Done refl r in
-      record { small = not-above limit2 (n ∷ []) c .0; long = not-wrong ((length xs, n * n * 9) ∷ []) l .0 }
+      record { few = not-above limit2 (n ∷ []) c .0; small = not-above limit2 (n ∷ []) c .0; long = not-wrong ((length xs, n * n * 9) ∷ []) l .0 }
 
   pub report-refused : isRefusal a ≡ true → Reported xs n (Refused a)
   report-refused h =

@@ -8,8 +8,8 @@ use Rattle.lists.specs.Tab.{times}
 use Rattle.fc2.specs.declared.drift.Drift.the-variants.{Still, Worst, NoNumber}
 use Rattle.fc2.specs.declared.drift.DriftReport.{DriftReport}
 use Rattle.fc2.specs.declared.drift.Seen.{Seen}
-use Rattle.fc2.specs.Full.{zero as zeroF}
-use Rattle.fc2.specs.FullLoops.{lineSums, zeros}
+use Rattle.lines.specs.Nine.{zero as zeroF, zeros}
+use Rattle.lines.specs.Lines.{lineSums}
 use Rattle.fc2.specs.Drift.{absolute, reportAt}
 
 -- sum r, x, is looked at

@@ -4,22 +4,15 @@ use mathlib.Core.List.{List, [], _∷_}
 use mathlib.Core.Bool.{cond, _&&_, _||_}
 use Prim.Native.Nat.{ℕ, _+_, _*_, _/_, _%_}
 use lib.Dec.{eqb}
-use lib.IntN.{pos}
 use lib.ListN.{length, getD}
-use lib.Ieee.{Float, nan, add, sub, mul, div, neg, ofInt, ofBits, binary64}
+use lib.Ieee.{Float, nan, add, sub, mul, neg, binary64}
 use Rattle.lists.specs.Tab.{tab, times}
 use Rattle.tables.specs.declared.Answer.{Answer}
 use Rattle.tables.specs.declared.Answer.the-variants.{Done, CountAboveLimit, WrongLength}
 use Rattle.tables.specs.Answers.{after, refuseIf}
 use Rattle.tables.specs.Conditions.{anyAbove, anyWrong}
 use Rattle.tables.specs.Limits.{limit2, limitLevel}
-
--- 0.0, and half of a number
-abbrev pub zero : Float
-zero = ofBits binary64 0
-
-abbrev pub half : Float → Float
-half x = div binary64 x (ofBits binary64 0x4000_0000_0000_0000)
+use Rattle.lines.specs.Nine.{zero, half, inverse}
 
 -- the set of n × n blocks whose number for atoms i and j and directions k and l is f i j k l
 unfoldable pub fill : ℕ → (ℕ → ℕ → ℕ → ℕ → Float) → List Float
@@ -38,10 +31,6 @@ rowSum n xs i k l = times n (λ j s. add binary64 s (entry n xs i j k l)) zero
 
 unfoldable pub othersSum : ℕ → List Float → ℕ → ℕ → ℕ → Float
 othersSum n xs i k l = times n (λ j s. cond (eqb i j) s (add binary64 s (entry n xs i j k l))) zero
-
--- 1 / n, with which a sum is multiplied to be a drift
-unfoldable pub inverse : ℕ → Float
-inverse n = div binary64 (ofBits binary64 0x3FF0_0000_0000_0000) (ofInt binary64 (pos n))
 
 -- each number less the drift of its column, and of its row
 unfoldable pub columnDrift : ℕ → List Float → List Float

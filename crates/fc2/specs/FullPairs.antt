@@ -3,21 +3,24 @@ use mathlib.Core.Path.{_≡_, refl, sym, ap, ap₂, _∙_}
 use mathlib.Core.Bool.{cond, _&&_}
 use mathlib.Core.Logic.{_⊎_, inl, inr, ⊎-elim}
 use mathlib.Core.List.{List}
-use Prim.Native.Nat.{ℕ, suc, _+_, _*_, _-_, _/_, _%_, _<_, _≤_, min, max}
-use native.Mathlib.Nat.{div-add-mod', mod-lt, div-lt-iff-lt-mul}
+use Prim.Native.Nat.{ℕ, suc, _+_, _*_, _/_, _%_, _<_, _≤_, min, max}
+use native.Mathlib.Nat.{div-add-mod'}
 use native.Mathlib.Omega.{arith}
-use lib.Dec.{eqb, lit<}
+use lib.Dec.{eqb}
 use lib.ListN.{length, getD}
 use lib.Ieee.{Float, nan, add, neg, binary64}
 use borrow.Author.Tests.{eq-eqb, ne-eqb}
-use Rattle.lists.specs.Tab.{times, is-tab}
-use Rattle.lists.specs.Digits.{in-row}
+use Rattle.lists.specs.Tab.{times, is-tab, tab-ext}
 use Rattle.lists.specs.Cases.{eq-or-ne, lt-or-le}
-use Rattle.blocks.specs.Block.{block, putBlock, length-putBlock, put-inside, put-outside, block-of, place-of, getD-block}
-use Rattle.fc2.specs.Full.{zero as zeroF, half, fill, entry, othersSum, pairAverages, diagonalBlocks}
-use Rattle.fc2.specs.FullLoops.{turn, averaged, turned, evened, pairAt, ownAt, pairsBefore, pairs, lineSums, zeros, balance, others, balanceAt, diagonals}
-use Rattle.fc2.specs.FullLaws.{add-commutes, getD-nine, in-nine, own-place, block-at, turn-below, turn-turn, times-ext, times-add, Stage, next, stages}
-use Rattle.fc2.specs.FullDrifts.{line-sum, some-atom, entry-own}
+use Rattle.lists.specs.Floats.{add-commutes}
+use Rattle.lists.specs.Stages.{Stage, next, stages}
+use Rattle.blocks.specs.Block.{block, putBlock, length-putBlock, put-inside, put-outside, block-of, getD-block}
+use Rattle.lines.specs.Nine.{half, turn, averaged, turned, getD-nine, in-nine, own-place, block-at, turn-below, turn-turn}
+use Rattle.lines.specs.Lines.{pairAt, atomI, atomJ, of-atoms, atoms-of, atoms-at, place-in, atoms-below}
+use Rattle.lines.specs.Others.{sumBut, balances-make}
+use Rattle.fc2.specs.Full.{fill, entry, othersSum, pairAverages, diagonalBlocks}
+use Rattle.fc2.specs.FullLoops.{evened, ownAt, pairsBefore, pairs, diagonals}
+use Rattle.fc2.specs.FullDrifts.{entry-own}
 
 -- the mean of the number at place q and the counterpart in block b
 abbrev mean : List Float → ℕ → ℕ → Float
@@ -83,32 +86,6 @@ module _ (b : ℕ) (xs : List Float) where
 
 -- ---- blocks by their atoms
 
-abbrev atomI : ℕ → ℕ → ℕ
-atomI n q = q / 9 / n
-
-abbrev atomJ : ℕ → ℕ → ℕ
-atomJ n q = q / 9 % n
-
--- the block of atoms i and j
-of-atoms : (n q i j : ℕ) → atomI n q ≡ i → atomJ n q ≡ j → q / 9 ≡ i * n + j
-of-atoms n q i j e g = sym (div-add-mod' (q / 9) n) ∙ ap₂ (λ x y. x * n + y) e g
-
-atoms-of : (n q i j : ℕ) → j < n → q / 9 ≡ i * n + j → (atomI n q ≡ i) × (atomJ n q ≡ j)
-atoms-of n q i j h e = (ap (λ b. b / n) e ∙ block-of n i j h, ap (λ b. b % n) e ∙ place-of n i j h)
-
--- the same for place p of the block of atoms i and j
-atoms-at : (n i j p : ℕ) → j < n → p < 9 → (atomI n ((i * n + j) * 9 + p) ≡ i) × (atomJ n ((i * n + j) * 9 + p) ≡ j)
-atoms-at n i j p h hp = atoms-of n ((i * n + j) * 9 + p) i j h (block-of 9 (i * n + j) p hp)
-
-place-in : (n i j p : ℕ) → i < n → j < n → p < 9 → (i * n + j) * 9 + p < n * n * 9
-place-in n i j p hi hj hp = in-row (n * n) 9 (i * n + j) p (in-row n n i j hi hj) hp
-
-atoms-below : (n q : ℕ) → q < n * n * 9 → (atomI n q < n) × (atomJ n q < n)
-atoms-below n q h =
-    let b : q / 9 < n * n = div-lt-iff-lt-mul (lit< tt) .1 h in
-    let p = some-atom n (q / 9) b in
-    (div-lt-iff-lt-mul p .1 b, mod-lt (q / 9) p)
-
 -- two atoms by the greater and the smaller
 by-size : (i j x y : ℕ) → max x y ≡ i → min x y ≡ j → ((x ≡ j) × (y ≡ i)) ⊎ ((x ≡ i) × (y ≡ j))
 by-size i j x y e g = ⊎-elim (λ (h : x < y). inl (omega arith, omega arith)) (λ (h : y ≤ x). inr (omega arith, omega arith)) (lt-or-le x y)
@@ -160,9 +137,9 @@ module _ (n i : ℕ) (hi : i < n) (ys : List Float) (e : length ys ≡ n * n * 9
       let hp : p < 9 = turn-below (q % 9) (in-nine q) in
       let own : getD us q nan ≡ getD ys q nan = s .left q h (omega arith) in
       let u : getD us (b * 9 + p) nan ≡ getD ys (b * 9 + p) nan =
-      s .left (b * 9 + p) (rw e (place-in n i j p hi hjn hp)) (let k = key-of i j j p hi hjn hp (omega arith) (omega arith) in omega arith) in
+      s .left (b * 9 + p) (rw e (place-in n n i j p hi hjn hp)) (let k = key-of i j j p hi hjn hp (omega arith) (omega arith) in omega arith) in
       let v : getD us (a * 9 + p) nan ≡ getD ys (a * 9 + p) nan =
-      s .left (a * 9 + p) (rw e (place-in n j i p hjn hi hp)) (let k = key-of j i j p hjn hi hp (omega arith) (omega arith) in omega arith) in
+      s .left (a * 9 + p) (rw e (place-in n n j i p hjn hi hp)) (let k = key-of j i j p hjn hi hp (omega arith) (omega arith) in omega arith) in
       ⊎-elim
       (λ (w : (atomI n q ≡ j) × (atomJ n q ≡ i)).
       pair-first a b us ne q hu (of-atoms n q j i (w .0) (w .1))
@@ -201,12 +178,12 @@ module _ (n : ℕ) (xs : List Float) (e : length xs ≡ n * n * 9) where
       (λ q h g.
       let hy : q < length ys = rw (s .long) h in
       let hw : q < length ws = rw (t .long) hy in
-      let bel = atoms-below n q (rw e at h) in
+      let bel = atoms-below n n q (rw e at h) in
       let p = turn (q % 9) in
       let hp : p < 9 = turn-below (q % 9) (in-nine q) in
       let own : getD ys q nan ≡ getD xs q nan = s .left q h (omega arith) in
       let mir : getD ys (mirror n q) nan ≡ getD xs (mirror n q) nan =
-      s .left (mirror n q) (rw e (place-in n (atomJ n q) (atomI n q) p (bel .1) (bel .0) hp))
+      s .left (mirror n q) (rw e (place-in n n (atomJ n q) (atomI n q) p (bel .1) (bel .0) hp))
       (let (x, y) = atoms-at n (atomJ n q) (atomI n q) p (bel .0) hp in let z = ap₂ max x y in omega arith) in
       ⊎-elim
       (λ (w : atomI n q ≡ atomJ n q).
@@ -216,7 +193,7 @@ module _ (n : ℕ) (xs : List Float) (e : length xs ≡ n * n * 9) where
       let back : b * 9 + p ≡ mirror n q = ap (λ c. c * 9 + p) (ap₂ (λ x y. x * n + y) (sym wj) (sym wi)) in
       let kq : getD ws q nan ≡ getD ys q nan = t .left q hy (let k = key-pair n i hi ys (s .long ∙ e) q g in omega arith) in
       let km : getD ws (b * 9 + p) nan ≡ getD ys (b * 9 + p) nan =
-      t .left (b * 9 + p) (rw (s .long ∙ e) (place-in n i i p hi hi hp)) (let k = key-of n i hi ys (s .long ∙ e) i i i p hi hi hp (omega arith) (omega arith) in omega arith) in
+      t .left (b * 9 + p) (rw (s .long ∙ e) (place-in n n i i p hi hi hp)) (let k = key-of n i hi ys (s .long ∙ e) i i i p hi hi hp (omega arith) (omega arith) in omega arith) in
       rw (eq-eqb (atomI n q) (atomJ n q) w)
       (own-in b ws q hw at-b
       ∙ ap₂ (λ x y. cond (eqb (q % 9 / 3) (q % 9 % 3)) x (half (add binary64 x y))) (kq ∙ own) (km ∙ ap (λ k. getD ys k nan) back ∙ mir)))
@@ -244,133 +221,25 @@ module _ (n : ℕ) (xs : List Float) (e : length xs ≡ n * n * 9) where
       is-tab nan (n * n * 9) _ (times n (λ i ys. ownAt (i * n + i) (pairsBefore n i ys)) xs) (s .long ∙ e)
       (λ q h.
       let hx : q < length xs = rw e h in
-      let bel = atoms-below n q h in
+      let bel = atoms-below n n q h in
       s .made q hx (omega arith)
       ∙ ap₂ (λ x y. cond (eqb (atomI n q) (atomJ n q) && eqb (q % 9 / 3) (q % 9 % 3)) x (half (add binary64 x y))) (sym (entry-own n xs q)) (sym (entry-mirror q)))
 
 -- ---- the diagonal blocks
 
-module _ (n i : ℕ) (ys : List Float) where
-  pub length-balanceAt : length (balanceAt n i ys) ≡ length ys
-  unfolding balanceAt
-  length-balanceAt = length-putBlock 9 (i * n + i) _ ys
-
-  module _ (q : ℕ) (h : q < length ys) where
-    balance-in : q / 9 ≡ i * n + i
-        → getD (balanceAt n i ys) q nan ≡ half (neg (add binary64 (getD (others n i ys) (q % 9) nan) (getD (others n i ys) (turn (q % 9)) nan)))
-    unfolding balanceAt
-    balance-in e =
-        put-inside 9 (i * n + i) (balance (others n i ys)) ys q h e
-        ∙ getD-nine (λ p. half (neg (add binary64 (getD (others n i ys) p nan) (getD (others n i ys) (turn p) nan)))) (q % 9) (in-nine q)
-
-    balance-out : (q / 9 ≡ i * n + i → ⊥) → getD (balanceAt n i ys) q nan ≡ getD ys q nan
-    unfolding balanceAt
-    balance-out g = put-outside 9 (i * n + i) (balance (others n i ys)) ys q h g
-
--- the sum over the other atoms, at number p of the blocks
-abbrev sumBut : ℕ → List Float → ℕ → ℕ → Float
-sumBut n xs i p = times n (λ j s. cond (eqb i j) s (add binary64 s (getD xs ((i * n + j) * 9 + p) nan))) zeroF
-
--- it is taken in two runs: before the atom and after it
-module _ (n i : ℕ) (hi : i < n) (xs ys : List Float) (p : ℕ) (hp : p < 9)
-    (same : (j : ℕ) → j < n → (i ≡ j → ⊥) → getD ys ((i * n + j) * 9 + p) nan ≡ getD xs ((i * n + j) * 9 + p) nan) where
-  abbrev step : ℕ → Float → Float
-  step j s = cond (eqb i j) s (add binary64 s (getD xs ((i * n + j) * 9 + p) nan))
-
-  step-other : (j : ℕ) → j < n → (i ≡ j → ⊥) → (s : Float) → add binary64 s (getD ys ((i * n + j) * 9 + p) nan) ≡ step j s
-  step-other j hj g s = rw (ne-eqb i j g) (ap (add binary64 s) (same j hj g))
-
-  first-run : getD (lineSums (i * n) 1 i ys zeros) p nan ≡ times i step zeroF
-  first-run =
-      line-sum (i * n) 1 i ys zeros p hp
-      ∙ ap (λ z. times i (λ k t. add binary64 t (getD ys ((i * n + k * 1) * 9 + p) nan)) z) (getD-nine (λ _. zeroF) p hp)
-      ∙ times-ext i _ step zeroF (λ k hk t.
-      let w : (i * n + k * 1) * 9 + p ≡ (i * n + k) * 9 + p = omega arith in
-      ap (λ r. add binary64 t (getD ys r nan)) w ∙ step-other k (omega arith) (λ g. omega arith) t)
-
-  own-step : (s : Float) → step i s ≡ s
-  own-step s = rw (eq-eqb i i refl)
-
-  one-more : times (i + 1) step zeroF ≡ times i step zeroF
-  unfolding times
-  one-more = times-add i 1 step zeroF ∙ own (times i step zeroF)
-    where
-      own : (s : Float) → step (i + 0) s ≡ s
-      own s = let z : i + 0 ≡ i = omega arith in ap (λ j. step j s) z ∙ own-step s
-
-  pub others-sum : getD (others n i ys) p nan ≡ sumBut n xs i p
-  unfolding others
-  others-sum =
-      let c = n - i - 1 in
-      let z : i + 1 + c ≡ n = omega arith in
-      line-sum (i * n + i + 1) 1 c ys (lineSums (i * n) 1 i ys zeros) p hp
-      ∙ ap (λ s. times c (λ k t. add binary64 t (getD ys ((i * n + i + 1 + k * 1) * 9 + p) nan)) s) (first-run ∙ sym one-more)
-      ∙ times-ext c _ (λ k. step (i + 1 + k)) (times (i + 1) step zeroF) (λ k hk t.
-      let w : (i * n + i + 1 + k * 1) * 9 + p ≡ (i * n + (i + 1 + k)) * 9 + p = omega arith in
-      ap (λ r. add binary64 t (getD ys r nan)) w ∙ step-other (i + 1 + k) (omega arith) (λ g. omega arith) t)
-      ∙ sym (times-add (i + 1) c step zeroF)
-      ∙ ap (λ m. times m step zeroF) z
-
 module _ (n : ℕ) (xs : List Float) (e : length xs ≡ n * n * 9) where
-  -- a diagonal block is reached with its atom, the others never
-  abbrev keyD : ℕ → ℕ
-  keyD q = cond (eqb (atomI n q) (atomJ n q)) (atomI n q) n
-
-  abbrev newD : ℕ → Float
-  newD q = half (neg (add binary64 (sumBut n xs (atomI n q) (q % 9)) (sumBut n xs (atomI n q) (turn (q % 9)))))
-
-  key-diagonal : (q : ℕ) → atomI n q ≡ atomJ n q → keyD q ≡ atomI n q
-  key-diagonal q g = rw (eq-eqb (atomI n q) (atomJ n q) g)
-
-  key-off : (q : ℕ) → (atomI n q ≡ atomJ n q → ⊥) → keyD q ≡ n
-  key-off q g = rw (ne-eqb (atomI n q) (atomJ n q) g)
-
-  turn-diagonal : (i : ℕ) → i < n → (ys : List Float) → Stage nan xs keyD newD i ys → Stage nan xs keyD newD (suc i) (balanceAt n i ys)
-  turn-diagonal i hi ys s =
-      next nan xs keyD newD i ys (balanceAt n i ys) s (length-balanceAt n i ys)
-      (λ q h g.
-      let hy : q < length ys = rw (s .long) h in
-      ⊎-elim
-      (λ (w : atomI n q ≡ atomJ n q).
-      let wi : atomI n q ≡ i = sym (key-diagonal q w) ∙ g in
-      let wj : atomJ n q ≡ i = omega arith in
-      balance-in n i ys q hy (of-atoms n q i i wi wj)
-      ∙ ap (λ x. half (neg x))
-      (ap₂ (add binary64) (others-sum n i hi xs ys (q % 9) (in-nine q) (old (q % 9) (in-nine q)))
-      (others-sum n i hi xs ys (turn (q % 9)) (turn-below (q % 9) (in-nine q)) (old (turn (q % 9)) (turn-below (q % 9) (in-nine q)))))
-      ∙ ap (λ k. half (neg (add binary64 (sumBut n xs k (q % 9)) (sumBut n xs k (turn (q % 9)))))) (sym wi))
-      (λ (w : atomI n q ≡ atomJ n q → ⊥). let k = key-off q w in absurd (omega arith))
-      (eq-or-ne (atomI n q) (atomJ n q)))
-      (λ q h g.
-      let hy : q < length ys = rw (s .long) h in
-      balance-out n i ys q hy (λ r. let (x, y) = atoms-of n q i i hi r in g (key-diagonal q (x ∙ sym y) ∙ x)))
-    where
-      old : (p : ℕ) → p < 9 → (j : ℕ) → j < n → (i ≡ j → ⊥) → getD ys ((i * n + j) * 9 + p) nan ≡ getD xs ((i * n + j) * 9 + p) nan
-      old p hp j hj g =
-          let (x, y) = atoms-at n i j p hj hp in
-          s .left ((i * n + j) * 9 + p) (rw e (place-in n i j p hi hj hp)) (let k = key-off ((i * n + j) * 9 + p) (λ r. g (sym x ∙ r ∙ y)) in omega arith)
-
   -- the sums by directions
-  sum-own : (q : ℕ) → othersSum n xs (atomI n q) (q % 9 / 3) (q % 9 % 3) ≡ sumBut n xs (atomI n q) (q % 9)
+  sum-own : (q : ℕ) → othersSum n xs (atomI n q) (q % 9 / 3) (q % 9 % 3) ≡ sumBut n xs (atomI n q) (atomI n q) (q % 9)
   unfolding othersSum entry
-  sum-own q = ap (sumBut n xs (atomI n q)) (div-add-mod' (q % 9) 3)
+  sum-own q = ap (sumBut n xs (atomI n q) (atomI n q)) (div-add-mod' (q % 9) 3)
 
-  sum-turned : (q : ℕ) → othersSum n xs (atomI n q) (q % 9 % 3) (q % 9 / 3) ≡ sumBut n xs (atomI n q) (turn (q % 9))
+  sum-turned : (q : ℕ) → othersSum n xs (atomI n q) (q % 9 % 3) (q % 9 / 3) ≡ sumBut n xs (atomI n q) (atomI n q) (turn (q % 9))
   unfolding othersSum entry
   sum-turned q = refl
 
   pub diagonals-make : diagonals n xs ≡ diagonalBlocks n xs
   unfolding diagonals diagonalBlocks fill
   diagonals-make =
-      let s = stages nan xs keyD newD n (balanceAt n) turn-diagonal in
-      is-tab nan (n * n * 9) _ (times n (balanceAt n) xs) (s .long ∙ e)
-      (λ q h.
-      let hx : q < length xs = rw e h in
-      let bel = atoms-below n q h in
-      ⊎-elim
-      (λ (w : atomI n q ≡ atomJ n q).
-      rw (eq-eqb (atomI n q) (atomJ n q) w)
-      (s .made q hx (let k = key-diagonal q w in omega arith) ∙ ap (λ x. half (neg x)) (ap₂ (add binary64) (sym (sum-own q)) (sym (sum-turned q)))))
-      (λ (w : atomI n q ≡ atomJ n q → ⊥).
-      rw (ne-eqb (atomI n q) (atomJ n q) w) (s .left q hx (let k = key-off q w in omega arith) ∙ sym (entry-own n xs q)))
-      (eq-or-ne (atomI n q) (atomJ n q)))
+      balances-make n n (λ i. i) (λ i h. h) xs e
+      ∙ tab-ext nan (n * n * 9) _ _ (λ q h.
+      ap₂ (cond (eqb (atomI n q) (atomJ n q))) (ap₂ (λ x y. half (neg (add binary64 x y))) (sym (sum-own q)) (sym (sum-turned q))) (sym (entry-own n xs q)))

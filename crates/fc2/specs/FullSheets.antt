@@ -8,8 +8,8 @@ use lib.Ieee.{Float, nan, add, div, neg, ofBits, binary64}
 use Rattle.lists.specs.Tab.{tab, tabFrom, times}
 use Rattle.blocks.specs.Block.{block}
 use Rattle.tables.specs.declared.Answer.the-variants.{Done}
-use Rattle.fc2.specs.Full.{zero, half, fill, entry, othersSum, diagonalBlocks, symmetrized, permTransSymmetrizeFc}
-use Rattle.fc2.specs.FullLoops.{nine, turn}
+use Rattle.lines.specs.Nine.{zero, half, nine, turn}
+use Rattle.fc2.specs.Full.{fill, entry, othersSum, diagonalBlocks, symmetrized, permTransSymmetrizeFc}
 use Rattle.fc2.specs.FullWork.{call-within}
 
 -- -0.0, 2.0, 4.0 and -3.0

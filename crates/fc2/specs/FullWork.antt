@@ -10,12 +10,13 @@ use Rattle.lists.specs.Tab.{times, length-tab}
 use Rattle.tables.specs.declared.Answer.{Answer}
 use Rattle.tables.specs.declared.Answer.the-variants.{Done, CountAboveLimit, WrongLength}
 use Rattle.tables.specs.Answers.{isRefusal, passed, after-done, after-refusal, is-done}
-use Rattle.tables.specs.Conditions.{anyAbove, anyWrong, not-above, not-wrong}
+use Rattle.tables.specs.Conditions.{anyAbove, anyWrong, or-false, not-above, not-wrong}
 use Rattle.tables.specs.Limits.{limit2, limitLevel}
-use Rattle.fc2.specs.Full.{fill, inverse, columnDrift, rowDrift, pairAverages, diagonalBlocks, oneLevel, symmetrized, judgedFull, permTransSymmetrizeFc}
-use Rattle.fc2.specs.FullLoops.{rows, pairs, diagonals, swept, worked, Sized}
-use Rattle.fc2.specs.FullLaws.{or-none}
-use Rattle.fc2.specs.FullDrifts.{columns-make, rows-make}
+use Rattle.lines.specs.Nine.{inverse}
+use Rattle.lines.specs.Lines.{rowDrifts, Sized}
+use Rattle.fc2.specs.Full.{fill, columnDrift, rowDrift, pairAverages, diagonalBlocks, oneLevel, symmetrized, judgedFull, permTransSymmetrizeFc}
+use Rattle.fc2.specs.FullLoops.{pairs, diagonals, swept, worked}
+use Rattle.fc2.specs.FullDrifts.{columns-make, row-drifts-make}
 use Rattle.fc2.specs.FullPairs.{pairs-make, diagonals-make}
 
 -- every stage keeps the length
@@ -43,8 +44,8 @@ module _ (n : ℕ) where
   level-make : (xs : List Float) → length xs ≡ n * n * 9 → swept n (inverse n) xs ≡ oneLevel n xs
   unfolding swept oneLevel
   level-make xs e =
-      ap (λ l. pairs n (rows n (inverse n) l)) (columns-make n xs e)
-      ∙ ap (pairs n) (rows-make n (columnDrift n xs) (length-columns xs))
+      ap (λ l. pairs n (rowDrifts n n (inverse n) l)) (columns-make n xs e)
+      ∙ ap (pairs n) (row-drifts-make n (columnDrift n xs) (length-columns xs))
       ∙ pairs-make n (rowDrift n (columnDrift n xs)) (length-rows (columnDrift n xs))
 
   length-levels : (level : ℕ) (xs : List Float) → length xs ≡ n * n * 9 → length (times level (λ _. oneLevel n) xs) ≡ n * n * 9
@@ -67,12 +68,14 @@ module _ (n : ℕ) where
 
 module _ (a : Answer) (xs : List Float) (n level : ℕ) (e : a ≡ judgedFull (length xs) n level) where
   -- what is known of a set that is worked on
-  pub sized : isRefusal a ≡ false → Sized n (length xs)
+  pub sized : isRefusal a ≡ false → Sized n n (length xs)
   sized h =
       let (c, r) = passed (anyAbove limit2 (n ∷ []) || anyAbove limitLevel (level ∷ [])) CountAboveLimit _ refl (sym e ∙ is-done a h) in
       let (l, _) = passed (anyWrong ((length xs, n * n * 9) ∷ [])) WrongLength Done refl r in
+      let small = not-above limit2 (n ∷ []) (or-false (anyAbove limit2 (n ∷ [])) (anyAbove limitLevel (level ∷ [])) c .0) .0 in
       record {
-        small = not-above limit2 (n ∷ []) (or-none (anyAbove limit2 (n ∷ [])) (anyAbove limitLevel (level ∷ [])) c .0) .0;
+        few = small;
+        small = small;
         long = not-wrong ((length xs, n * n * 9) ∷ []) l .0;
       }
 

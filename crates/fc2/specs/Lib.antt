@@ -1,16 +1,3 @@
-pub mod Compact
-pub mod CompactSums
-pub mod CompactPlaces
-pub mod CompactPairs
-pub mod CompactLoops
-pub mod CompactNine
-pub mod CompactDrift
-pub mod CompactPasses
-pub mod CompactCode
-pub mod CompactCalls
-pub mod CompactValues
-pub mod Distribute
-pub mod DistributeLaws
 pub mod Full
 pub mod FullLoops
 pub mod FullLaws

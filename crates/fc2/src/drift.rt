@@ -1,10 +1,9 @@
 // The drift report of a full set (document 01, "Drift report").
-use crate::full;
 use tables::Answer;
 ghost use mathlib.Core.Path.{_≡_};
 ghost use Prim.Native.Nat.{_*_, _<_};
 ghost use lib.ListN.{length};
-ghost use Rattle.fc2.specs.FullLoops.{Sized};
+ghost use Rattle.lines.specs.Lines.{Sized};
 ghost use Rattle.fc2.specs.Drift.{numberOf, valueOf, answerOf, absolute, reportAt, judgedDrift, Reported};
 ghost use Rattle.fc2.specs.DriftLoops as loops;
 
@@ -123,7 +122,7 @@ fn look_row(i: usize, s: [f64; 9], c: Seen) -> Seen
 }
 
 fn scan(fc: &[f64], n: usize) -> Seen
-    requires { ⌜ Sized n (length (now fc)) ⌝ }
+    requires { ⌜ Sized n n (length (now fc)) ⌝ }
     ensures { λ r. ⌜ r ≡ loops.scanned n (now (fc .entry)) ⌝ }
 {
     let mut seen = Seen {
@@ -133,7 +132,7 @@ fn scan(fc: &[f64], n: usize) -> Seen
         at: 0,
     };
     for i in 0..n {
-        let s = full::line_sums(fc, [0.0f64; 9], i * n, 1, n);
+        let s = lines::line_sums(fc, [0.0f64; 9], i * n, 1, n);
         let more = look_row(i, s, seen);
         seen = more;
     }

@@ -1,8 +1,3 @@
-// Second order (fc2.rs).
-pub mod compact;
-mod compact_nine;
-mod compact_pairs;
-mod compact_rows;
-pub mod distribute;
+// Full sets of second order (fc2.rs): the symmetrizer, and the drift report.
 pub mod drift;
 pub mod full;

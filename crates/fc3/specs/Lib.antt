@@ -1,6 +1,5 @@
-pub mod Transpose
 pub mod Mean
 pub mod Symmetrize
 pub mod Spread
 pub mod Loops
-pub mod TransposeLoops
+pub mod FullLoops

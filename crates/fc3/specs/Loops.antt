@@ -13,13 +13,13 @@ use borrow.Author.Tests.{eq-eqb, ne-eqb}
 use Rattle.lists.specs.Tab.{times, times-nest}
 use Rattle.lists.specs.Elements.{Below, pick}
 use Rattle.lists.specs.Digits.{horner, room, in-row}
-use Rattle.tables.specs.Shifts.{Shifts, Laws, p2sAt}
+use Rattle.tables.specs.Shifts.{Shifts, p2sAt}
 use Rattle.tables.specs.Limits.{limit3}
 use Rattle.tables.specs.declared.Answer.{Answer}
 use Rattle.tables.specs.declared.Answer.the-variants.{Done}
 use Rattle.tables.specs.Answers.{isRefusal, after, is-done, refused-call, done-call}
 use Rattle.tables.specs.Conditions.{Readable, indexAt, read}
-use Rattle.tables.specs.Compact.{ShiftTables, shiftsOf, Fit, Compact, judgedCompact, done-compact, p2s-is}
+use Rattle.tables.specs.Compact.{ShiftTables, shiftsOf, Compact, judgedCompact, done-compact, p2s-is}
 use Rattle.places.specs.Places.{size}
 use Rattle.places.specs.Orders.{six, six-group}
 use Rattle.places.specs.Addresses.{storedBlock, fits3, block-below}
@@ -36,14 +36,6 @@ use Rattle.fc3.specs.Symmetrize.{setPermutationSymmetryCompactFc3}
 -- a compact set of third order that passed the guard, and a work slice of k atoms' places
 abbrev pub Ready : ℕ → ℕ → ℕ → ShiftTables → Type 0
 Ready lenSet k lenWork T = Compact limit3 2 lenSet k lenWork T
-
--- the same of the tables alone
-abbrev pub ReadyT : ShiftTables → Type 0
-ReadyT T = Fit limit3 T × Laws (shiftsOf T)
-
--- and of a set with its tables
-abbrev pub SetT : ℕ → ShiftTables → Type 0
-SetT lenSet T = (lenSet ≡ room 3 3 (room (T .nSatom) 2 (T .nPatom))) × ReadyT T
 
 -- atoms of a block
 abbrev pub Atoms : ShiftTables → ℕ → ℕ → ℕ → Type 0
@@ -70,7 +62,7 @@ pub plain3 : (n p j k : ℕ) → horner n p (j ∷ k ∷ []) ≡ (p * n + j) * n
 unfolding horner
 plain3 n p j k = refl
 
-six-same : {a b c d e f a′ b′ c′ d′ e′ f′ : ℕ} → a ≡ a′ → b ≡ b′ → c ≡ c′ → d ≡ d′ → e ≡ e′ → f ≡ f′
+pub six-same : {a b c d e f a′ b′ c′ d′ e′ f′ : ℕ} → a ≡ a′ → b ≡ b′ → c ≡ c′ → d ≡ d′ → e ≡ e′ → f ≡ f′
     → a ∷ b ∷ c ∷ d ∷ e ∷ f ∷ [] ≡ a′ ∷ b′ ∷ c′ ∷ d′ ∷ e′ ∷ f′ ∷ []
 six-same p q r s t u = cc
 

@@ -1,13 +1,14 @@
 -- The means of a group written to its six blocks. Assumes nothing.
 use mathlib.Core.Path.{_≡_, refl, sym, ap, ap₂, _∙_}
 use Prim.Native.Nat.{ℕ, zero, suc, _+_, _*_, _/_, _%_, _≤_, _<_}
+use native.Mathlib.Nat.{mod-eq-of-lt}
 use native.Mathlib.Omega.{arith}
 use mathlib.Core.List.{List, [], _∷_}
 use lib.ListN.{length, getD, set}
 use lib.Ieee.{Float, nan}
-use Rattle.lists.specs.Tab.{tab, tabFrom, length-tab, is-tab}
+use Rattle.lists.specs.Tab.{tab, tabFrom, length-tab, is-tab, times, times-nest}
 use Rattle.lists.specs.Elements.{Below, pick, straight}
-use Rattle.lists.specs.Digits.{horner, rest, digits}
+use Rattle.lists.specs.Digits.{horner, rest, digits, quotient, remainder}
 use Rattle.blocks.specs.Block.{putBlock}
 use Rattle.places.specs.Orders.{six}
 use Rattle.orbits.specs.Blockwise.{inBlock}
@@ -82,18 +83,41 @@ module _ (b0 b1 b2 b3 b4 b5 : ℕ) where
   pub six-are : (v xs : List Float) → length v ≡ 27 → Distinct (b0 ∷ b1 ∷ b2 ∷ b3 ∷ b4 ∷ b5 ∷ []) → putSix v xs ≡ spreadBlock 2 six (b0 ∷ b1 ∷ b2 ∷ b3 ∷ b4 ∷ b5 ∷ []) v xs
   six-are v xs l d = six-written v xs l ∙ wholes-are 2 six inverse6 (b0 ∷ b1 ∷ b2 ∷ b3 ∷ b4 ∷ b5 ∷ []) v xs inverses6 d
 
--- the six places of position k, by its directions
-pub spots-are : (b0 b1 b2 b3 b4 b5 k : ℕ)
-    → spots 2 six (b0 ∷ b1 ∷ b2 ∷ b3 ∷ b4 ∷ b5 ∷ []) k
-    ≡ (let l = k / 3 / 3 % 3 in
-    let m = k / 3 % 3 in
-    let n = k % 3 in
-    (b0 * 27 + (l * 9 + m * 3 + n)) ∷ (b1 * 27 + (l * 9 + n * 3 + m)) ∷ (b2 * 27 + (m * 9 + l * 3 + n)) ∷ (b3 * 27 + (m * 9 + n * 3 + l)) ∷ (b4 * 27 + (n * 9 + l * 3 + m)) ∷ (b5 * 27 + (n * 9 + m * 3 + l)) ∷ [])
-unfolding spots six turned pick horner digits rest
-spots-are b0 b1 b2 b3 b4 b5 k = rw (in27, at, at, at, at, at, at)
-  where
-    at : (a b c : ℕ) → ((0 * 3 + a) * 3 + b) * 3 + c ≡ a * 9 + b * 3 + c
-    at a b c = omega arith
+-- the six places of directions l, m, n
+abbrev pub sixSpots : ℕ → ℕ → ℕ → ℕ → ℕ → ℕ → ℕ → ℕ → ℕ → List ℕ
+sixSpots b0 b1 b2 b3 b4 b5 l m n =
+    (b0 * 27 + (l * 9 + m * 3 + n)) ∷ (b1 * 27 + (l * 9 + n * 3 + m)) ∷ (b2 * 27 + (m * 9 + l * 3 + n)) ∷ (b3 * 27 + (m * 9 + n * 3 + l)) ∷ (b4 * 27 + (n * 9 + l * 3 + m)) ∷ (b5 * 27 + (n * 9 + m * 3 + l)) ∷ []
+
+module _ (b0 b1 b2 b3 b4 b5 : ℕ) where
+  spots-are : (k : ℕ) → spots 2 six (b0 ∷ b1 ∷ b2 ∷ b3 ∷ b4 ∷ b5 ∷ []) k ≡ sixSpots b0 b1 b2 b3 b4 b5 (k / 3 / 3 % 3) (k / 3 % 3) (k % 3)
+  unfolding spots six turned pick horner digits rest
+  spots-are k = rw (in27, at, at, at, at, at, at)
+    where
+      at : (a b c : ℕ) → ((0 * 3 + a) * 3 + b) * 3 + c ≡ a * 9 + b * 3 + c
+      at a b c = omega arith
+
+  pub spots-at : (l m n : ℕ) → l < 3 → m < 3 → n < 3 → spots 2 six (b0 ∷ b1 ∷ b2 ∷ b3 ∷ b4 ∷ b5 ∷ []) ((l * 3 + m) * 3 + n) ≡ sixSpots b0 b1 b2 b3 b4 b5 l m n
+  spots-at l m n hl hm hn =
+      let k = (l * 3 + m) * 3 + n in
+      let q : k / 3 ≡ l * 3 + m = quotient 3 (l * 3 + m) n hn in
+      let el : k / 3 / 3 % 3 ≡ l = ap (λ x. x / 3 % 3) q ∙ ap (λ x. x % 3) (quotient 3 l m hm) ∙ mod-eq-of-lt hl in
+      let em : k / 3 % 3 ≡ m = ap (λ x. x % 3) q ∙ remainder 3 l m hm in
+      let en : k % 3 ≡ n = remainder 3 (l * 3 + m) n hn in
+      spots-are k ∙ ap (λ x. sixSpots b0 b1 b2 b3 b4 b5 x (k / 3 % 3) (k % 3)) el ∙ ap₂ (λ y z. sixSpots b0 b1 b2 b3 b4 b5 l y z) em en
+
+-- the positions of directions l and m, and of l, written to their places
+unfoldable pub lineAt : List ℕ → List Float → ℕ → ℕ → List Float → List Float
+lineAt bs v l m xs = times 3 (λ n. setAll (spots 2 six bs ((l * 3 + m) * 3 + n)) (getD v ((l * 3 + m) * 3 + n) nan)) xs
+
+unfoldable pub planeAt : List ℕ → List Float → ℕ → List Float → List Float
+planeAt bs v l xs = times 3 (λ m. lineAt bs v l m) xs
+
+-- all of them
+pub planes-are : (bs : List ℕ) (v xs : List Float) → times 3 (λ l. planeAt bs v l) xs ≡ spreadBlock 2 six bs v xs
+unfolding planeAt lineAt spreadBlock
+planes-are bs v xs =
+    let f : ℕ → List Float → List Float = λ k. setAll (spots 2 six bs k) (getD v k nan) in
+    sym (times-nest (3 * 3) 3 f xs ∙ times-nest 3 3 (λ i. times 3 (λ n. f (i * 3 + n))) xs) ∙ ap (λ c. times c f xs) (sym in27)
 
 pub length-means : (mean : List Float → Float) (os : List (List ℕ)) (bs : List ℕ) (xs : List Float) → length (meanBlock mean 2 os bs xs) ≡ 27
 unfolding meanBlock

@@ -1,13 +1,16 @@
 -- The symmetrizers of third order (document 01, "Third and fourth order"): what the calls answer and what they leave. Definitions only.
-use mathlib.Core.List.{List, []}
-use Prim.Native.Nat.{ℕ}
+use mathlib.Core.List.{List, [], _∷_}
+use Prim.Native.Nat.{ℕ, _*_}
 use lib.ListN.{length, replicate}
 use lib.Ieee.{Float, nan}
 use Rattle.tables.specs.declared.Answer.{Answer}
-use Rattle.tables.specs.Answers.{after}
+use Rattle.tables.specs.declared.Answer.the-variants.{Done, CountAboveLimit, WrongLength}
+use Rattle.tables.specs.Answers.{after, refuseIf}
+use Rattle.tables.specs.Conditions.{anyAbove, anyWrong}
 use Rattle.tables.specs.Compact.{ShiftTables, shiftsOf, judgedCompact}
 use Rattle.tables.specs.Limits.{limit3}
 use Rattle.places.specs.Orders.{six}
+use Rattle.places.specs.Whole.{whole}
 use Rattle.orbits.specs.Symmetric.{symmetrized}
 use Rattle.fc3.specs.Mean.{mean6}
 
@@ -16,3 +19,15 @@ unfoldable pub setPermutationSymmetryCompactFc3 : List Float → ShiftTables →
 setPermutationSymmetryCompactFc3 set T work =
     let a = judgedCompact limit3 2 (length set) 2 (length work) T in
     (a, after a (symmetrized nan mean6 (shiftsOf T) 2 six set) set, after a (replicate (length work) 0) work)
+
+-- the guard of a full set: num_atom³ × 27 numbers
+unfoldable pub judgedFull3 : ℕ → ℕ → Answer
+judgedFull3 lenSet n =
+    refuseIf (anyAbove limit3 (n ∷ [])) CountAboveLimit
+    (refuseIf (anyWrong ((lenSet, n * n * n * 27) ∷ [])) WrongLength Done)
+
+-- the full set: a compact set in which each atom is its own representative
+unfoldable pub setPermutationSymmetryFc3 : List Float → ℕ → Answer × List Float
+setPermutationSymmetryFc3 set n =
+    let a = judgedFull3 (length set) n in
+    (a, after a (symmetrized nan mean6 (whole n) 2 six set) set)

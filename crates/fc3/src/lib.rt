@@ -1,5 +1,5 @@
 // Third order (fc3.rs).
 pub mod compact;
+pub mod full;
 pub mod mean;
 pub mod spread;
-pub mod transpose;

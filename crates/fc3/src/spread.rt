@@ -9,7 +9,7 @@ ghost use Rattle.orbits.specs.Groups.{spots, meanBlock, spreadBlock};
 ghost use Rattle.orbits.specs.Spread.{setAll};
 ghost use Rattle.orbits.specs.Scatter.{Apart, Distinct};
 ghost use Rattle.fc3.specs.Mean.{mean6, Blocks6};
-ghost use Rattle.fc3.specs.Spread.{putSix};
+ghost use Rattle.fc3.specs.Spread.{putSix, lineAt, planeAt};
 use crate::mean::group_means;
 use orbits::turn;
 
@@ -21,7 +21,7 @@ fn put(fc3: &mut [f64], b: usize, l: usize, m: usize, n: usize, x: f64)
     fc3[b * 27 + (l * 9 + m * 3 + n)] = x;
 }
 
-// The mean x of position k written to its six places.
+// The mean x of directions l, m, n written to its six places.
 fn put_spots(
     fc3: &mut [f64],
     b0: usize,
@@ -30,21 +30,66 @@ fn put_spots(
     b3: usize,
     b4: usize,
     b5: usize,
-    k: usize,
+    l: usize,
+    m: usize,
+    n: usize,
     x: f64,
 )
-    requires { ⌜ Blocks6 (length (now fc3)) b0 b1 b2 b3 b4 b5 × (k < 27) ⌝ }
-    ensures { λ _. ⌜ now (fc3 .exit) ≡ setAll (spots 2 six (b0 ∷ b1 ∷ b2 ∷ b3 ∷ b4 ∷ b5 ∷ []) k) x (now (fc3 .entry)) ⌝ }
+    requires { ⌜ Blocks6 (length (now fc3)) b0 b1 b2 b3 b4 b5 × (l < 3) × (m < 3) × (n < 3) ⌝ }
+    ensures { λ _. ⌜ now (fc3 .exit) ≡ setAll (spots 2 six (b0 ∷ b1 ∷ b2 ∷ b3 ∷ b4 ∷ b5 ∷ []) ((l * 3 + m) * 3 + n)) x (now (fc3 .entry)) ⌝ }
 {
-    let l = k / 3 / 3 % 3;
-    let m = k / 3 % 3;
-    let n = k % 3;
     put(fc3, b0, l, m, n, x);
     put(fc3, b1, l, n, m, x);
     put(fc3, b2, m, l, n, x);
     put(fc3, b3, m, n, l, x);
     put(fc3, b4, n, l, m, x);
     put(fc3, b5, n, m, l, x);
+}
+
+// The positions of directions l, m.
+fn put_line(
+    fc3: &mut [f64],
+    b0: usize,
+    b1: usize,
+    b2: usize,
+    b3: usize,
+    b4: usize,
+    b5: usize,
+    l: usize,
+    m: usize,
+    v: [f64; 27],
+)
+    requires { ⌜ Blocks6 (length (now fc3)) b0 b1 b2 b3 b4 b5 × (l < 3) × (m < 3) ⌝ }
+    ensures { λ _. ⌜ now (fc3 .exit) ≡ lineAt (b0 ∷ b1 ∷ b2 ∷ b3 ∷ b4 ∷ b5 ∷ []) v l m (now (fc3 .entry)) ⌝ }
+{
+    let mut n = 0;
+    while n < 3 {
+        let k = (l * 3 + m) * 3 + n;
+        put_spots(fc3, b0, b1, b2, b3, b4, b5, l, m, n, v[k]);
+        n += 1;
+    }
+}
+
+// The positions of direction l.
+fn put_plane(
+    fc3: &mut [f64],
+    b0: usize,
+    b1: usize,
+    b2: usize,
+    b3: usize,
+    b4: usize,
+    b5: usize,
+    l: usize,
+    v: [f64; 27],
+)
+    requires { ⌜ Blocks6 (length (now fc3)) b0 b1 b2 b3 b4 b5 × (l < 3) ⌝ }
+    ensures { λ _. ⌜ now (fc3 .exit) ≡ planeAt (b0 ∷ b1 ∷ b2 ∷ b3 ∷ b4 ∷ b5 ∷ []) v l (now (fc3 .entry)) ⌝ }
+{
+    let mut m = 0;
+    while m < 3 {
+        put_line(fc3, b0, b1, b2, b3, b4, b5, l, m, v);
+        m += 1;
+    }
 }
 
 // Position after position: where blocks coincide, the last position that writes a place holds.
@@ -61,10 +106,10 @@ fn put_positions(
     requires { ⌜ Blocks6 (length (now fc3)) b0 b1 b2 b3 b4 b5 ⌝ }
     ensures { λ _. ⌜ now (fc3 .exit) ≡ spreadBlock 2 six (b0 ∷ b1 ∷ b2 ∷ b3 ∷ b4 ∷ b5 ∷ []) v (now (fc3 .entry)) ⌝ }
 {
-    let mut k = 0;
-    while k < 27 {
-        put_spots(fc3, b0, b1, b2, b3, b4, b5, k, v[k]);
-        k += 1;
+    let mut l = 0;
+    while l < 3 {
+        put_plane(fc3, b0, b1, b2, b3, b4, b5, l, v);
+        l += 1;
     }
 }
 
@@ -136,4 +181,13 @@ pub fn work_group(fc3: &mut [f64], b0: usize, b1: usize, b2: usize, b3: usize, b
     } else {
         put_positions(fc3, b0, b1, b2, b3, b4, b5, v);
     }
+}
+
+// The same for six different blocks.
+pub fn work_apart(fc3: &mut [f64], b0: usize, b1: usize, b2: usize, b3: usize, b4: usize, b5: usize)
+    requires { ⌜ Blocks6 (length (now fc3)) b0 b1 b2 b3 b4 b5 × Distinct (b0 ∷ b1 ∷ b2 ∷ b3 ∷ b4 ∷ b5 ∷ []) ⌝ }
+    ensures { λ _. ⌜ now (fc3 .exit) ≡ spreadBlock 2 six (b0 ∷ b1 ∷ b2 ∷ b3 ∷ b4 ∷ b5 ∷ []) (meanBlock mean6 2 six (b0 ∷ b1 ∷ b2 ∷ b3 ∷ b4 ∷ b5 ∷ []) (now (fc3 .entry))) (now (fc3 .entry)) ⌝ }
+{
+    let mean = group_means(fc3, b0, b1, b2, b3, b4, b5);
+    put_blocks(fc3, b0, b1, b2, b3, b4, b5, mean);
 }

@@ -6,8 +6,7 @@ use native.Mathlib.Omega.{arith}
 use mathlib.Core.List.{List, [], _∷_, map}
 use lib.ListN.{length, getD, length-map}
 use lib.Dec.{lit≤}
-use Rattle.lists.specs.Tab.{tab, getD-tab}
-use Rattle.lists.specs.Elements.{pick, straight, getD-map}
+use Rattle.lists.specs.Elements.{pick, getD-map}
 use Rattle.lists.specs.Digits.{horner, room, rest, digits, rest-below, digits-below}
 use Rattle.tables.specs.Shifts.{Shifts, Laws, row, p2sAt, s2ppAt, nsymAt}
 use Rattle.tables.specs.Limits.{limit4}
@@ -16,12 +15,12 @@ use Rattle.tables.specs.Compact.{ShiftTables, shiftsOf, Fit, p2s-is}
 use Rattle.blocks.specs.Block.{fits}
 use Rattle.places.specs.Places.{size}
 use Rattle.places.specs.Orders.{twentyFour}
-use Rattle.places.specs.Whole.{whole, whole-laws}
+use Rattle.places.specs.Whole.{whole}
 use Rattle.places.specs.Addresses.{storedBlock}
 use Rattle.places.specs.ReadOuts.{Tables, tables, storedIn, stored-in}
 use Rattle.orbits.specs.Blockwise.{blockAtoms, storedAtoms, openedAtoms, atomsAt}
 use Rattle.orbits.specs.Transposed.{counterpart, counterpart-below, size-blocks}
-use Rattle.orbits.specs.AtBlocks.{stored-own}
+use Rattle.orbits.specs.AtBlocks.{whole-p2s, whole-block}
 use Rattle.orbits.specs.Groups.{groupBlocks}
 use Rattle.fc4.specs.Positions.{orderAt, in81, is-order}
 use Rattle.fc4.specs.Mean.{Blocks24, count24}
@@ -117,19 +116,12 @@ module _ (n : ℕ) where
   unfolding whole
   whole-patoms = refl
 
-  whole-p2s : (p : ℕ) → p < n → p2sAt (whole n) p ≡ p
-  unfolding p2sAt whole straight
-  whole-p2s p h = getD-tab n (λ k. k) p 0 h
-
-  whole-block : (i j k l : ℕ) → i < n → j < n → k < n → l < n → storedBlock (whole n) i (j ∷ k ∷ l ∷ []) ≡ horner n i (j ∷ k ∷ l ∷ [])
-  unfolding whole
-  whole-block i j k l hi hj hk hl =
-      ap (λ a. storedBlock (whole n) a (j ∷ k ∷ l ∷ [])) (sym (whole-p2s i hi))
-      ∙ stored-own (whole n) i (j ∷ k ∷ l ∷ []) (hj, (hk, (hl, tt))) (whole-laws n) hi
+  whole-four : (i j k l : ℕ) → i < n → j < n → k < n → l < n → storedBlock (whole n) i (j ∷ k ∷ l ∷ []) ≡ horner n i (j ∷ k ∷ l ∷ [])
+  whole-four i j k l hi hj hk hl = whole-block n i (j ∷ k ∷ l ∷ []) hi (hj, (hk, (hl, tt)))
 
   six-whole : (w x y z : ℕ) → w < n → x < n → y < n → z < n → sixFrom (storedBlock (whole n)) w x y z ≡ sixFrom (horner n) w x y z
   six-whole w x y z hw hx hy hz =
-      six (whole-block w x y z hw hx hy hz) (whole-block w x z y hw hx hz hy) (whole-block w y x z hw hy hx hz) (whole-block w y z x hw hy hz hx) (whole-block w z x y hw hz hx hy) (whole-block w z y x hw hz hy hx)
+      six (whole-four w x y z hw hx hy hz) (whole-four w x z y hw hx hz hy) (whole-four w y x z hw hy hx hz) (whole-four w y z x hw hy hz hx) (whole-four w z x y hw hz hx hy) (whole-four w z y x hw hz hy hx)
     where
       six : {a b c d e f a′ b′ c′ d′ e′ f′ : ℕ} → a ≡ a′ → b ≡ b′ → c ≡ c′ → d ≡ d′ → e ≡ e′ → f ≡ f′ → a ∷ b ∷ c ∷ d ∷ e ∷ f ∷ [] ≡ a′ ∷ b′ ∷ c′ ∷ d′ ∷ e′ ∷ f′ ∷ []
       six p q r s t u = cc
@@ -150,7 +142,7 @@ module _ (n : ℕ) where
         let j = b / n / n % n in
         let k = b / n % n in
         let l = b % n in
-        sym (spelled ∙ ap (λ i. blocksOf (storedBlock (whole n)) i j k l) (whole-p2s i hi)
+        sym (spelled ∙ ap (λ i. blocksOf (storedBlock (whole n)) i j k l) (whole-p2s n i hi)
         ∙ joined-are (horner n) i j k l refl (six-whole i j k l hi hj hk hl) (six-whole j i k l hj hi hk hl) (six-whole k i j l hk hi hj hl) (six-whole l i j k hl hi hj hk))
       where
         spelled : groupBlocks (whole n) 3 twentyFour b ≡ blocksOf (storedBlock (whole n)) (p2sAt (whole n) (b / n / n / n)) (b / n / n % n) (b / n % n) (b % n)

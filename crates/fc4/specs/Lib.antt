@@ -5,5 +5,3 @@ pub mod Spread
 pub mod Blocks
 pub mod Symmetrize
 pub mod Loops
-pub mod Transpose
-pub mod Trades

@@ -5,4 +5,3 @@ pub mod group;
 pub mod mean;
 pub mod positions;
 pub mod spread;
-pub mod transpose;

@@ -20,7 +20,7 @@ use Rattle.tables.specs.Compact.{ShiftTables, shiftsOf, Compact, done-compact}
 use Rattle.places.specs.Places.{Leg, Fit, Legs, readOut, size, length-fill}
 use Rattle.places.specs.Orders.{taken, Order}
 use Rattle.places.specs.Moves.{order, moved, traded, transposed, readOut-transposed}
-use Rattle.fc3.specs.Transpose.{transposedBy, judgedTranspose, transposeCompactFc3}
+use Rattle.transposes.specs.Fc3.{transposedBy, judgedTranspose, transposeCompactFc3}
 use Rattle.laws.specs.Sequences.{Step, leaves, spells, Steps, Onto, stands, one-set}
 
 -- ---- a call, by its arguments besides the set

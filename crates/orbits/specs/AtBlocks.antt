@@ -4,9 +4,11 @@ use mathlib.Core.Path.{_≡_, refl, sym, ap, ap₂, _∙_}
 use Prim.Native.Nat.{ℕ, zero, suc, _+_, _*_, _<_}
 use mathlib.Core.List.{List, [], _∷_, map}
 use lib.ListN.{length, getD}
-use Rattle.lists.specs.Elements.{All, Below, pick, map-id}
+use Rattle.lists.specs.Tab.{getD-tab}
+use Rattle.lists.specs.Elements.{All, Below, pick, straight, map-id}
 use Rattle.lists.specs.Digits.{horner, room, rest, digits, rest-horner, digits-horner}
 use Rattle.tables.specs.Shifts.{Shifts, Laws, row, p2sAt, s2ppAt, nsymAt, nsym-p2s}
+use Rattle.places.specs.Whole.{whole, whole-laws}
 use Rattle.places.specs.Addresses.{storedBlock}
 use Rattle.orbits.specs.Blockwise.{blockAtoms, storedAtoms, openedAtoms, atomsAt}
 use Rattle.orbits.specs.Transposed.{counterpart}
@@ -36,3 +38,17 @@ module _ (S : Shifts) (p : ℕ) (js : List ℕ) (b : Below (S .nSatom) js) where
   unfolding storedBlock
   stored-own L h =
       ap₂ (horner (S .nSatom)) (L .s2pp-p2s p h) (map-id (λ k. k < S .nSatom) (row S (nsymAt S (p2sAt S p))) js (λ k hk. nsym-p2s S L p k h hk) b)
+
+-- a full set, in which each atom is its own representative: the stored block of atoms is the block of these atoms
+pub whole-p2s : (n i : ℕ) → i < n → p2sAt (whole n) i ≡ i
+unfolding p2sAt whole straight
+whole-p2s n i h = getD-tab n (λ k. k) i 0 h
+
+module _ (n i : ℕ) (js : List ℕ) (h : i < n) (b : Below n js) where
+  pub whole-block : storedBlock (whole n) i js ≡ horner n i js
+  unfolding whole
+  whole-block = ap (λ a. storedBlock (whole n) a js) (sym (whole-p2s n i h)) ∙ stored-own (whole n) i js b (whole-laws n) h
+
+  pub whole-counterpart : (σ : List ℕ) → counterpart (whole n) (length js) σ (horner n i js) ≡ storedOf (whole n) (pick 0 σ (i ∷ js))
+  unfolding whole
+  whole-counterpart σ = counterpart-at (whole n) i js b σ ∙ ap (λ a. storedOf (whole n) (pick 0 σ (a ∷ js))) (whole-p2s n i h)

@@ -3,27 +3,34 @@
 use mathlib.Core.Path.{_≡_, refl, sym, ap, ap₂, _∙_}
 use mathlib.Core.Bool.{Bool, true, false, cond}
 use Prim.Native.Nat.{ℕ, zero, suc, _+_, _*_, _/_, _%_, _≤_, _<_}
+use native.Mathlib.Nat.{le-antisymm}
 use native.Mathlib.Decide.{ℕ-discrete}
 use native.Mathlib.Omega.{arith}
 use mathlib.Core.List.{List, [], _∷_, map}
 use lib.ListN.{length, getD}
 use lib.Dec.{eqb}
 use lib.Ieee.{Float, nan}
-use borrow.Author.Tests.{eq-eqb, ne-eqb}
+use borrow.Author.Tests.{eqb-true, eqb-false, eq-eqb, ne-eqb}
 use Rattle.lists.specs.Tab.{times}
 use Rattle.lists.specs.Digits.{room}
+use Rattle.lists.specs.Elements.{All}
+use Rattle.lists.specs.Members.{In, all-in, least, least-le, least-in}
 use Rattle.tables.specs.Shifts.{Shifts, Laws}
 use Rattle.places.specs.Places.{size}
 use Rattle.places.specs.Orders.{Group}
 use Rattle.orbits.specs.Blockwise.{inBlock}
-use Rattle.orbits.specs.Symmetric.{symmetrized}
+use Rattle.orbits.specs.Symmetric.{firstBlock, symmetrized}
 use Rattle.orbits.specs.Symmetrizer.{imgs, groups, orbits, symmetrizes}
-use Rattle.orbits.specs.Spread.{setAll, spread, blocksOf, fbOf, Written, Marked, written-start, written-skip, written-take, marked-start, marked-skip, marked-take, met, not-met}
+use Rattle.orbits.specs.Spread.{setAll, spread, blocksOf, fbOf, Written, Marked, written-start, written-skip, written-take, first-le, marked-start, marked-skip, marked-take, met, not-met}
 use Rattle.orbits.specs.Groups.{groupBlocks, meanBlock, spreadBlock, spread-is, marked-are}
 
 -- a set and its done table
 abbrev pub State : Type 0
 State = List Float × List ℕ
+
+-- whether block n is the first of its group: none of the group's blocks is lower
+unfoldable pub isFirst : ℕ → List (List ℕ) → Shifts → ℕ → Bool
+isFirst m os S n = eqb (least (groupBlocks S m os n)) n
 
 module _ (mean : List Float → Float) (m : ℕ) (os : List (List ℕ)) where
   -- the group of block n worked out and written
@@ -40,6 +47,21 @@ module _ (mean : List Float → Float) (m : ℕ) (os : List (List ℕ)) where
   unfoldable pub firstVisit : (ℕ → Bool) → Shifts → ℕ → List Float → List Float
   unfolding worked
   firstVisit first S n xs = cond (first n) (worked S n xs) xs
+
+  -- a visit with that test
+  pub visit-first : (S : Shifts) (n : ℕ) (xs : List Float) → In n (groupBlocks S m os n) → All (λ b. n ≤ b) (groupBlocks S m os n) → firstVisit (isFirst m os S) S n xs ≡ worked S n xs
+  unfolding firstVisit isFirst
+  visit-first S n xs i a =
+      let bs = groupBlocks S m os n in
+      let e : least bs ≡ n = le-antisymm (least-le bs n i) (all-in (λ b. n ≤ b) bs a (least bs) (least-in bs n i)) in
+      rw (eq-eqb (least bs) n e)
+
+  pub visit-later : (S : Shifts) (n b : ℕ) (xs : List Float) → In b (groupBlocks S m os n) → b < n → firstVisit (isFirst m os S) S n xs ≡ xs
+  unfolding firstVisit isFirst
+  visit-later S n b xs i h =
+      let bs = groupBlocks S m os n in
+      let l = least-le bs b i in
+      rw (ne-eqb (least bs) n (λ e. omega arith))
 
 module _ (mean : List Float → Float) (S : Shifts) (L : Laws S) (m : ℕ) (os : List (List ℕ)) (G : Group m os) (old : List Float) where
   worked-is : (n : ℕ) (xs : List Float) → n < room (S .nSatom) m (S .nPatom) → spread nan mean (inBlock m) (imgs S L m os G) xs n (inBlock m) ≡ worked mean m os S n xs
@@ -105,3 +127,22 @@ module _ (mean : List Float → Float) (S : Shifts) (L : Laws S) (m : ℕ) (os :
 
     pub first-leaves : length old ≡ size S m → times (room (S .nSatom) m (S .nPatom)) (firstVisit mean m os first S) old ≡ symmetrized nan mean S m os old
     first-leaves lo = symmetrizes S L m os G nan mean old _ (written-to lo (room (S .nSatom) m (S .nPatom)) (omega arith))
+
+  -- the first block of the group of block n is the lowest of the group's blocks
+  lowest-is : (n : ℕ) → n < room (S .nSatom) m (S .nPatom) → fbOf (groups S L m os G) (n * inBlock m) ≡ least (groupBlocks S m os n)
+  unfolding firstBlock
+  lowest-is n h = ap least (marked-are S L m os G n h)
+
+  pub lowest-leaves : length old ≡ size S m → times (room (S .nSatom) m (S .nPatom)) (firstVisit mean m os (isFirst m os S) S) old ≡ symmetrized nan mean S m os old
+  unfolding isFirst
+  lowest-leaves lo =
+      first-leaves (λ n. eqb (least (groupBlocks S m os n)) n)
+      (λ n h e. lowest-is n h ∙ eqb-true (least (groupBlocks S m os n)) n e)
+      (λ n h e.
+      let l = lowest-is n h in
+      let u = first-le (groups S L m os G) (orbits S L m os G) n h in
+      let d = eqb-false (least (groupBlocks S m os n)) n e in
+      go _ _ n l u d) lo
+    where
+      go : (a b n : ℕ) → a ≡ b → a ≤ n → (b ≡ n → ⊥) → a < n
+      go a b n e u d = let f : (a ≡ n → ⊥) = λ g. d (sym e ∙ g) in omega arith

@@ -11,3 +11,4 @@ pub mod Groups
 pub mod GroupLoop
 pub mod Scatter
 pub mod AtBlocks
+pub mod AnyOrder

@@ -177,6 +177,12 @@ module _ (G : Groups) (O : Orbits G) where
       let b : fb q * c < N = block-start (fb q) (rw (lead-block q h) at (block-below (lead q) hl)) in
       fb-block (fb q * c) (lead q) b hl (at-block (fb q) ∙ sym (lead-block q h)) ∙ fb-mate q (lead q) h (lead-in q h)
 
+  -- Where n is the first block of its group, the images of its places have n for their first block.
+  pub group-first : (n k q : ℕ) → n < B → fb (n * c) ≡ n → k < c → In q (imgs (n * c + k)) → fb q ≡ n
+  group-first n k q hn f hk i =
+      let h = place-below n k hn hk in
+      fb-mate (n * c + k) q h i ∙ fb-block (n * c + k) (n * c) h (block-start n hn) (in-block n k hk ∙ sym (at-block n)) ∙ f
+
   -- ---- the steps
 
   module _ {A : Type 0} (z : A) (mean : List A → A) (old : List A) where
@@ -233,7 +239,7 @@ module _ (G : Groups) (O : Orbits G) where
 
         -- the places that are written are those whose group has n for its first block
         in-group : (q k : ℕ) → q < N → k < c → In q (imgs (n * c + k)) → fb q ≡ n
-        in-group q k h hk i = fb-mate (n * c + k) q (place-below n k hn hk) i ∙ fb-base k hk
+        in-group q k h hk i = group-first n k q hn f hk i
 
         numbers-next : (q : ℕ) → q < N → getD (spread z mean c imgs l n c) q z ≡ cond (ltb (fb q) (suc n)) (new q) (getD old q z)
         numbers-next q h = go (ℕ-discrete (fb q) n)

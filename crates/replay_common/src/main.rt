@@ -2,10 +2,9 @@
 // oracle/ makes: the number of records, and for each the words x, nint x, x rounded, the root of x.
 // It writes how many answers were compared and how many differ, any NaN equal to any NaN, and a
 // checksum of the inputs and of all that was worked out from them.
-mod records;
-
 ghost use Prim.Native.Nat.{_+_, _*_, _-_, _≤_};
 ghost use lib.ListN.{length};
+use records::steps::plus;
 
 // What was compared so far: records, those whose rounding or root is NaN, differences, checksum.
 struct Tally {
@@ -16,10 +15,6 @@ struct Tally {
     round: u64,
     sqrt: u64,
     sum: u64,
-}
-
-fn plus(a: u64, b: u64) -> u64 {
-    std::num::wrapping_add_u64(a, b)
 }
 
 fn is_nan(x: f64) -> u64 {

@@ -10,23 +10,9 @@ use borrow.Author.Count.{below-none, below-more}
 use mathlib.Core.Logic.{⊎-elim}
 use Rattle.lists.specs.Cases.{lt-or-le}
 use lib.Ieee.{Float, nan, add, mul, binary64, ofBits}
-use Rattle.lists.specs.Tab.{tab, length-tab, getD-tab, is-tab, tab-ext, fill-more, times, times-more}
-use Rattle.lists.specs.Digits.{in-row}
+use Rattle.lists.specs.Tab.{tab, length-tab, getD-tab, is-tab, tab-ext, fill-more, times, times-more, times-same}
+use Rattle.lists.specs.Digits.{in-row, quotient, remainder}
 use Rattle.rotations.specs.Rotation.{plusZero, coefficient, weighted, rotated, transposed, coefficients, widenedAt, widened, shared, sums}
-
--- ---- numbers by a digit to the base w
-
-pub radix-div : (a w b : ℕ) → b < w → (a * w + b) / w ≡ a
-radix-div a w b h = mul-add-div-right (omega arith) a b ∙ ap (λ n. a + n) (div-eq-of-lt h) ∙ add-zero a
-
-pub radix-mod : (a w b : ℕ) → b < w → (a * w + b) % w ≡ b
-radix-mod a w b h = mul-add-mod-self-right a w b ∙ mod-eq-of-lt h
-
--- two loops whose turns do the same
-pub times-same : {A : Type 0} (n : ℕ) (f g : ℕ → A → A) (x : A) → ((i : ℕ) → i < n → (y : A) → f i y ≡ g i y) → times n f x ≡ times n g x
-unfolding times
-times-same zero f g x h = refl
-times-same (suc n) f g x h = h n (omega arith) (times n f x) ∙ ap (g n) (times-same n f g x (λ i l y. h i (omega arith) y))
 
 -- ---- the coefficients
 
@@ -34,7 +20,7 @@ pub getD-coefficients : (m : List Float) (n w p q : ℕ) → p < w → q < w →
 unfolding coefficients
 getD-coefficients m n w p q hp hq =
     getD-tab (w * w) _ (q * w + p) nan (in-row w w q p hq hp)
-    ∙ rw (radix-mod q w p hp, radix-div q w p hp)
+    ∙ rw (remainder w q p hp, quotient w q p hp)
 
 -- what stands at a place of the wider table
 pub widened-at : (w : ℕ) (c m : List Float) (q a b : ℕ) → a < w → b < 3
@@ -42,7 +28,7 @@ pub widened-at : (w : ℕ) (c m : List Float) (q a b : ℕ) → a < w → b < 3
 unfolding widenedAt
 widened-at w c m q a b ha hb =
     let h : a * 3 + b < 3 * w = omega arith in
-    sym (rw (radix-div q (3 * w) (a * 3 + b) h, radix-mod q (3 * w) (a * 3 + b) h, radix-div a 3 b hb, radix-mod a 3 b hb) refl)
+    sym (rw (quotient (3 * w) q (a * 3 + b) h, remainder (3 * w) q (a * 3 + b) h, quotient 3 a b hb, remainder 3 a b hb) refl)
 
 third : (w p : ℕ) → p < 3 * w → p / 3 < w
 third w p h = omega arith

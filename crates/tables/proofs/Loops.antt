@@ -25,14 +25,3 @@ told-no {r} e h = sym e ∙ not-true r h
 
 pub told-yes : {r b : Bool} → r ≡ b → not r ≡ false → b ≡ true
 told-yes {r} e h = sym e ∙ not-false r h
-
--- a chain of conditions, tested one after the other
-pub or-first : (a b : Bool) → a ≡ true → true ≡ (a || b)
-or-first a b e = rw e
-
-pub or-next : (a b : Bool) {r : Bool} → a ≡ false → r ≡ b → r ≡ (a || b)
-or-next a b e h = rw e h
-
-pub or-last : (a : Bool) {r : Bool} → r ≡ a → r ≡ (a || false)
-or-last true h = h
-or-last false h = h

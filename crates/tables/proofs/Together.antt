@@ -20,14 +20,6 @@ use Rattle.tables.specs.Rows.{rowsOf}
 pub product-small : (a b : ℕ) → a ≤ 1024 → b ≤ 1024 → a * b ≤ 1048576
 product-small a b ha hb = omega (arith, mul-le-mul-right b ha)
 
-pub or-none : (b : Bool) → (b || false) ≡ b
-or-none true = refl
-or-none false = refl
-
-pub not-not : (b : Bool) → not (not b) ≡ b
-not-not true = refl
-not-not false = refl
-
 module _ (S : Shifts) where
   pub rules-of : ruled S ≡ true
       → (countsAgree S ≡ true) × ((rowsInjective S ≡ true) × ((hasNull S ≡ true) × ((rowsClosed S ≡ true) × ((rowsFree S ≡ true) × ((p2sBack S ≡ true) × ((s2ppKept S ≡ true) × (nsymLands S ≡ true)))))))

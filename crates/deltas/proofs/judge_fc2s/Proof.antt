@@ -1,7 +1,8 @@
 use mathlib.Core.Path.{refl, sym, _∙_}
 use native.Mathlib.Omega.{arith}
 use native.Mathlib.Nat.{mul-le-mul}
-use Rattle.deltas.specs.Guard.{counts-small, judged-is, not-not, square}
+use Rattle.deltas.specs.Guard.{counts-small, judged-is, square}
+use Rattle.lists.specs.Tests.{not-not}
 use borrow.Author.Needs.{needs}
 use Rattle.deltas.proofs.judge_fc2s.Statement.{statement}
 use Rattle.deltas.proofs.judge_fc2s.Tie as tie

@@ -1,7 +1,8 @@
 use mathlib.Core.Path.{refl, sym, _∙_}
 use native.Mathlib.Omega.{arith}
 use native.Mathlib.Nat.{mul-le-mul}
-use Rattle.deltas.specs.Guard.{counts-small, judged-is, not-not, cube}
+use Rattle.deltas.specs.Guard.{counts-small, judged-is, cube}
+use Rattle.lists.specs.Tests.{not-not}
 use borrow.Author.Needs.{needs}
 use Rattle.deltas.proofs.judge_fc3s.Statement.{statement}
 use Rattle.deltas.proofs.judge_fc3s.Tie as tie

@@ -2,7 +2,8 @@ use mathlib.Core.Path.{refl, ap}
 use mathlib.Core.Bool.{not}
 use native.Mathlib.Omega.{arith}
 use borrow.Author.Tests.{eq-eqb, ne-eqb}
-use Rattle.deltas.specs.Guard.{sizes, or-here, or-next}
+use Rattle.deltas.specs.Guard.{sizes}
+use Rattle.lists.specs.Tests.{or-here, or-next}
 use borrow.Author.Needs.{needs}
 use Rattle.deltas.proofs.lengths_wrong.Statement.{statement}
 use Rattle.deltas.proofs.lengths_wrong.Tie as tie

@@ -7,27 +7,21 @@ use Rattle.fc2.proofs.drift.conclude.Reads as reads
 use Rattle.fc2.proofs.drift.conclude.Lts as lts
 use Rattle.fc2.proofs.drift.report_at.Reads as report-at-reads
 
--- src/drift.rt:159:9
 report-at-requires : tie.Need-report-at-requires
 report-at-requires c κs = search needs
 
--- src/drift.rt:159:9
 returns : tie.Need-returns
 returns c = c .report-at .ensures ∙ conclude-none (c .before .before .args .c) (c .before .if1 .taken)
 
--- src/drift.rt:162:9
 report-at-requires-2 : tie.Need-report-at-requires-2
 report-at-requires-2 c κs = search needs
 
--- src/drift.rt:162:9
 returns-2 : tie.Need-returns-2
 returns-2 c = c .report-at2 .ensures ∙ conclude-still (c .before .before .before .before .args .c) (c .before .before .before .if1 .left) (c .before .if2 .taken)
 
--- src/drift.rt:164:5
 report-at-requires-3 : tie.Need-report-at-requires-3
 report-at-requires-3 c κs = search needs
 
--- src/drift.rt:155:1
 returns-3 : tie.Need-returns-3
 returns-3 c = c .report-at3 .ensures ∙ conclude-worst (c .before .before .before .before .args .c) (c .before .before .before .if1 .left) (c .before .if2 .left)
 

@@ -12,33 +12,27 @@ use Rattle.fc2.proofs.drift.judge_drift.Reads as judge-drift-reads
 use Rattle.fc2.proofs.drift.scan.Reads as scan-reads
 use Rattle.tables.proofs.is_refusal.Reads as is-refusal-reads
 
--- src/drift.rt:183:9
 judge-drift-requires : tie.Need-judge-drift-requires
 judge-drift-requires c κs = search needs
 
--- src/drift.rt:184:8
 is-refusal-requires : tie.Need-is-refusal-requires
 is-refusal-requires c κs = search needs
 
--- src/drift.rt:185:9
 returns : tie.Need-returns
 returns c =
     let j = c .before .before in
     let s = j .before .before in
     report-refused (j .judge-drift .result) (s .args .fc .now) (s .args .n-satom) (j .judge-drift .ensures) (sym (c .before .is-refusal .ensures) ∙ c .if1 .taken)
 
--- src/drift.rt:187:9
 scan-requires : tie.Need-scan-requires
 scan-requires c κs =
     let j = c .before .before in
     let s = j .before .before in
     sized (j .judge-drift .result) (s .args .fc .now) (s .args .n-satom) (j .judge-drift .ensures) (sym (c .before .is-refusal .ensures) ∙ c .if1 .left)
 
--- src/drift.rt:188:25
 conclude-requires : tie.Need-conclude-requires
 conclude-requires c κs = search needs
 
--- src/drift.rt:180:1
 returns-2 : tie.Need-returns-2
 returns-2 c =
     let i = c .before .before in

@@ -7,23 +7,18 @@ use Rattle.fc2.proofs.drift.judge_drift.Tie as tie
 use Rattle.fc2.proofs.drift.judge_drift.Reads as reads
 use Rattle.fc2.proofs.drift.judge_drift.Lts as lts
 
--- src/drift.rt:171:9
 returns : tie.Need-returns
 returns c = simp (lt-ltb _ _ (c .if1 .taken))
 
--- src/drift.rt:173:15
 mul-if2 : tie.Need-mul-if2
 mul-if2 c = let g = square (c .before .args .n) (omega arith) in omega arith
 
--- src/drift.rt:173:15
 mul-if2-2 : tie.Need-mul-if2-2
 mul-if2-2 c = let g = square (c .before .args .n) (omega arith) in omega arith
 
--- src/drift.rt:174:9
 returns-2 : tie.Need-returns-2
 returns-2 c = simp (le-ltb _ _ (c .before .if1 .left), ne-eqb _ _ (c .if2 .taken))
 
--- src/drift.rt:167:1
 returns-3 : tie.Need-returns-3
 returns-3 c = simp (le-ltb _ _ (c .before .if1 .left), eq-eqb _ _ (c .if2 .left))
 

@@ -6,25 +6,20 @@ use Rattle.fc2.proofs.drift.look.Reads as reads
 use Rattle.fc2.proofs.drift.look.Lts as lts
 use Rattle.fc2.proofs.drift.magnitude.Reads as magnitude-reads
 
--- src/drift.rt:90:13
 returns : tie.Need-returns
 returns c = simp (c .before .if1 .taken, c .if2 .taken)
 
--- src/drift.rt:92:9
 returns-2 : tie.Need-returns-2
 returns-2 c = simp (c .before .if1 .taken, c .if2 .left)
 
--- src/drift.rt:99:9
 magnitude-requires : tie.Need-magnitude-requires
 magnitude-requires c κs = search needs
 
--- src/drift.rt:101:9
 returns-3 : tie.Need-returns-3
 returns-3 c =
     let s = c .before .before .before .before in
     look-raised (s .args .r) (s .args .x) (s .args .c) (c .before .before .magnitude .result) (c .before .before .magnitude .ensures) (c .before .before .before .if1 .left) (c .if3 .taken)
 
--- src/drift.rt:85:1
 returns-4 : tie.Need-returns-4
 returns-4 c =
     let s = c .before .before .before .before in

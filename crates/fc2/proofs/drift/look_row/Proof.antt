@@ -18,45 +18,35 @@ Inv-loop i s seen₀ p₀ seen p = (p ≤ 9) × (seen ≡ times p (λ k. look (i
 abbrev μ-loop : tie.MeasureT-loop
 μ-loop i s seen₀ p₀ seen p = 9 - p
 
--- src/drift.rt:117:5
 loop-holds : tie.Need-loop-holds Inv-loop μ-loop
 loop-holds c = (omega arith, times-none _ _)
 
--- src/drift.rt:118:17
 mul-x : tie.Need-mul-x Inv-loop μ-loop
 mul-x c = search needs
 
--- src/drift.rt:118:17
 array-read-x : tie.Need-array-read-x Inv-loop μ-loop
 array-read-x c = search needs
 
--- src/drift.rt:119:25
 mul-look : tie.Need-mul-look Inv-loop μ-loop
 mul-look c = search needs
 
--- src/drift.rt:119:25
 add-look : tie.Need-add-look Inv-loop μ-loop
 add-look c = search needs
 
--- src/drift.rt:119:13
 look-requires : tie.Need-look-requires Inv-loop μ-loop
 look-requires c κs = search needs
 
--- src/drift.rt:117:9
 add-p : tie.Need-add-p Inv-loop μ-loop
 add-p c = search needs
 
--- src/drift.rt:117:5
 loop-less : tie.Need-loop-less Inv-loop μ-loop
 loop-less c = search needs
 
--- src/drift.rt:117:5
 loop-again : tie.Need-loop-again Inv-loop μ-loop
 loop-again c =
     let l = c .before .before .loop in
     (omega arith, times-more (l .p) _ _ (l .inv .1) (c .look .ensures))
 
--- src/drift.rt:112:1
 returns : tie.Need-returns Inv-loop μ-loop
 unfolding lookRow
 returns c =

@@ -7,15 +7,12 @@ use Rattle.fc2.proofs.drift.magnitude.Tie as tie
 use Rattle.fc2.proofs.drift.magnitude.Reads as reads
 use Rattle.fc2.proofs.drift.magnitude.Lts as lts
 
--- src/drift.rt:76:9
 returns : tie.Need-returns
 returns c = magnitude-less (c .before .args .x) (c .if1 .taken)
 
--- src/drift.rt:79:9
 returns-2 : tie.Need-returns-2
 returns-2 c = magnitude-zero (c .before .before .args .x) (subst T (sym (c .before .before .good .0 .1)) tt) (c .if2 .taken)
 
--- src/drift.rt:72:1
 returns-3 : tie.Need-returns-3
 returns-3 c = magnitude-more (c .before .before .args .x) (c .before .if1 .left) (c .if2 .left)
 

@@ -1,6 +1,6 @@
 use Rattle.fc2.specs.DriftLoops.{lookRow, scanned, start}
-use Rattle.fc2.specs.FullLaws.{run-line, block-fits, square}
-use Rattle.fc2.specs.FullLoops.{lineSums, zeros, Sized}
+use Rattle.lines.specs.Nine.{zeros}
+use Rattle.lines.specs.Lines.{lineSums, row-few, run-line}
 use Rattle.lists.specs.Tab.{times, times-none, times-more}
 use mathlib.Core.Path.{_≡_, refl, ap, sym, _∙_}
 use native.Mathlib.Omega.{arith}
@@ -11,7 +11,7 @@ use Rattle.fc2.proofs.drift.scan.Tie as tie
 use Rattle.fc2.proofs.drift.scan.Reads as reads
 use Rattle.fc2.proofs.drift.scan.Lts as lts
 use Rattle.fc2.proofs.drift.look_row.Reads as look-row-reads
-use Rattle.fc2.proofs.full.line_sums.Reads as line-sums-reads
+use Rattle.lines.proofs.line_sums.Reads as line-sums-reads
 
 abbrev Inv-loop : tie.InvT-loop
 Inv-loop fc n seen₀ i₀ seen i = (i ≤ n) × (seen ≡ times i (λ k. lookRow k (lineSums (k * n) 1 n fc zeros)) seen₀)
@@ -19,45 +19,35 @@ Inv-loop fc n seen₀ i₀ seen i = (i ≤ n) × (seen ≡ times i (λ k. lookRo
 abbrev μ-loop : tie.MeasureT-loop
 μ-loop fc n seen₀ i₀ seen i = n - i
 
--- src/drift.rt:135:5
 loop-holds : tie.Need-loop-holds Inv-loop μ-loop
 loop-holds c = (omega arith, times-none _ _)
 
--- src/drift.rt:136:50
 mul-line-sums : tie.Need-mul-line-sums Inv-loop μ-loop
 mul-line-sums c =
     let s = c .before .before .before in
     let l = c .before .loop in
-    let h = block-fits (s .pre) (l .i) (l .i) (c .loop-test .taken) (c .loop-test .taken) in
-    let g = square (s .args .n) (s .pre .small) in
-    omega arith
+    omega (arith, row-few (s .pre) (l .i) (c .loop-test .taken))
 
--- src/drift.rt:136:13
 line-sums-requires : tie.Need-line-sums-requires Inv-loop μ-loop
 line-sums-requires c κs =
     let s = c .before .before .before in
     let l = c .before .loop in
-    run-line (s .pre) (l .i) 0 (s .args .n) (l .i * s .args .n) (c .loop-test .taken) (omega arith) (omega arith)
+    run-line (s .pre) (l .i) (s .args .n) (l .i * s .args .n) (c .loop-test .taken) (omega arith)
 
--- src/drift.rt:137:13
 look-row-requires : tie.Need-look-row-requires Inv-loop μ-loop
 look-row-requires c κs = let h = c .before .before .before .before .pre .small in omega arith
 
--- src/drift.rt:135:9
 add-i : tie.Need-add-i Inv-loop μ-loop
 add-i c = search needs
 
--- src/drift.rt:135:5
 loop-less : tie.Need-loop-less Inv-loop μ-loop
 loop-less c = search needs
 
--- src/drift.rt:135:5
 loop-again : tie.Need-loop-again Inv-loop μ-loop
 loop-again c =
     let l = c .before .before .before .loop in
     (omega arith, times-more (l .i) _ _ (l .inv .1) (c .look-row .ensures ∙ ap (λ s. lookRow (l .i) s (l .seen)) (c .before .line-sums .ensures)))
 
--- src/drift.rt:125:1
 returns : tie.Need-returns Inv-loop μ-loop
 unfolding scanned
 returns c =

@@ -8,27 +8,21 @@ use Rattle.fc2.proofs.drift.value.Tie as tie
 use Rattle.fc2.proofs.drift.value.Reads as reads
 use Rattle.fc2.proofs.drift.value.Lts as lts
 
--- src/drift.rt:47:25
 enum-told : tie.Need-enum-told
 enum-told c = search needs
 
--- src/drift.rt:48:22
 enum-known-d : tie.Need-enum-known-d
 enum-known-d c = search needs
 
--- src/drift.rt:49:28
 enum-told-2 : tie.Need-enum-told-2
 enum-told-2 c = search needs
 
--- src/drift.rt:43:1
 returns : tie.Need-returns
 returns c = search needs
 
--- src/drift.rt:43:1
 returns-2 : tie.Need-returns-2
 returns-2 c = search needs
 
--- src/drift.rt:43:1
 returns-3 : tie.Need-returns-3
 unfolding div ofBits
 returns-3 c = ap valueOf (sym (c .enum-told2 .given .1))

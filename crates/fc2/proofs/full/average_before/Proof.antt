@@ -1,5 +1,6 @@
 use Rattle.fc2.specs.FullLaws.{pair-inside, square}
-use Rattle.fc2.specs.FullLoops.{pairAt, pairsBefore, Inside, Sized}
+use Rattle.fc2.specs.FullLoops.{pairsBefore}
+use Rattle.lines.specs.Lines.{pairAt}
 use Rattle.lists.specs.Tab.{times, times-none, times-more}
 use mathlib.Core.Path.{_≡_, refl, ap, sym, _∙_, subst}
 use lib.ListN.{length}
@@ -10,7 +11,7 @@ use Rattle.fc2.proofs.full.average_before.Statement.{statement}
 use Rattle.fc2.proofs.full.average_before.Tie as tie
 use Rattle.fc2.proofs.full.average_before.Reads as reads
 use Rattle.fc2.proofs.full.average_before.Lts as lts
-use Rattle.fc2.proofs.full.average_pair.Reads as average-pair-reads
+use Rattle.lines.proofs.average_pair.Reads as average-pair-reads
 
 abbrev Inv-loop : tie.InvT-loop
 Inv-loop fc₀ n i j₀ fc j = (j ≤ i) × (length fc ≡ length fc₀) × (fc ≡ times j (λ k. pairAt (k * n + i) (i * n + k)) fc₀)
@@ -18,53 +19,42 @@ Inv-loop fc₀ n i j₀ fc j = (j ≤ i) × (length fc ≡ length fc₀) × (fc 
 abbrev μ-loop : tie.MeasureT-loop
 μ-loop fc₀ n i j₀ fc j = i - j
 
--- src/full.rt:184:5
 loop-holds : tie.Need-loop-holds Inv-loop μ-loop
 loop-holds c = (omega arith, refl, times-none _ _)
 
--- src/full.rt:185:26
 mul-average-pair : tie.Need-mul-average-pair Inv-loop μ-loop
 mul-average-pair c = let s = c .before .before .before .before in let l = c .before .before .loop in let h = pair-inside (s .pre .0) (s .args .i) (l .j) (s .pre .1) (omega arith) in let g = square (s .args .n) (s .pre .0 .small) in omega arith
 
--- src/full.rt:185:26
 add-average-pair : tie.Need-add-average-pair Inv-loop μ-loop
 add-average-pair c = let s = c .before .before .before .before in let l = c .before .before .loop in let h = pair-inside (s .pre .0) (s .args .i) (l .j) (s .pre .1) (omega arith) in let g = square (s .args .n) (s .pre .0 .small) in omega arith
 
--- src/full.rt:185:37
 mul-average-pair-2 : tie.Need-mul-average-pair-2 Inv-loop μ-loop
 mul-average-pair-2 c = let s = c .before .before .before .before in let l = c .before .before .loop in let h = pair-inside (s .pre .0) (s .args .i) (l .j) (s .pre .1) (omega arith) in let g = square (s .args .n) (s .pre .0 .small) in omega arith
 
--- src/full.rt:185:37
 add-average-pair-2 : tie.Need-add-average-pair-2 Inv-loop μ-loop
 add-average-pair-2 c = let s = c .before .before .before .before in let l = c .before .before .loop in let h = pair-inside (s .pre .0) (s .args .i) (l .j) (s .pre .1) (omega arith) in let g = square (s .args .n) (s .pre .0 .small) in omega arith
 
--- src/full.rt:185:9
 average-pair-requires : tie.Need-average-pair-requires Inv-loop μ-loop
 average-pair-requires c κs =
     let l = c .before .before .loop in
     let s = c .before .before .before .before in
     rw (l .inv .1) (pair-inside (s .pre .0) (s .args .i) (l .j) (s .pre .1) (omega arith))
 
--- src/full.rt:184:9
 add-j : tie.Need-add-j Inv-loop μ-loop
 add-j c = search needs
 
--- src/full.rt:184:5
 loop-less : tie.Need-loop-less Inv-loop μ-loop
 loop-less c = search needs
 
--- src/full.rt:184:5
 loop-again : tie.Need-loop-again Inv-loop μ-loop
 loop-again c =
     let w = c .before .before in
     let l = w .before .before .before .loop in
     (omega arith, w .average-pair .kept .0 ∙ l .inv .1, times-more (l .j) _ _ (l .inv .2) (w .average-pair .ensures))
 
--- src/full.rt:179:1
 same-length : tie.Need-same-length Inv-loop μ-loop
 same-length c = search needs
 
--- src/full.rt:179:1
 returns : tie.Need-returns Inv-loop μ-loop
 unfolding pairsBefore
 returns c =

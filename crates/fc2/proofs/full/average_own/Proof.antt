@@ -8,23 +8,18 @@ use Rattle.blocks.proofs.read9.Reads as read9-reads
 use Rattle.blocks.proofs.write9.Reads as write9-reads
 use Rattle.fc2.proofs.full.evened.Reads as evened-reads
 
--- src/full.rt:193:9
 read9-requires : tie.Need-read9-requires
 read9-requires c κs = search needs
 
--- src/full.rt:194:27
 evened-requires : tie.Need-evened-requires
 evened-requires c κs = search needs
 
--- src/full.rt:194:5
 write9-requires : tie.Need-write9-requires
 write9-requires c κs = search needs
 
--- src/full.rt:189:1
 same-length : tie.Need-same-length
 same-length c = search needs
 
--- src/full.rt:189:1
 returns : tie.Need-returns
 unfolding ownAt
 returns c = cc

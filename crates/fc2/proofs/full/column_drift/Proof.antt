@@ -1,5 +1,6 @@
 use Rattle.fc2.specs.FullLaws.{column-line}
-use Rattle.fc2.specs.FullLoops.{lineDrift, columns, Sized}
+use Rattle.fc2.specs.FullLoops.{columns}
+use Rattle.lines.specs.Lines.{lineDrift}
 use Rattle.lists.specs.Tab.{times, times-none, times-more}
 use mathlib.Core.Path.{_≡_, refl, ap, sym, _∙_, subst}
 use lib.ListN.{length}
@@ -10,7 +11,7 @@ use Rattle.fc2.proofs.full.column_drift.Statement.{statement}
 use Rattle.fc2.proofs.full.column_drift.Tie as tie
 use Rattle.fc2.proofs.full.column_drift.Reads as reads
 use Rattle.fc2.proofs.full.column_drift.Lts as lts
-use Rattle.fc2.proofs.full.line_drift.Reads as line-drift-reads
+use Rattle.lines.proofs.line_drift.Reads as line-drift-reads
 
 abbrev Inv-loop : tie.InvT-loop
 Inv-loop fc₀ n inv-n j₀ fc j = (j ≤ n) × (length fc ≡ length fc₀) × (fc ≡ times j (λ k. lineDrift k n n inv-n) fc₀)
@@ -18,36 +19,29 @@ Inv-loop fc₀ n inv-n j₀ fc j = (j ≤ n) × (length fc ≡ length fc₀) × 
 abbrev μ-loop : tie.MeasureT-loop
 μ-loop fc₀ n inv-n j₀ fc j = n - j
 
--- src/full.rt:152:5
 loop-holds : tie.Need-loop-holds Inv-loop μ-loop
 loop-holds c = (omega arith, refl, times-none _ _)
 
--- src/full.rt:153:9
 line-drift-requires : tie.Need-line-drift-requires Inv-loop μ-loop
 line-drift-requires c κs =
     let l = c .before .before .loop in
     rw (l .inv .1) (column-line (c .before .before .before .before .pre) (l .j) (c .before .loop-test .taken))
 
--- src/full.rt:152:9
 add-j : tie.Need-add-j Inv-loop μ-loop
 add-j c = search needs
 
--- src/full.rt:152:5
 loop-less : tie.Need-loop-less Inv-loop μ-loop
 loop-less c = search needs
 
--- src/full.rt:152:5
 loop-again : tie.Need-loop-again Inv-loop μ-loop
 loop-again c =
     let w = c .before .before in
     let l = w .before .before .before .loop in
     (omega arith, w .line-drift .kept .0 ∙ l .inv .1, times-more (l .j) _ _ (l .inv .2) (w .line-drift .ensures))
 
--- src/full.rt:148:1
 same-length : tie.Need-same-length Inv-loop μ-loop
 same-length c = search needs
 
--- src/full.rt:148:1
 returns : tie.Need-returns Inv-loop μ-loop
 unfolding columns
 returns c =

@@ -5,43 +5,33 @@ use Rattle.fc2.proofs.full.evened.Tie as tie
 use Rattle.fc2.proofs.full.evened.Reads as reads
 use Rattle.fc2.proofs.full.evened.Lts as lts
 
--- src/full.rt:85:14
 array-read-x : tie.Need-array-read-x
 array-read-x c = search needs
 
--- src/full.rt:85:21
 array-read-x-2 : tie.Need-array-read-x-2
 array-read-x-2 c = search needs
 
--- src/full.rt:86:14
 array-read-y : tie.Need-array-read-y
 array-read-y c = search needs
 
--- src/full.rt:86:21
 array-read-y-2 : tie.Need-array-read-y-2
 array-read-y-2 c = search needs
 
--- src/full.rt:87:14
 array-read-z : tie.Need-array-read-z
 array-read-z c = search needs
 
--- src/full.rt:87:21
 array-read-z-2 : tie.Need-array-read-z-2
 array-read-z-2 c = search needs
 
--- src/full.rt:88:6
 array-read-t8 : tie.Need-array-read-t8
 array-read-t8 c = search needs
 
--- src/full.rt:88:21
 array-read-t12 : tie.Need-array-read-t12
 array-read-t12 c = search needs
 
--- src/full.rt:88:36
 array-read-t11 : tie.Need-array-read-t11
 array-read-t11 c = search needs
 
--- src/full.rt:82:1
 returns : tie.Need-returns
 returns c = evened-once (c .args .t1)
 

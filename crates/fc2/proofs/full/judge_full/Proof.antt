@@ -8,27 +8,21 @@ use Rattle.fc2.proofs.full.judge_full.Tie as tie
 use Rattle.fc2.proofs.full.judge_full.Reads as reads
 use Rattle.fc2.proofs.full.judge_full.Lts as lts
 
--- src/full.rt:251:9
 returns : tie.Need-returns
 returns c = simp (lt-ltb _ _ (c .if1 .taken))
 
--- src/full.rt:254:9
 returns-2 : tie.Need-returns-2
 returns-2 c = simp (le-ltb _ _ (c .before .if1 .left), lt-ltb _ _ (c .if2 .taken))
 
--- src/full.rt:256:15
 mul-if3 : tie.Need-mul-if3
 mul-if3 c = let g = square (c .before .before .args .n) (omega arith) in omega arith
 
--- src/full.rt:256:15
 mul-if3-2 : tie.Need-mul-if3-2
 mul-if3-2 c = let g = square (c .before .before .args .n) (omega arith) in omega arith
 
--- src/full.rt:257:9
 returns-3 : tie.Need-returns-3
 returns-3 c = simp (le-ltb _ _ (c .before .before .if1 .left), le-ltb _ _ (c .before .if2 .left), ne-eqb _ _ (c .if3 .taken))
 
--- src/full.rt:247:1
 returns-4 : tie.Need-returns-4
 returns-4 c = simp (le-ltb _ _ (c .before .before .if1 .left), le-ltb _ _ (c .before .if2 .left), eq-eqb _ _ (c .if3 .left))
 

@@ -5,26 +5,21 @@ use Rattle.fc2.proofs.full.one_level.Tie as tie
 use Rattle.fc2.proofs.full.one_level.Reads as reads
 use Rattle.fc2.proofs.full.one_level.Lts as lts
 use Rattle.fc2.proofs.full.column_drift.Reads as column-drift-reads
-use Rattle.fc2.proofs.full.row_drift.Reads as row-drift-reads
+use Rattle.lines.proofs.row_drift.Reads as row-drift-reads
 use Rattle.fc2.proofs.full.set_index_permutation_symmetry_fc.Reads as set-index-permutation-symmetry-fc-reads
 
--- src/full.rt:231:5
 column-drift-requires : tie.Need-column-drift-requires
 column-drift-requires c κs = search needs
 
--- src/full.rt:232:5
 row-drift-requires : tie.Need-row-drift-requires
 row-drift-requires c κs = search needs
 
--- src/full.rt:233:5
 set-index-permutation-symmetry-fc-requires : tie.Need-set-index-permutation-symmetry-fc-requires
 set-index-permutation-symmetry-fc-requires c κs = search needs
 
--- src/full.rt:227:1
 same-length : tie.Need-same-length
 same-length c = search needs
 
--- src/full.rt:227:1
 returns : tie.Need-returns
 unfolding swept
 returns c =

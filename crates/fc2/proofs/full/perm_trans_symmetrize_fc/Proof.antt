@@ -9,33 +9,27 @@ use Rattle.fc2.proofs.full.judge_full.Reads as judge-full-reads
 use Rattle.fc2.proofs.full.symmetrize.Reads as symmetrize-reads
 use Rattle.tables.proofs.is_refusal.Reads as is-refusal-reads
 
--- src/full.rt:266:9
 judge-full-requires : tie.Need-judge-full-requires
 judge-full-requires c κs = search needs
 
--- src/full.rt:267:8
 is-refusal-requires : tie.Need-is-refusal-requires
 is-refusal-requires c κs = search needs
 
--- src/full.rt:268:9
 returns : tie.Need-returns
 returns c =
     let j = c .before .before in
     let s = j .before .before in
     call-refused (j .judge-full .result) (s .args .fc .now) (s .args .n-satom) (s .args .level) (j .judge-full .ensures) (sym (c .before .is-refusal .ensures) ∙ c .if1 .taken)
 
--- src/full.rt:270:5
 symmetrize-requires : tie.Need-symmetrize-requires
 symmetrize-requires c κs =
     let j = c .before .before .before in
     let s = j .before .before in
     sized (j .judge-full .result) (s .args .fc .now) (s .args .n-satom) (s .args .level) (j .judge-full .ensures) (sym (c .before .before .is-refusal .ensures) ∙ c .before .if1 .left)
 
--- src/full.rt:263:1
 same-length : tie.Need-same-length
 same-length c = search needs
 
--- src/full.rt:263:1
 returns-2 : tie.Need-returns-2
 returns-2 c =
     let w = c .before .before in

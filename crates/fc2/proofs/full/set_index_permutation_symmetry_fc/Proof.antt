@@ -1,5 +1,5 @@
 use Rattle.fc2.specs.FullLaws.{pair-inside, square}
-use Rattle.fc2.specs.FullLoops.{ownAt, pairsBefore, pairs, Sized, Inside}
+use Rattle.fc2.specs.FullLoops.{ownAt, pairsBefore, pairs}
 use Rattle.lists.specs.Tab.{times, times-none, times-more}
 use mathlib.Core.Path.{_≡_, refl, ap, sym, _∙_, subst}
 use lib.ListN.{length}
@@ -19,17 +19,14 @@ Inv-loop fc₀ n i₀ fc i = (i ≤ n) × (length fc ≡ length fc₀) × (fc �
 abbrev μ-loop : tie.MeasureT-loop
 μ-loop fc₀ n i₀ fc i = n - i
 
--- src/full.rt:201:5
 loop-holds : tie.Need-loop-holds Inv-loop μ-loop
 loop-holds c = (omega arith, refl, times-none _ _)
 
--- src/full.rt:202:9
 average-before-requires : tie.Need-average-before-requires Inv-loop μ-loop
 average-before-requires c κs =
     let l = c .before .before .loop in
     (rw (l .inv .1) (c .before .before .before .before .pre), c .before .loop-test .taken)
 
--- src/full.rt:203:25
 mul-average-own : tie.Need-mul-average-own Inv-loop μ-loop
 mul-average-own c =
     let g = c .before .before .before in
@@ -39,7 +36,6 @@ mul-average-own c =
     let k = square (s .args .n) (s .pre .small) in
     omega arith
 
--- src/full.rt:203:25
 add-average-own : tie.Need-add-average-own Inv-loop μ-loop
 add-average-own c =
     let g = c .before .before .before in
@@ -49,7 +45,6 @@ add-average-own c =
     let k = square (s .args .n) (s .pre .small) in
     omega arith
 
--- src/full.rt:203:9
 average-own-requires : tie.Need-average-own-requires Inv-loop μ-loop
 average-own-requires c κs =
     let g = c .before .before .before in
@@ -57,15 +52,12 @@ average-own-requires c κs =
     let l = g .before .before .before .loop in
     rw (g .average-before .kept .0, l .inv .1) (pair-inside (s .pre) (l .i) (l .i) (g .before .before .loop-test .taken) (g .before .before .loop-test .taken))
 
--- src/full.rt:201:9
 add-i : tie.Need-add-i Inv-loop μ-loop
 add-i c = search needs
 
--- src/full.rt:201:5
 loop-less : tie.Need-loop-less Inv-loop μ-loop
 loop-less c = search needs
 
--- src/full.rt:201:5
 loop-again : tie.Need-loop-again Inv-loop μ-loop
 loop-again c =
     let w = c .before .before in
@@ -73,11 +65,9 @@ loop-again c =
     let l = g .before .before .before .loop in
     (omega arith, w .average-own .kept .0 ∙ g .average-before .kept .0 ∙ l .inv .1, times-more (l .i) _ _ (l .inv .2) (rw (g .average-before .ensures) at (w .average-own .ensures)))
 
--- src/full.rt:197:1
 same-length : tie.Need-same-length Inv-loop μ-loop
 same-length c = search needs
 
--- src/full.rt:197:1
 returns : tie.Need-returns Inv-loop μ-loop
 unfolding pairs
 returns c =

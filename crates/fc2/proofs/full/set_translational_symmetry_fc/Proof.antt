@@ -1,5 +1,6 @@
 use Rattle.fc2.specs.FullLaws.{pair-inside, square}
-use Rattle.fc2.specs.FullLoops.{others, balance, balanceAt, diagonals, Sized, Inside}
+use Rattle.fc2.specs.FullLoops.{diagonals}
+use Rattle.lines.specs.Lines.{balanceAt, balances}
 use Rattle.lists.specs.Tab.{times, times-none, times-more}
 use mathlib.Core.Path.{_≡_, refl, ap, sym, _∙_, subst}
 use lib.ListN.{length}
@@ -11,26 +12,23 @@ use Rattle.fc2.proofs.full.set_translational_symmetry_fc.Tie as tie
 use Rattle.fc2.proofs.full.set_translational_symmetry_fc.Reads as reads
 use Rattle.fc2.proofs.full.set_translational_symmetry_fc.Lts as lts
 use Rattle.blocks.proofs.write9.Reads as write9-reads
-use Rattle.fc2.proofs.full.balance.Reads as balance-reads
-use Rattle.fc2.proofs.full.other_sums.Reads as other-sums-reads
+use Rattle.lines.proofs.nine.balance.Reads as balance-reads
+use Rattle.lines.proofs.other_sums.Reads as other-sums-reads
 
 abbrev Inv-loop : tie.InvT-loop
-Inv-loop fc₀ n i₀ fc i = (i ≤ n) × (length fc ≡ length fc₀) × (fc ≡ times i (balanceAt n) fc₀)
+Inv-loop fc₀ n i₀ fc i = (i ≤ n) × (length fc ≡ length fc₀) × (fc ≡ times i (balanceAt n (λ k. k)) fc₀)
 
 abbrev μ-loop : tie.MeasureT-loop
 μ-loop fc₀ n i₀ fc i = n - i
 
--- src/full.rt:221:5
 loop-holds : tie.Need-loop-holds Inv-loop μ-loop
 loop-holds c = (omega arith, refl, times-none _ _)
 
--- src/full.rt:222:13
 other-sums-requires : tie.Need-other-sums-requires Inv-loop μ-loop
 other-sums-requires c κs =
     let l = c .before .before .loop in
-    (rw (l .inv .1) (c .before .before .before .before .pre), c .before .loop-test .taken)
+    (rw (l .inv .1) (c .before .before .before .before .pre), (c .before .loop-test .taken, c .before .loop-test .taken))
 
--- src/full.rt:223:28
 mul-write9 : tie.Need-mul-write9 Inv-loop μ-loop
 mul-write9 c =
     let g = c .before .before .before in
@@ -39,7 +37,6 @@ mul-write9 c =
     let k = square (s .args .n) (s .pre .small) in
     omega arith
 
--- src/full.rt:223:28
 add-write9 : tie.Need-add-write9 Inv-loop μ-loop
 add-write9 c =
     let g = c .before .before .before in
@@ -48,11 +45,9 @@ add-write9 c =
     let k = square (s .args .n) (s .pre .small) in
     omega arith
 
--- src/full.rt:223:39
 balance-requires : tie.Need-balance-requires Inv-loop μ-loop
 balance-requires c κs = search needs
 
--- src/full.rt:223:9
 write9-requires : tie.Need-write9-requires Inv-loop μ-loop
 write9-requires c κs =
     let g = c .before .before .before .before in
@@ -60,15 +55,12 @@ write9-requires c κs =
     let s = g .before .before .before in
     rw (l .inv .1) (pair-inside (s .pre) (l .i) (l .i) (g .loop-test .taken) (g .loop-test .taken) .one)
 
--- src/full.rt:221:9
 add-i : tie.Need-add-i Inv-loop μ-loop
 add-i c = search needs
 
--- src/full.rt:221:5
 loop-less : tie.Need-loop-less Inv-loop μ-loop
 loop-less c = search needs
 
--- src/full.rt:221:5
 loop-again : tie.Need-loop-again Inv-loop μ-loop
 unfolding balanceAt
 loop-again c =
@@ -77,13 +69,11 @@ loop-again c =
     let l = g .before .before .before .loop in
     (omega arith, w .write9 .kept .0 ∙ l .inv .1, times-more (l .i) _ _ (l .inv .2) (rw (w .before .balance .ensures, g .other-sums .ensures) at (w .write9 .ensures)))
 
--- src/full.rt:217:1
 same-length : tie.Need-same-length Inv-loop μ-loop
 same-length c = search needs
 
--- src/full.rt:217:1
 returns : tie.Need-returns Inv-loop μ-loop
-unfolding diagonals
+unfolding diagonals balances
 returns c =
     let l = c .before .loop in
     let i : l .i ≡ c .before .before .before .args .n = omega arith in

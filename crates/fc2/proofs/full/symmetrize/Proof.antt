@@ -2,7 +2,7 @@ use lib.Ieee.{inFloat}
 use lib.Dec.{le→leb}
 use Rattle.fc2.specs.FullWork.{work-makes}
 use Rattle.fc2.specs.FullLoops.{swept, diagonals, worked}
-use Rattle.fc2.specs.Full.{inverse}
+use Rattle.lines.specs.Nine.{inverse}
 use Rattle.lists.specs.Tab.{times, times-none, times-more}
 use mathlib.Core.Path.{_≡_, refl, ap, sym, _∙_, subst}
 use lib.ListN.{length}
@@ -22,44 +22,35 @@ Inv-loop fc₀ n level inv-n t₀ fc t = (t ≤ level) × (length fc ≡ length 
 abbrev μ-loop : tie.MeasureT-loop
 μ-loop fc₀ n level inv-n t₀ fc t = level - t
 
--- src/full.rt:240:24
 int-to-float-inv-n : tie.Need-int-to-float-inv-n Inv-loop μ-loop
 unfolding inFloat
 int-to-float-inv-n c = le→leb (c .before .before .args .n) (2 ^ 53) (omega (arith, c .before .before .pre))
 
--- src/full.rt:241:5
 loop-holds : tie.Need-loop-holds Inv-loop μ-loop
 loop-holds c = (omega arith, refl, times-none _ _)
 
--- src/full.rt:242:9
 one-level-requires : tie.Need-one-level-requires Inv-loop μ-loop
 one-level-requires c κs = rw (c .before .before .loop .inv .1) (c .before .before .before .before .before .pre)
 
--- src/full.rt:241:9
 add-t : tie.Need-add-t Inv-loop μ-loop
 add-t c = search needs
 
--- src/full.rt:241:5
 loop-less : tie.Need-loop-less Inv-loop μ-loop
 loop-less c = search needs
 
--- src/full.rt:241:5
 loop-again : tie.Need-loop-again Inv-loop μ-loop
 loop-again c =
     let w = c .before .before in
     let l = w .before .before .before .loop in
     (omega arith, w .one-level .kept .0 ∙ l .inv .1, times-more (l .t) _ _ (l .inv .2) (w .one-level .ensures))
 
--- src/full.rt:244:5
 set-translational-symmetry-fc-requires :
     tie.Need-set-translational-symmetry-fc-requires Inv-loop μ-loop
 set-translational-symmetry-fc-requires c κs = rw (c .before .before .loop .inv .1) (c .before .before .before .before .before .pre)
 
--- src/full.rt:236:1
 same-length : tie.Need-same-length Inv-loop μ-loop
 same-length c = search needs
 
--- src/full.rt:236:1
 returns : tie.Need-returns Inv-loop μ-loop
 unfolding inverse worked
 returns c =

@@ -1,7 +1,7 @@
 use mathlib.Core.Path.{sym, ap, _∙_}
 use borrow.Author.Needs.{needs}
 use Rattle.orbits.specs.Spread.{setAll}
-use Rattle.fc3.specs.Spread.{spots-are, six-stores}
+use Rattle.fc3.specs.Spread.{spots-at, six-stores}
 use Rattle.fc3.proofs.spread.put_spots.Statement.{statement}
 use Rattle.fc3.proofs.spread.put_spots.Tie as tie
 use Rattle.fc3.proofs.spread.put_spots.Reads as reads
@@ -48,7 +48,7 @@ returns c =
     let s = p1 .before .before .before in
     let a = s .args in
     six-stores (a .fc3 .now) (a .x) _ _ _ _ _ _ (p6 .put6 .ensures) (p5 .put5 .ensures) (p4 .put4 .ensures) (p3 .put3 .ensures) (p2 .put2 .ensures) (p1 .put .ensures)
-    ∙ ap (λ l. setAll l (a .x) (a .fc3 .now)) (sym (spots-are (a .b0) (a .b1) (a .b2) (a .b3) (a .b4) (a .b5) (a .k)))
+    ∙ ap (λ l. setAll l (a .x) (a .fc3 .now)) (sym (spots-at (a .b0) (a .b1) (a .b2) (a .b3) (a .b4) (a .b5) (a .l) (a .m) (a .n) (s .pre .1) (s .pre .2) (s .pre .3)))
 
 pub put-spots-spec : {M : Type 1} → statement M
 put-spots-spec =

@@ -1,6 +1,6 @@
 -- `tables::guard::any_above` meets its contract. Assumes nothing.
 use borrow.Author.Tests.{lt-ltb, le-ltb}
-use Rattle.tables.proofs.Together.{or-none}
+use Rattle.lists.specs.Tests.{or-none}
 use Rattle.tables.proofs.guard.any_above.Statement.{statement}
 use Rattle.tables.proofs.guard.any_above.Tie as tie
 

@@ -1,0 +1,238 @@
+//! Second order.
+use crate::ffi::call;
+use crate::{answer, room, rows, Refusal};
+
+/// Atoms, and the counts beside them.
+const LIMIT: usize = 1024;
+
+/// Symmetrizes a full set of n_satom² × 9 numbers: per level column drift, row drift and pair averages; at the end the diagonal
+/// blocks. n_satom up to 1,024, level up to 1,000.
+///
+/// ```
+/// use gullyfork::{fc2, Refusal};
+///
+/// // block (0, 1) of two atoms is zero but at its directions 0, 1 and 1, 0
+/// let mut fc = [0.0; 36];
+/// fc[9 + 1] = 2.0;
+/// fc[9 + 3] = 4.0;
+/// fc2::perm_trans_symmetrize_fc(&mut fc, 2, 0)?;
+/// assert_eq!(fc[..9], [0.0, -3.0, 0.0, -3.0, 0.0, 0.0, 0.0, 0.0, 0.0]);
+/// assert_eq!(fc2::perm_trans_symmetrize_fc(&mut fc, 1025, 0), Err(Refusal::CountAboveLimit));
+/// # Ok::<(), Refusal>(())
+/// ```
+pub fn perm_trans_symmetrize_fc(fc: &mut [f64], n_satom: usize, level: usize) -> Result<(), Refusal> {
+    answer(call!(gf_perm_trans_symmetrize_fc(&mut fc, n_satom, level)))
+}
+
+/// Symmetrizes a compact set of n_patom × n_satom × 9 numbers: per level twice the transpose and the row drift, then the averages; at
+/// the end the blocks of the atoms with themselves.
+///
+/// ```
+/// use gullyfork::{fc2, Refusal};
+///
+/// let rows = [0, 1, 2, 1, 2, 0, 2, 0, 1];
+/// let mut fc: Vec<f64> = (0..27).map(f64::from).collect();
+/// fc2::perm_trans_symmetrize_compact_fc(&mut fc, &[0], &[0, 0, 0], &[0, 2, 1], &rows, 3, 1, 1)?;
+/// // each row adds up to zero
+/// assert!((fc[0] + fc[9] + fc[18]).abs() < 1e-12);
+/// # Ok::<(), Refusal>(())
+/// ```
+#[allow(clippy::too_many_arguments)]
+pub fn perm_trans_symmetrize_compact_fc(
+    fc: &mut [f64],
+    p2s: &[i64],
+    s2pp: &[i64],
+    nsym_list: &[i64],
+    perms: &[i64],
+    n_satom: usize,
+    n_patom: usize,
+    level: usize,
+) -> Result<(), Refusal> {
+    let mut done = vec![0; room(&[(n_patom, LIMIT), (n_satom, LIMIT)])];
+    let num_trans = rows(perms.len(), n_satom);
+    perm_trans_symmetrize_compact_fc_with(fc, p2s, s2pp, nsym_list, perms, &mut done, n_satom, n_patom, num_trans, level)
+}
+
+/// [`perm_trans_symmetrize_compact_fc`] with n_patom × n_satom bytes of work memory.
+#[allow(clippy::too_many_arguments)]
+pub fn perm_trans_symmetrize_compact_fc_with(
+    fc: &mut [f64],
+    p2s: &[i64],
+    s2pp: &[i64],
+    nsym_list: &[i64],
+    perms: &[i64],
+    done: &mut [u8],
+    n_satom: usize,
+    n_patom: usize,
+    num_trans: usize,
+    level: usize,
+) -> Result<(), Refusal> {
+    answer(call!(gf_perm_trans_symmetrize_compact_fc(
+        &mut fc, &p2s, &s2pp, &nsym_list, &perms, &mut done, n_satom, n_patom, num_trans, level
+    )))
+}
+
+/// Exchanges the atoms of every pair of a compact set of n_patom × n_satom × 9 numbers, and the directions (`transpose`), or averages
+/// every number with that of the exchanged pair. The transpose leaves blocks that a half shift exchanges, as phonors does.
+///
+/// ```
+/// use gullyfork::{fc2, Refusal};
+///
+/// let rows = [0, 1, 2, 1, 2, 0, 2, 0, 1];
+/// let mut fc: Vec<f64> = (0..27).map(f64::from).collect();
+/// fc2::set_index_permutation_symmetry_compact_fc(&mut fc, &[0], &[0, 0, 0], &[0, 2, 1], &rows, 3, 1, true)?;
+/// // the pair of atoms 1 and 0 is stored at 0 and 2
+/// assert_eq!(fc[9 + 1], 21.0);
+/// # Ok::<(), Refusal>(())
+/// ```
+#[allow(clippy::too_many_arguments)]
+pub fn set_index_permutation_symmetry_compact_fc(
+    fc: &mut [f64],
+    p2s: &[i64],
+    s2pp: &[i64],
+    nsym_list: &[i64],
+    perms: &[i64],
+    n_satom: usize,
+    n_patom: usize,
+    transpose: bool,
+) -> Result<(), Refusal> {
+    let mut done = vec![0; room(&[(n_patom, LIMIT), (n_satom, LIMIT)])];
+    let num_trans = rows(perms.len(), n_satom);
+    set_index_permutation_symmetry_compact_fc_with(fc, p2s, s2pp, nsym_list, perms, &mut done, n_satom, n_patom, num_trans, transpose)
+}
+
+/// [`set_index_permutation_symmetry_compact_fc`] with n_patom × n_satom bytes of work memory.
+#[allow(clippy::too_many_arguments)]
+pub fn set_index_permutation_symmetry_compact_fc_with(
+    fc: &mut [f64],
+    p2s: &[i64],
+    s2pp: &[i64],
+    nsym_list: &[i64],
+    perms: &[i64],
+    done: &mut [u8],
+    n_satom: usize,
+    n_patom: usize,
+    num_trans: usize,
+    transpose: bool,
+) -> Result<(), Refusal> {
+    answer(call!(gf_set_index_permutation_symmetry_compact_fc(
+        &mut fc, &p2s, &s2pp, &nsym_list, &perms, &mut done, n_satom, n_patom, num_trans, transpose
+    )))
+}
+
+/// Fills the rows of the listed atoms from those of their representatives: to each block the rotated block is added. The set has a
+/// row of num_pos × 9 numbers for each first atom; position i of the list is atom `atom_list[i]` with row `fc_indices_of_atom_list[i]`.
+/// Atom a is represented by atom `map_atoms[a]`, to which rotation `map_syms[a]` sends it.
+///
+/// ```
+/// use gullyfork::{fc2, Refusal};
+///
+/// // rotation 1 exchanges the two atoms and the first two axes; atom 0 represents atom 1
+/// let r_carts = [[1.0, 0.0, 0.0, 0.0, 1.0, 0.0, 0.0, 0.0, 1.0], [0.0, 1.0, 0.0, 1.0, 0.0, 0.0, 0.0, 0.0, 1.0]].concat();
+/// let mut fc: Vec<f64> = (0..18).map(f64::from).chain([0.0; 18]).collect();
+/// fc2::distribute_fc2(&mut fc, &[0, 1], &[0, 1], &r_carts, &[0, 1, 1, 0], &[0, 0], &[0, 1], 2)?;
+/// assert_eq!(fc[18], 13.0); // the second block's number at 1, 1
+/// let stray = fc2::distribute_fc2(&mut fc, &[0, 1], &[0, 1], &r_carts, &[0, 1, 1, 0], &[1, 0], &[0, 1], 2);
+/// assert_eq!(stray, Err(Refusal::BadRepresentative));
+/// # Ok::<(), Refusal>(())
+/// ```
+#[allow(clippy::too_many_arguments)]
+pub fn distribute_fc2(
+    fc2: &mut [f64],
+    atom_list: &[i64],
+    fc_indices_of_atom_list: &[i64],
+    r_carts: &[f64],
+    permutations: &[i64],
+    map_atoms: &[i64],
+    map_syms: &[i64],
+    num_pos: usize,
+) -> Result<(), Refusal> {
+    let mut atom_list_reverse = vec![0; room(&[(num_pos, LIMIT)])];
+    let num_first = rows(fc2.len(), num_pos.saturating_mul(9));
+    let num_rot = rows(r_carts.len(), 9);
+    distribute_fc2_with(
+        fc2,
+        atom_list,
+        fc_indices_of_atom_list,
+        r_carts,
+        permutations,
+        map_atoms,
+        map_syms,
+        &mut atom_list_reverse,
+        num_pos,
+        num_first,
+        num_rot,
+    )
+}
+
+/// [`distribute_fc2`] with num_pos integers of work memory.
+#[allow(clippy::too_many_arguments)]
+pub fn distribute_fc2_with(
+    fc2: &mut [f64],
+    atom_list: &[i64],
+    fc_indices_of_atom_list: &[i64],
+    r_carts: &[f64],
+    permutations: &[i64],
+    map_atoms: &[i64],
+    map_syms: &[i64],
+    atom_list_reverse: &mut [i64],
+    num_pos: usize,
+    num_first: usize,
+    num_rot: usize,
+) -> Result<(), Refusal> {
+    answer(call!(gf_distribute_fc2(
+        &mut fc2,
+        &atom_list,
+        &fc_indices_of_atom_list,
+        &r_carts,
+        &permutations,
+        &map_atoms,
+        &map_syms,
+        &mut atom_list_reverse,
+        num_pos,
+        num_first,
+        num_rot
+    )))
+}
+
+/// How far the rows of a full set are from adding up to zero.
+#[derive(Clone, Copy, Debug, PartialEq)]
+pub enum Drift {
+    /// All sums are zero.
+    Still,
+    /// The largest absolute value of a sum.
+    Worst(f64),
+    /// A sum is NaN.
+    NoNumber,
+}
+
+/// A drift and its place: the row's atom and two directions. Still has 0 and 0, 0; if several places share the worst value, it is one
+/// of them; of the sums that are NaN it is the first.
+#[derive(Clone, Copy, Debug, PartialEq)]
+pub struct DriftReport {
+    pub drift: Drift,
+    pub atom: usize,
+    pub directions: [usize; 2],
+}
+
+/// The drift of a full set of n_satom² × 9 numbers: of each atom and pair of directions the sum over the second atom. Not in phonors.
+///
+/// ```
+/// use gullyfork::fc2::{drift_report, Drift, DriftReport};
+///
+/// let mut fc = [0.0; 36];
+/// fc[18 + 5] = -3.0;
+/// fc[27 + 5] = 0.5;
+/// assert_eq!(drift_report(&fc, 2)?, DriftReport { drift: Drift::Worst(2.5), atom: 1, directions: [1, 2] });
+/// # Ok::<(), gullyfork::Refusal>(())
+/// ```
+pub fn drift_report(fc: &[f64], n_satom: usize) -> Result<DriftReport, Refusal> {
+    let (mut value, mut place) = ([0.0], [0; 3]);
+    let drift = match call!(gf_drift_report(&fc, &mut value, &mut place, n_satom)) {
+        65 => Drift::Still,
+        66 => Drift::Worst(value[0]),
+        67 => Drift::NoNumber,
+        number => return Err(answer(number).expect_err("a report is never answered with 0")),
+    };
+    Ok(DriftReport { drift, atom: place[0], directions: [place[1], place[2]] })
+}

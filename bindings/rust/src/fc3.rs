@@ -1,0 +1,215 @@
+//! Third order.
+use crate::ffi::call;
+use crate::{answer, room, rows, Refusal};
+
+/// Atoms, and the counts beside them.
+const LIMIT: usize = 256;
+
+/// num_disp and num_site_sym.
+const LIMIT_LIST: usize = 1024;
+
+/// Symmetrizes a full set of num_atom³ × 27 numbers: the six orders of any three (atom, direction) pairs get their mean. num_atom up to
+/// 256.
+///
+/// ```
+/// use gullyfork::{fc3, Refusal};
+///
+/// let mut set = [0.0; 27];
+/// set[1] = 3.0; // directions 0, 0, 1; their other orders are 0, 1, 0 and 1, 0, 0
+/// fc3::set_permutation_symmetry_fc3(&mut set, 1)?;
+/// assert_eq!([set[1], set[3], set[9]], [1.0; 3]);
+/// # Ok::<(), Refusal>(())
+/// ```
+pub fn set_permutation_symmetry_fc3(fc3: &mut [f64], num_atom: usize) -> Result<(), Refusal> {
+    answer(call!(gf_set_permutation_symmetry_fc3(&mut fc3, num_atom)))
+}
+
+/// Symmetrizes a compact set of n_patom × n_satom² × 27 numbers: read out to all atoms, the six orders of any three (atom, direction)
+/// pairs then hold the same bits.
+///
+/// ```
+/// use gullyfork::{fc3, Refusal};
+///
+/// let mut set = [0.0; 27];
+/// set[1] = 3.0;
+/// fc3::set_permutation_symmetry_compact_fc3(&mut set, &[0], &[0], &[0], &[0], 1, 1)?;
+/// assert_eq!([set[1], set[3], set[9]], [1.0; 3]);
+/// let refused = fc3::set_permutation_symmetry_compact_fc3(&mut set, &[1], &[0], &[0], &[0], 1, 1);
+/// assert_eq!(refused, Err(Refusal::IndexOutOfRange));
+/// # Ok::<(), Refusal>(())
+/// ```
+#[allow(clippy::too_many_arguments)]
+pub fn set_permutation_symmetry_compact_fc3(
+    fc3: &mut [f64],
+    p2s: &[i64],
+    s2pp: &[i64],
+    nsym_list: &[i64],
+    perms: &[i64],
+    n_satom: usize,
+    n_patom: usize,
+) -> Result<(), Refusal> {
+    let mut done = vec![0; room(&[(n_patom, LIMIT), (n_satom, LIMIT), (n_satom, LIMIT)])];
+    let num_trans = rows(perms.len(), n_satom);
+    set_permutation_symmetry_compact_fc3_with(fc3, p2s, s2pp, nsym_list, perms, &mut done, n_satom, n_patom, num_trans)
+}
+
+/// [`set_permutation_symmetry_compact_fc3`] with n_patom × n_satom² bytes of work memory.
+#[allow(clippy::too_many_arguments)]
+pub fn set_permutation_symmetry_compact_fc3_with(
+    fc3: &mut [f64],
+    p2s: &[i64],
+    s2pp: &[i64],
+    nsym_list: &[i64],
+    perms: &[i64],
+    done: &mut [u8],
+    n_satom: usize,
+    n_patom: usize,
+    num_trans: usize,
+) -> Result<(), Refusal> {
+    answer(call!(gf_set_permutation_symmetry_compact_fc3(
+        &mut fc3, &p2s, &s2pp, &nsym_list, &perms, &mut done, n_satom, n_patom, num_trans
+    )))
+}
+
+/// Exchanges two of the three (atom, direction) pairs of every number of a compact set of n_patom × n_satom² × 27 numbers: type 0 pairs 0
+/// and 1, type 1 pairs 0 and 2, type 2 pairs 1 and 2; any other type changes nothing. Types 0 and 1 leave blocks that a half shift
+/// exchanges, as phonors does.
+///
+/// ```
+/// use gullyfork::{fc3, Refusal};
+///
+/// let rows = [0, 1, 2, 1, 2, 0, 2, 0, 1];
+/// let mut set: Vec<f64> = (0..243).map(f64::from).collect();
+/// fc3::transpose_compact_fc3(&mut set, &[0], &[0, 0, 0], &[0, 2, 1], &rows, 3, 1, 0)?;
+/// // block (0, 1, 2) is the old block (0, 2, 1) with the first two directions exchanged
+/// assert_eq!(set[5 * 27 + 3], f64::from(7 * 27 + 9));
+/// # Ok::<(), Refusal>(())
+/// ```
+#[allow(clippy::too_many_arguments)]
+pub fn transpose_compact_fc3(
+    fc3: &mut [f64],
+    p2s: &[i64],
+    s2pp: &[i64],
+    nsym_list: &[i64],
+    perms: &[i64],
+    n_satom: usize,
+    n_patom: usize,
+    t_type: i64,
+) -> Result<(), Refusal> {
+    let mut done = vec![0; room(&[(n_patom, LIMIT), (n_satom, LIMIT)])];
+    let num_trans = rows(perms.len(), n_satom);
+    transpose_compact_fc3_with(fc3, p2s, s2pp, nsym_list, perms, &mut done, n_satom, n_patom, num_trans, t_type)
+}
+
+/// [`transpose_compact_fc3`] with n_patom × n_satom bytes of work memory.
+#[allow(clippy::too_many_arguments)]
+pub fn transpose_compact_fc3_with(
+    fc3: &mut [f64],
+    p2s: &[i64],
+    s2pp: &[i64],
+    nsym_list: &[i64],
+    perms: &[i64],
+    done: &mut [u8],
+    n_satom: usize,
+    n_patom: usize,
+    num_trans: usize,
+    t_type: i64,
+) -> Result<(), Refusal> {
+    answer(call!(gf_transpose_compact_fc3(&mut fc3, &p2s, &s2pp, &nsym_list, &perms, &mut done, n_satom, n_patom, num_trans, t_type)))
+}
+
+/// Fills slab `target` from slab `source`, a slab being the num_atom² × 27 numbers of one first atom: block (i, j) of the target is block
+/// (`atom_mapping[i]`, `atom_mapping[j]`) of the source, turned by `rot_cart` on each leg. There are as many slabs as the set has room for;
+/// with no atoms there is none, and the call is refused.
+///
+/// ```
+/// use gullyfork::{fc3, Refusal};
+///
+/// let identity = [1.0, 0.0, 0.0, 0.0, 1.0, 0.0, 0.0, 0.0, 1.0];
+/// let mut set: Vec<f64> = (0..54).map(f64::from).collect();
+/// fc3::distribute_fc3(&mut set, 1, 0, &[0], 1, &identity)?;
+/// assert_eq!(set[27..], (0..27).map(f64::from).collect::<Vec<_>>());
+/// assert_eq!(fc3::distribute_fc3(&mut set, 1, 2, &[0], 1, &identity), Err(Refusal::BadSlab));
+/// # Ok::<(), Refusal>(())
+/// ```
+pub fn distribute_fc3(
+    fc3: &mut [f64],
+    target: usize,
+    source: usize,
+    atom_mapping: &[i64],
+    num_atom: usize,
+    rot_cart: &[f64],
+) -> Result<(), Refusal> {
+    let slab = num_atom.saturating_mul(num_atom).saturating_mul(27);
+    let num_first = rows(fc3.len(), slab);
+    distribute_fc3_with(fc3, target, source, atom_mapping, num_atom, rot_cart, num_first)
+}
+
+/// [`distribute_fc3`] with the number of slabs given.
+pub fn distribute_fc3_with(
+    fc3: &mut [f64],
+    target: usize,
+    source: usize,
+    atom_mapping: &[i64],
+    num_atom: usize,
+    rot_cart: &[f64],
+    num_first: usize,
+) -> Result<(), Refusal> {
+    answer(call!(gf_distribute_fc3(&mut fc3, target, source, &atom_mapping, num_atom, &rot_cart, num_first)))
+}
+
+/// The num_atom² × 27 numbers of third order of one displaced atom, from the changes `delta_fc2s` (num_disp × num_atom² × 9) that num_disp
+/// displacements of that atom make to a set of second order. Each is turned by each site symmetry (`site_sym_cart`, num_site_sym × 9, which
+/// sends atom a to `rot_map_syms[s * num_atom + a]`); `inv_u`, 3 × num_disp × num_site_sym, makes of them one block for each direction of the
+/// displaced atom.
+///
+/// ```
+/// use gullyfork::{fc3, Refusal};
+///
+/// let identity = [1.0, 0.0, 0.0, 0.0, 1.0, 0.0, 0.0, 0.0, 1.0];
+/// let change: Vec<f64> = (0..9).map(f64::from).collect();
+/// let mut blocks = [0.0; 27];
+/// fc3::rotate_delta_fc2s(&mut blocks, &change, &[1.0, 0.0, 2.0], &identity, &[0], 1, 1, 1)?;
+/// assert_eq!([blocks[8], blocks[9 + 8], blocks[18 + 8]], [8.0, 0.0, 16.0]);
+/// # Ok::<(), Refusal>(())
+/// ```
+#[allow(clippy::too_many_arguments)]
+pub fn rotate_delta_fc2s(
+    fc3: &mut [f64],
+    delta_fc2s: &[f64],
+    inv_u: &[f64],
+    site_sym_cart: &[f64],
+    rot_map_syms: &[i64],
+    num_atom: usize,
+    num_site_sym: usize,
+    num_disp: usize,
+) -> Result<(), Refusal> {
+    let mut rot_delta = vec![0.0; room(&[(num_disp, LIMIT_LIST), (num_site_sym, LIMIT_LIST), (9, 9)])];
+    rotate_delta_fc2s_with(fc3, delta_fc2s, inv_u, site_sym_cart, rot_map_syms, &mut rot_delta, num_atom, num_site_sym, num_disp)
+}
+
+/// [`rotate_delta_fc2s`] with num_disp × num_site_sym × 9 numbers of work memory.
+#[allow(clippy::too_many_arguments)]
+pub fn rotate_delta_fc2s_with(
+    fc3: &mut [f64],
+    delta_fc2s: &[f64],
+    inv_u: &[f64],
+    site_sym_cart: &[f64],
+    rot_map_syms: &[i64],
+    rot_delta: &mut [f64],
+    num_atom: usize,
+    num_site_sym: usize,
+    num_disp: usize,
+) -> Result<(), Refusal> {
+    answer(call!(gf_rotate_delta_fc2s(
+        &mut fc3,
+        &delta_fc2s,
+        &inv_u,
+        &site_sym_cart,
+        &rot_map_syms,
+        &mut rot_delta,
+        num_atom,
+        num_site_sym,
+        num_disp
+    )))
+}

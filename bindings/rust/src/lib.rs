@@ -1,0 +1,134 @@
+//! Force constants of second, third and fourth order, and the matching of atoms: safe functions over the proved library Gullyfork.
+//!
+//! The modules and functions have the names and the arguments of [phonors](https://github.com/phonopy/phonors). What differs:
+//!
+//! - every input is taken: a call does its work, or returns the first [`Refusal`] that applies and leaves every slice as it was;
+//! - a second form, `.._with`, takes work memory and the counts that phonors does not ask for (`num_trans`, `num_first`, `num_rot`).
+//!   The plain form allocates the one and works out the others from the lengths. What work memory holds has no influence; a call
+//!   that ends well leaves zeros in it.
+//!
+//! Sets are slices of `f64`. A set of order 2, 3 or 4 has a block of 9, 27 or 81 numbers for each pair, triple or quadruple of atoms;
+//! the last atom varies fastest, and in a block the last direction. In a compact set the first atom is one of the primitive cell.
+//!
+//! `include/gullyfork.h` states lengths, limits and refusals of each call; a plain form has those of its C name.
+//!
+//! ```
+//! use gullyfork::{fc3, Refusal};
+//!
+//! let mut set = [0.0; 27];
+//! for (number, place) in [5, 7, 11, 15, 19, 21].into_iter().enumerate() {
+//!     set[place] = number as f64 + 1.0;
+//! }
+//! fc3::set_permutation_symmetry_fc3(&mut set, 1)?;
+//! assert_eq!(set[5], 3.5);
+//! assert_eq!(fc3::set_permutation_symmetry_fc3(&mut set, 2), Err(Refusal::WrongLength));
+//! # Ok::<(), Refusal>(())
+//! ```
+pub mod cells;
+pub mod common;
+pub mod fc2;
+pub mod fc3;
+pub mod fc4;
+pub mod tables;
+
+mod ffi;
+
+use std::{error, fmt};
+
+/// Why a call was turned down: the first of these that applies. Every slice is as it was.
+#[derive(Clone, Copy, Debug, PartialEq, Eq, Hash)]
+#[repr(u8)]
+pub enum Refusal {
+    /// A count is above its limit.
+    CountAboveLimit = 1,
+    /// A slice has a length other than the one stated for it.
+    WrongLength = 2,
+    /// An index table holds a negative number, or one not below the count it points into, whether that entry is read or not.
+    IndexOutOfRange = 3,
+    /// The source or the target slab is not below num_first, or the two are equal.
+    BadSlab = 4,
+    /// A listed atom's representative is not itself a listed atom that represents itself.
+    BadRepresentative = 5,
+    /// The shift tables break a rule.
+    BadShiftTables = 6,
+}
+
+impl Refusal {
+    /// The number of the refusal, 1 to 6.
+    pub fn number(self) -> u8 {
+        self as u8
+    }
+}
+
+impl fmt::Display for Refusal {
+    fn fmt(&self, f: &mut fmt::Formatter) -> fmt::Result {
+        let words = match self {
+            Refusal::CountAboveLimit => "a count is above its limit",
+            Refusal::WrongLength => "a slice has a length other than the one stated for it",
+            Refusal::IndexOutOfRange => "an index table holds a negative number, or one not below the count it points into",
+            Refusal::BadSlab => "the source or the target slab is not below num_first, or the two are equal",
+            Refusal::BadRepresentative => "a listed atom's representative is not itself a listed atom that represents itself",
+            Refusal::BadShiftTables => "the shift tables break a rule",
+        };
+        f.write_str(words)
+    }
+}
+
+impl error::Error for Refusal {}
+
+/// The numbers of include/gullyfork.h: 0, and the six refusals.
+fn answer(number: u8) -> Result<(), Refusal> {
+    Err(match number {
+        0 => return Ok(()),
+        1 => Refusal::CountAboveLimit,
+        2 => Refusal::WrongLength,
+        3 => Refusal::IndexOutOfRange,
+        4 => Refusal::BadSlab,
+        5 => Refusal::BadRepresentative,
+        6 => Refusal::BadShiftTables,
+        _ => unreachable!("the library answers with 0 to 6 here, not with {number}"),
+    })
+}
+
+/// The length of a work slice, the counts' product; 0 where a count is above its limit, since the call is refused for that before it
+/// looks at lengths.
+fn room(limits: &[(usize, usize)]) -> usize {
+    if limits.iter().any(|(count, limit)| count > limit) {
+        return 0;
+    }
+    limits.iter().map(|(count, _)| count).product()
+}
+
+/// How many rows of a length there are in a slice. What is left over makes the call refuse the slice's length.
+fn rows(length: usize, row: usize) -> usize {
+    length.checked_div(row).unwrap_or(0)
+}
+
+#[cfg(test)]
+mod tests {
+    use super::*;
+
+    #[test]
+    fn numbers_come_back() {
+        assert_eq!(answer(0), Ok(()));
+        for number in 1..=6 {
+            assert_eq!(answer(number).unwrap_err().number(), number);
+        }
+    }
+
+    #[test]
+    fn every_refusal_has_its_own_words() {
+        let words: Vec<String> = (1..=6).map(|n| answer(n).unwrap_err().to_string()).collect();
+        for (i, w) in words.iter().enumerate() {
+            assert!(!words[..i].contains(w));
+        }
+    }
+
+    #[test]
+    fn no_room_for_what_is_refused() {
+        assert_eq!(room(&[(3, 256), (5, 256), (5, 256)]), 75);
+        assert_eq!(room(&[(usize::MAX, 256), (usize::MAX, 256)]), 0);
+        assert_eq!(rows(54, 27), 2);
+        assert_eq!(rows(54, 0), 0);
+    }
+}

@@ -1,0 +1,85 @@
+//! Refused calls leave every slice, counts beyond every limit cost no memory, and work memory has no influence and ends in zeros.
+use gullyfork::{cells, fc2, fc3, fc4, tables, Refusal};
+
+const HUGE: usize = usize::MAX;
+const IDENTITY: [f64; 9] = [1.0, 0.0, 0.0, 0.0, 1.0, 0.0, 0.0, 0.0, 1.0];
+const ROWS: [i64; 9] = [0, 1, 2, 1, 2, 0, 2, 0, 1];
+
+fn counting(n: u32) -> Vec<f64> {
+    (0..n).map(f64::from).collect()
+}
+
+#[test]
+fn huge_counts_are_refused_before_memory_is_asked_for() {
+    let above = Err(Refusal::CountAboveLimit);
+    let mut set = counting(27);
+    assert_eq!(tables::check_shift_tables(&[], &[], &[], &[], HUGE, HUGE, HUGE), above);
+    assert_eq!(cells::compute_permutation(&mut [], &IDENTITY, &[], &[], HUGE, 0.1), Err(Refusal::CountAboveLimit));
+    assert_eq!(fc2::perm_trans_symmetrize_fc(&mut set, HUGE, 1), above);
+    assert_eq!(fc2::perm_trans_symmetrize_compact_fc(&mut set, &[], &[], &[], &[], HUGE, HUGE, 1), above);
+    assert_eq!(fc2::set_index_permutation_symmetry_compact_fc(&mut set, &[], &[], &[], &[], HUGE, 2, true), above);
+    assert_eq!(fc2::distribute_fc2(&mut set, &[], &[], &[], &[], &[], &[], HUGE), above);
+    assert_eq!(fc2::drift_report(&set, HUGE), Err(Refusal::CountAboveLimit));
+    assert_eq!(fc3::set_permutation_symmetry_fc3(&mut set, HUGE), above);
+    assert_eq!(fc3::set_permutation_symmetry_compact_fc3(&mut set, &[], &[], &[], &[], 257, 1), above);
+    assert_eq!(fc3::transpose_compact_fc3(&mut set, &[], &[], &[], &[], 1, HUGE, 0), above);
+    assert_eq!(fc3::distribute_fc3(&mut set, 1, 0, &[], HUGE, &IDENTITY), above);
+    assert_eq!(fc3::rotate_delta_fc2s(&mut set, &[], &[], &[], &[], 1, HUGE, HUGE), above);
+    assert_eq!(fc4::set_permutation_symmetry_fc4(&mut set, HUGE), above);
+    assert_eq!(fc4::set_permutation_symmetry_compact_fc4(&mut set, &[], &[], &[], &[], HUGE, HUGE), above);
+    assert_eq!(fc4::transpose_compact_fc4(&mut set, &[], &[], &[], &[], HUGE, HUGE, 0), above);
+    assert_eq!(fc4::distribute_fc4(&mut set, 1, 0, &[], HUGE, &IDENTITY), above);
+    assert_eq!(fc4::rotate_delta_fc3s(&mut set, &[], &[], &[], &[], 65, 1, 1), above);
+    assert_eq!(set, counting(27));
+}
+
+#[test]
+fn a_refused_call_leaves_set_and_work_memory() {
+    let (mut set, mut done) = (counting(243), [7; 9]);
+    let wrong = [0, 1, 2];
+    let refused = fc3::set_permutation_symmetry_compact_fc3_with(&mut set, &[0], &[0; 3], &wrong, &ROWS, &mut done, 3, 1, 3);
+    assert_eq!(refused, Err(Refusal::BadShiftTables));
+    assert_eq!((set, done), (counting(243), [7; 9]));
+}
+
+#[test]
+fn work_memory_has_no_influence_and_ends_in_zeros() {
+    let (mut set, mut done, mut plain) = (counting(243), [7; 9], counting(243));
+    fc3::set_permutation_symmetry_compact_fc3_with(&mut set, &[0], &[0; 3], &[0, 2, 1], &ROWS, &mut done, 3, 1, 3).unwrap();
+    fc3::set_permutation_symmetry_compact_fc3(&mut plain, &[0], &[0; 3], &[0, 2, 1], &ROWS, 3, 1).unwrap();
+    assert_eq!(done, [0; 9]);
+    assert_eq!(set, plain);
+    let (mut blocks, mut work) = ([7.0; 27], [7.0; 9]);
+    fc3::rotate_delta_fc2s_with(&mut blocks, &counting(9), &[1.0; 3], &IDENTITY, &[0], &mut work, 1, 1, 1).unwrap();
+    assert_eq!(work, [0.0; 9]);
+}
+
+#[test]
+fn lengths_that_are_no_whole_number_of_rows_are_refused() {
+    let wrong = Err(Refusal::WrongLength);
+    let mut set = counting(55);
+    assert_eq!(fc3::distribute_fc3(&mut set, 1, 0, &[0], 1, &IDENTITY), wrong);
+    assert_eq!(fc3::transpose_compact_fc3(&mut set[..27], &[0], &[0], &[0], &[0, 0], 1, 1, 0), Err(Refusal::BadShiftTables));
+    assert_eq!(fc3::transpose_compact_fc3(&mut set[..26], &[0], &[0], &[0], &[0], 1, 1, 0), wrong);
+    assert_eq!(fc2::distribute_fc2(&mut set, &[0], &[0], &IDENTITY[1..], &[0], &[0], &[0], 1), wrong);
+    assert_eq!(set, counting(55));
+}
+
+#[test]
+fn no_match_is_no_refusal() {
+    let mut slots = [7, 7];
+    let (pos, rot_pos) = ([0.25, 0.0, 0.0, 0.0, 0.0, 0.0], [0.125, 0.0, 0.0, 0.375, 0.0, 0.0]);
+    assert_eq!(cells::compute_permutation(&mut slots, &IDENTITY, &pos, &rot_pos, 2, 0.1875), Ok(false));
+    assert_eq!(slots, [0, -1]);
+}
+
+#[test]
+fn drifts() {
+    let mut fc = [0.0; 36];
+    let still = fc2::DriftReport { drift: fc2::Drift::Still, atom: 0, directions: [0, 0] };
+    assert_eq!(fc2::drift_report(&fc, 2), Ok(still));
+    fc[9 + 7] = f64::NAN;
+    let none = fc2::DriftReport { drift: fc2::Drift::NoNumber, atom: 0, directions: [2, 1] };
+    assert_eq!(fc2::drift_report(&fc, 2), Ok(none));
+    assert_eq!(fc2::drift_report(&fc, 3), Err(Refusal::WrongLength));
+}

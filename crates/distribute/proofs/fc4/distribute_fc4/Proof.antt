@@ -1,0 +1,105 @@
+use mathlib.Core.Path.{_≡_, sym, ap, _∙_}
+use mathlib.Core.Bool.{false}
+use Prim.Native.Nat.{ℕ, _*_}
+use native.Mathlib.Omega.{arith}
+use lib.ListN.{length}
+use borrow.Author.Needs.{needs}
+use Rattle.lists.specs.Digits.{room}
+use Rattle.tables.specs.Answers.{isRefusal, is-done}
+use Rattle.tables.specs.Conditions.{read}
+use Rattle.rotations.specs.Rotation.{coefficients}
+use Rattle.slabs.specs.SlabLaws.{whole-block, loops-distribute, inside-slab, ready, judged-stated, refused, done-call}
+use Rattle.distribute.proofs.fc4.distribute_fc4.Statement.{statement}
+use Rattle.distribute.proofs.fc4.distribute_fc4.Tie as tie
+
+-- a set of x blocks
+in-blocks : (x : ℕ) → room 3 4 x ≡ x * 81
+unfolding room
+in-blocks x = omega arith
+
+stated-length-requires : tie.Need-stated-length-requires
+stated-length-requires c κs = search needs
+
+judge-slabs-requires : tie.Need-judge-slabs-requires
+judge-slabs-requires c κs = search needs
+
+is-refusal-requires : tie.Need-is-refusal-requires
+is-refusal-requires c κs = search needs
+
+returns : tie.Need-returns
+returns c =
+    let j = c .before .before in
+    let a = j .before .before .before .before .args in
+    let X = room (a .num-atom) 3 (a .num-first) in
+    let e = j .judge-slabs .ensures
+    ∙ judged-stated 64 _ (room 3 4 X) (length (a .fc4 .now)) (a .atom-mapping .now) (a .num-atom) (length (a .rot-cart .now)) (a .num-first) (a .target) (a .source)
+    (j .before .stated-length .ensures) in
+    refused 64 3 (a .fc4 .now) (a .target) (a .source) (a .atom-mapping .now) (a .num-atom) (a .rot-cart .now) (a .num-first) (j .judge-slabs .result) e
+    (sym (c .before .is-refusal .ensures) ∙ c .if1 .taken)
+
+read9-requires : tie.Need-read9-requires
+read9-requires c κs =
+    let j = c .before .before in
+    let a = j .before .before .before .before .args in
+    let X = room (a .num-atom) 3 (a .num-first) in
+    let e = j .judge-slabs .ensures
+    ∙ judged-stated 64 _ (room 3 4 X) (length (a .fc4 .now)) (a .atom-mapping .now) (a .num-atom) (length (a .rot-cart .now)) (a .num-first) (a .target) (a .source)
+    (j .before .stated-length .ensures) in
+    let r : isRefusal (j .judge-slabs .result) ≡ false = sym (c .before .is-refusal .ensures) ∙ c .if1 .left in
+    let R = ready 64 (room 3 4 X) _ _ _ _ _ _ _ (sym e ∙ is-done (j .judge-slabs .result) r) in
+    omega (arith, R .rotation-length)
+
+coefficients4-requires : tie.Need-coefficients4-requires
+coefficients4-requires c κs = search needs
+
+fill-slab-requires : tie.Need-fill-slab-requires
+fill-slab-requires c κs =
+    let j = c .before .before .before .before .before .before in
+    let a = j .before .before .before .before .args in
+    let X = room (a .num-atom) 3 (a .num-first) in
+    let e = j .judge-slabs .ensures
+    ∙ judged-stated 64 _ (room 3 4 X) (length (a .fc4 .now)) (a .atom-mapping .now) (a .num-atom) (length (a .rot-cart .now)) (a .num-first) (a .target) (a .source)
+    (j .before .stated-length .ensures) in
+    let r : isRefusal (j .judge-slabs .result) ≡ false = sym (c .before .before .before .before .before .is-refusal .ensures) ∙ c .before .before .before .before .if1 .left in
+    let R = ready 64 (room 3 4 X) _ _ _ _ _ _ _ (sym e ∙ is-done (j .judge-slabs .result) r) in
+    let l = R .set-length ∙ in-blocks X in (
+      R .mapping-fit,
+      (
+        inside-slab (a .num-atom) 81 3 (a .target) (a .num-first) _ (R .target-below) l,
+        inside-slab (a .num-atom) 81 3 (a .source) (a .num-first) _ (R .source-below) l,
+      ),
+    )
+
+same-length : tie.Need-same-length
+same-length c = search needs
+
+returns-2 : tie.Need-returns-2
+returns-2 c =
+    let j = c .before .before .before .before .before .before .before .before .before in
+    let a = j .before .before .before .before .args in
+    let X = room (a .num-atom) 3 (a .num-first) in
+    let e = j .judge-slabs .ensures
+    ∙ judged-stated 64 _ (room 3 4 X) (length (a .fc4 .now)) (a .atom-mapping .now) (a .num-atom) (length (a .rot-cart .now)) (a .num-first) (a .target) (a .source)
+    (j .before .stated-length .ensures) in
+    let r : isRefusal (j .judge-slabs .result) ≡ false = sym (c .before .before .before .before .before .before .before .before .is-refusal .ensures) ∙ c .before .before .before .before .before .before .before .if1 .left in
+    let R = ready 64 (room 3 4 X) _ _ _ _ _ _ _ (sym e ∙ is-done (j .judge-slabs .result) r) in
+    let l = R .set-length ∙ in-blocks X in
+    let ec = c .before .before .before .before .before .coefficients4 .ensures ∙ ap (λ m. coefficients m 4 81) (c .before .before .before .before .before .before .read9 .ensures ∙ whole-block (a .rot-cart .now) (R .rotation-length)) in
+    done-call 64 3 (a .fc4 .now) (a .target) (a .source) (a .atom-mapping .now) (a .num-atom) (a .rot-cart .now) (a .num-first) (j .judge-slabs .result) e r
+    (c .before .before .fill-slab .ensures
+    ∙ loops-distribute (a .atom-mapping .now) (a .rot-cart .now) _ (a .num-atom) 3 (a .target) (a .source) (a .num-first) (a .fc4 .now) (omega arith)
+    (λ i h. read (R .mapping-fit) i h .1) l (R .target-below) (R .source-below) (R .apart) ec)
+
+pub distribute-fc4-spec : {M : Type 1} → statement M
+distribute-fc4-spec =
+    tie.close
+    (tie.spec
+    stated-length-requires
+    judge-slabs-requires
+    is-refusal-requires
+    returns
+    read9-requires
+    coefficients4-requires
+    fill-slab-requires
+    same-length
+    returns-2)

@@ -1,0 +1,48 @@
+use native.Mathlib.Nat.{mul-le-mul}
+use native.Mathlib.Omega.{arith}
+use Prim.Native.Nat.{_*_, _≤_}
+use Rattle.lists.specs.Digits.{room}
+use Rattle.distribute.proofs.fc4.stated_length.Statement.{statement}
+use Rattle.distribute.proofs.fc4.stated_length.Tie as tie
+
+returns : tie.Need-returns
+returns c = λ h g. absurd (omega arith)
+
+returns-2 : tie.Need-returns-2
+returns-2 c = λ h g. absurd (omega arith)
+
+mul-result : tie.Need-mul-result
+mul-result c =
+    let a = c .before .before .args in
+    let p0 : a .num-first * a .num-atom ≤ 4096 = mul-le-mul {n₂ = 64} {m₂ = 64} (omega arith) (omega arith) in
+    omega arith
+
+mul-result-2 : tie.Need-mul-result-2
+mul-result-2 c =
+    let a = c .before .before .args in
+    let p0 : a .num-first * a .num-atom ≤ 4096 = mul-le-mul {n₂ = 64} {m₂ = 64} (omega arith) (omega arith) in
+    let p1 : a .num-first * a .num-atom * a .num-atom ≤ 262144 = mul-le-mul {n₂ = 4096} {m₂ = 64} (p0) (omega arith) in
+    omega arith
+
+mul-result-3 : tie.Need-mul-result-3
+mul-result-3 c =
+    let a = c .before .before .args in
+    let p0 : a .num-first * a .num-atom ≤ 4096 = mul-le-mul {n₂ = 64} {m₂ = 64} (omega arith) (omega arith) in
+    let p1 : a .num-first * a .num-atom * a .num-atom ≤ 262144 = mul-le-mul {n₂ = 4096} {m₂ = 64} (p0) (omega arith) in
+    let p2 : a .num-first * a .num-atom * a .num-atom * a .num-atom ≤ 16777216 = mul-le-mul {n₂ = 262144} {m₂ = 64} (p1) (omega arith) in
+    omega arith
+
+mul-result-4 : tie.Need-mul-result-4
+mul-result-4 c =
+    let a = c .before .before .args in
+    let p0 : a .num-first * a .num-atom ≤ 4096 = mul-le-mul {n₂ = 64} {m₂ = 64} (omega arith) (omega arith) in
+    let p1 : a .num-first * a .num-atom * a .num-atom ≤ 262144 = mul-le-mul {n₂ = 4096} {m₂ = 64} (p0) (omega arith) in
+    let p2 : a .num-first * a .num-atom * a .num-atom * a .num-atom ≤ 16777216 = mul-le-mul {n₂ = 262144} {m₂ = 64} (p1) (omega arith) in
+    omega arith
+
+returns-3 : tie.Need-returns-3
+unfolding room
+returns-3 c = λ h g. omega arith
+
+pub stated-length-spec : {M : Type 1} → statement M
+stated-length-spec = tie.close (tie.spec returns returns-2 mul-result mul-result-2 mul-result-3 mul-result-4 returns-3)

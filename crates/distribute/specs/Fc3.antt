@@ -1,0 +1,12 @@
+-- `distribute_fc3` (document 01, "Third and fourth order"). Definitions only.
+use mathlib.Core.List.{List}
+use Prim.Native.Nat.{ℕ}
+use lib.IntN.{ℤ}
+use lib.Ieee.{Float}
+use Rattle.tables.specs.declared.Answer.{Answer}
+use Rattle.tables.specs.Limits.{limit3}
+use Rattle.slabs.specs.Slab.{distributeSlab}
+
+-- the set, target, source, the mapping, num_atom, the rotation, num_first: the answer and the set
+abbrev pub distributeFc3 : List Float → ℕ → ℕ → List ℤ → ℕ → List Float → ℕ → Answer × List Float
+distributeFc3 = distributeSlab limit3 2

@@ -1,0 +1,136 @@
+// distribute_fc4: the target slab receives the blocks of the source slab, rotated.
+use tables::Answer;
+ghost use mathlib.Core.Path.{_≡_};
+ghost use Prim.Native.Nat.{_+_, _*_, _≤_};
+ghost use lib.ListN.{length};
+ghost use Rattle.lists.specs.Digits.{room};
+ghost use Rattle.tables.specs.Conditions.{IndexTable};
+ghost use Rattle.rotations.specs.Rotation.{sums};
+ghost use Rattle.slabs.specs.Slab.{moveBlock, move};
+ghost use Rattle.slabs.specs.SlabLaws.{Inside};
+ghost use Rattle.distribute.specs.Fc4.{distributeFc4};
+
+// Block target is block source, turned: c has the rotation's coefficients.
+fn fill_block(fc4: &mut [f64], c: &[f64; 6561], target: usize, source: usize)
+    requires { ⌜ (target * 81 + 81 ≤ length (now fc4)) × (source * 81 + 81 ≤ length (now fc4)) ⌝ }
+    ensures { λ _. ⌜ now (fc4 .exit) ≡ moveBlock 81 (sums 81 81 81 0 (now (c .entry))) target source (now (fc4 .entry)) ⌝ }
+{
+    let t = blocks::read81(fc4, source);
+    blocks::write81(fc4, target, rotations::rotated81(c, t));
+}
+
+// The blocks of one atom more: target and source number the slab and the atoms before.
+fn fill_row(
+    fc4: &mut [f64],
+    c: &[f64; 6561],
+    atom_mapping: &[i64],
+    num_atom: usize,
+    target: usize,
+    source: usize,
+)
+    requires { ⌜ IndexTable «num_atom» «num_atom» (now «atom_mapping») ⌝ }
+    requires { ⌜ Inside «num_atom» 81 1 target (length (now fc4)) × Inside «num_atom» 81 1 source (length (now fc4)) ⌝ }
+    ensures { λ _. ⌜ now (fc4 .exit) ≡ move (now («atom_mapping» .entry)) «num_atom» 81 (sums 81 81 81 0 (now (c .entry))) 1 target source (now (fc4 .entry)) ⌝ }
+{
+    for i in 0..num_atom {
+        let image = tables::index::entry(atom_mapping, i);
+        fill_block(fc4, c, target * num_atom + i, source * num_atom + image);
+    }
+}
+
+// The blocks of two atoms more: target and source number the slab and the atoms before.
+fn fill_plane(
+    fc4: &mut [f64],
+    c: &[f64; 6561],
+    atom_mapping: &[i64],
+    num_atom: usize,
+    target: usize,
+    source: usize,
+)
+    requires { ⌜ IndexTable «num_atom» «num_atom» (now «atom_mapping») ⌝ }
+    requires { ⌜ Inside «num_atom» 81 2 target (length (now fc4)) × Inside «num_atom» 81 2 source (length (now fc4)) ⌝ }
+    ensures { λ _. ⌜ now (fc4 .exit) ≡ move (now («atom_mapping» .entry)) «num_atom» 81 (sums 81 81 81 0 (now (c .entry))) 2 target source (now (fc4 .entry)) ⌝ }
+{
+    for i in 0..num_atom {
+        let image = tables::index::entry(atom_mapping, i);
+        fill_row(
+            fc4,
+            c,
+            atom_mapping,
+            num_atom,
+            target * num_atom + i,
+            source * num_atom + image,
+        );
+    }
+}
+
+// The blocks of three atoms more: target and source number the slab and the atoms before.
+fn fill_slab(
+    fc4: &mut [f64],
+    c: &[f64; 6561],
+    atom_mapping: &[i64],
+    num_atom: usize,
+    target: usize,
+    source: usize,
+)
+    requires { ⌜ IndexTable «num_atom» «num_atom» (now «atom_mapping») ⌝ }
+    requires { ⌜ Inside «num_atom» 81 3 target (length (now fc4)) × Inside «num_atom» 81 3 source (length (now fc4)) ⌝ }
+    ensures { λ _. ⌜ now (fc4 .exit) ≡ move (now («atom_mapping» .entry)) «num_atom» 81 (sums 81 81 81 0 (now (c .entry))) 3 target source (now (fc4 .entry)) ⌝ }
+{
+    for i in 0..num_atom {
+        let image = tables::index::entry(atom_mapping, i);
+        fill_plane(
+            fc4,
+            c,
+            atom_mapping,
+            num_atom,
+            target * num_atom + i,
+            source * num_atom + image,
+        );
+    }
+}
+
+// The length stated for the set, where the counts are within the limit.
+fn stated_length(num_atom: usize, num_first: usize) -> usize
+    ensures { λ r. ⌜ («num_atom» ≤ 64 → «num_first» ≤ 64 → r ≡ room 3 4 (room «num_atom» 3 «num_first»)) ⌝ }
+{
+    if num_atom > tables::limits::LIMIT4 {
+        return 0;
+    }
+    if num_first > tables::limits::LIMIT4 {
+        return 0;
+    }
+    num_first * num_atom * num_atom * num_atom * 81
+}
+
+// Fills slab target of fc4 from slab source: block by block at the images of the atoms, rotated. fc4 has num_first slabs.
+pub fn distribute_fc4(
+    fc4: &mut [f64],
+    target: usize,
+    source: usize,
+    atom_mapping: &[i64],
+    num_atom: usize,
+    rot_cart: &[f64],
+    num_first: usize,
+) -> Answer
+    ensures { λ r. ⌜ (r, now (fc4 .exit)) ≡ distributeFc4 (now (fc4 .entry)) target source (now («atom_mapping» .entry)) «num_atom» (now («rot_cart» .entry)) «num_first» ⌝ }
+{
+    let stated = stated_length(num_atom, num_first);
+    let a = slabs::judge_slabs(
+        tables::limits::LIMIT4,
+        stated,
+        fc4.len(),
+        atom_mapping,
+        num_atom,
+        rot_cart.len(),
+        num_first,
+        target,
+        source,
+    );
+    if tables::is_refusal(a) {
+        return a;
+    }
+    let c = rotations::coefficients4(blocks::read9(rot_cart, 0));
+    fill_slab(fc4, &c, atom_mapping, num_atom, target, source);
+    Answer::Done
+}

@@ -1,0 +1,4 @@
+// The distributors: rows or slabs of a set filled from others by a rotation and a map of the atoms (fc2.rs, fc3.rs, fc4.rs).
+pub mod fc2;
+pub mod fc3;
+pub mod fc4;

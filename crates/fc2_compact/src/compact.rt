@@ -1,0 +1,262 @@
+// Compact sets of second order: set_index_permutation_symmetry_compact_fc and perm_trans_symmetrize_compact_fc (fc2.rs).
+ghost use mathlib.Core.Path.{_≡_};
+ghost use mathlib.Core.Bool.{cond};
+ghost use lib.ListN.{length};
+ghost use Rattle.lists.specs.Tab.{times};
+ghost use Rattle.tables.specs.Compact.{shiftTables, shiftsOf, judgedCompact};
+ghost use Rattle.fc2_compact.specs.Compact.{transposed, averaged, leveled, symmetrized, setIndexPermutationSymmetryCompactFc, permTransSymmetrizeCompactFc};
+ghost use Rattle.tables.specs.Limits.{limit2, limitLevel};
+ghost use Rattle.tables.specs.Answers.{refuseIf};
+ghost use lib.Dec.{ltb};
+ghost use Rattle.fc2_compact.specs.CompactCode.{Ready};
+use super::compact_pairs::average_pass;
+use super::compact_pairs::transpose_pass;
+use super::compact_rows::drift_pass;
+use super::compact_rows::site_pass;
+use tables::Answer;
+use tables::guard::judge_compact;
+use tables::limits::LIMIT_LEVEL;
+use tables::limits::LIMIT2;
+
+// One level: twice the transpose and the row drift, then the averages.
+fn level_pass(
+    fc: &mut [f64],
+    p2s: &[i64],
+    s2pp: &[i64],
+    nsym_list: &[i64],
+    perms: &[i64],
+    n_satom: usize,
+    n_patom: usize,
+    num_trans: usize,
+)
+    requires { ⌜ Ready (shiftTables (now p2s) (now s2pp) (now «nsym_list») (now perms) «n_satom» «n_patom» «num_trans») (length (now fc)) ⌝ }
+    ensures { λ _. ⌜ now (fc .exit) ≡ leveled (shiftsOf (shiftTables (now (p2s .entry)) (now (s2pp .entry)) (now («nsym_list» .entry)) (now (perms .entry)) «n_satom» «n_patom» «num_trans»)) (now (fc .entry)) ⌝ }
+{
+    transpose_pass(fc, p2s, s2pp, nsym_list, perms, n_satom, n_patom, num_trans);
+    drift_pass(fc, p2s, s2pp, nsym_list, perms, n_satom, n_patom, num_trans);
+    transpose_pass(fc, p2s, s2pp, nsym_list, perms, n_satom, n_patom, num_trans);
+    drift_pass(fc, p2s, s2pp, nsym_list, perms, n_satom, n_patom, num_trans);
+    average_pass(fc, p2s, s2pp, nsym_list, perms, n_satom, n_patom, num_trans);
+}
+
+fn levels(
+    fc: &mut [f64],
+    p2s: &[i64],
+    s2pp: &[i64],
+    nsym_list: &[i64],
+    perms: &[i64],
+    n_satom: usize,
+    n_patom: usize,
+    num_trans: usize,
+    level: usize,
+)
+    requires { ⌜ Ready (shiftTables (now p2s) (now s2pp) (now «nsym_list») (now perms) «n_satom» «n_patom» «num_trans») (length (now fc)) ⌝ }
+    ensures { λ _. ⌜ now (fc .exit) ≡ times level (λ _. leveled (shiftsOf (shiftTables (now (p2s .entry)) (now (s2pp .entry)) (now («nsym_list» .entry)) (now (perms .entry)) «n_satom» «n_patom» «num_trans»))) (now (fc .entry)) ⌝ }
+{
+    let mut done = 0;
+    while done < level {
+        level_pass(fc, p2s, s2pp, nsym_list, perms, n_satom, n_patom, num_trans);
+        done += 1;
+    }
+}
+
+fn symmetrize(
+    fc: &mut [f64],
+    p2s: &[i64],
+    s2pp: &[i64],
+    nsym_list: &[i64],
+    perms: &[i64],
+    n_satom: usize,
+    n_patom: usize,
+    num_trans: usize,
+    level: usize,
+)
+    requires { ⌜ Ready (shiftTables (now p2s) (now s2pp) (now «nsym_list») (now perms) «n_satom» «n_patom» «num_trans») (length (now fc)) ⌝ }
+    ensures { λ _. ⌜ now (fc .exit) ≡ symmetrized (shiftsOf (shiftTables (now (p2s .entry)) (now (s2pp .entry)) (now («nsym_list» .entry)) (now (perms .entry)) «n_satom» «n_patom» «num_trans»)) level (now (fc .entry)) ⌝ }
+{
+    levels(
+        fc,
+        p2s,
+        s2pp,
+        nsym_list,
+        perms,
+        n_satom,
+        n_patom,
+        num_trans,
+        level,
+    );
+    site_pass(fc, p2s, s2pp, nsym_list, perms, n_satom, n_patom, num_trans);
+}
+
+// The set transposed, or averaged.
+fn exchange(
+    fc: &mut [f64],
+    p2s: &[i64],
+    s2pp: &[i64],
+    nsym_list: &[i64],
+    perms: &[i64],
+    n_satom: usize,
+    n_patom: usize,
+    num_trans: usize,
+    transpose: bool,
+)
+    requires { ⌜ Ready (shiftTables (now p2s) (now s2pp) (now «nsym_list») (now perms) «n_satom» «n_patom» «num_trans») (length (now fc)) ⌝ }
+    ensures { λ _. ⌜ now (fc .exit) ≡ cond transpose (transposed (shiftsOf (shiftTables (now (p2s .entry)) (now (s2pp .entry)) (now («nsym_list» .entry)) (now (perms .entry)) «n_satom» «n_patom» «num_trans»)) (now (fc .entry))) (averaged (shiftsOf (shiftTables (now (p2s .entry)) (now (s2pp .entry)) (now («nsym_list» .entry)) (now (perms .entry)) «n_satom» «n_patom» «num_trans»)) (now (fc .entry))) ⌝ }
+{
+    if transpose {
+        transpose_pass(fc, p2s, s2pp, nsym_list, perms, n_satom, n_patom, num_trans);
+        return;
+    }
+    average_pass(fc, p2s, s2pp, nsym_list, perms, n_satom, n_patom, num_trans);
+}
+
+// Refusals 1, 2, 3 and 6 of both calls.
+fn judge(
+    set_len: usize,
+    work_len: usize,
+    p2s: &[i64],
+    s2pp: &[i64],
+    nsym_list: &[i64],
+    perms: &[i64],
+    n_satom: usize,
+    n_patom: usize,
+    num_trans: usize,
+) -> Answer
+    ensures { λ r. ⌜ r ≡ judgedCompact limit2 1 «set_len» 1 «work_len» (shiftTables (now (p2s .entry)) (now (s2pp .entry)) (now («nsym_list» .entry)) (now (perms .entry)) «n_satom» «n_patom» «num_trans») ⌝ }
+{
+    judge_compact(
+        LIMIT2,
+        1,
+        set_len,
+        1,
+        work_len,
+        p2s,
+        s2pp,
+        nsym_list,
+        perms,
+        n_satom,
+        n_patom,
+        num_trans,
+    )
+}
+
+// The same with the limit of the level.
+fn judge_levels(
+    set_len: usize,
+    work_len: usize,
+    p2s: &[i64],
+    s2pp: &[i64],
+    nsym_list: &[i64],
+    perms: &[i64],
+    n_satom: usize,
+    n_patom: usize,
+    num_trans: usize,
+    level: usize,
+) -> Answer
+    ensures { λ r. ⌜ r ≡ refuseIf (ltb limitLevel level) Answer.CountAboveLimit (judgedCompact limit2 1 «set_len» 1 «work_len» (shiftTables (now (p2s .entry)) (now (s2pp .entry)) (now («nsym_list» .entry)) (now (perms .entry)) «n_satom» «n_patom» «num_trans»)) ⌝ }
+{
+    if level > LIMIT_LEVEL {
+        return Answer::CountAboveLimit;
+    }
+    judge(
+        set_len,
+        work_len,
+        p2s,
+        s2pp,
+        nsym_list,
+        perms,
+        n_satom,
+        n_patom,
+        num_trans,
+    )
+}
+
+// Exchanges the atoms of every pair of a compact set (transpose), or averages every number with that of the exchanged pair.
+// The Rust marks pairs in done; here the pair is taken at its smaller block, and done is only cleared.
+pub fn set_index_permutation_symmetry_compact_fc(
+    fc: &mut [f64],
+    p2s: &[i64],
+    s2pp: &[i64],
+    nsym_list: &[i64],
+    perms: &[i64],
+    done: &mut [u8],
+    n_satom: usize,
+    n_patom: usize,
+    num_trans: usize,
+    transpose: bool,
+) -> Answer
+    ensures { λ r. ⌜ (r, now (fc .exit), now (done .exit)) ≡ setIndexPermutationSymmetryCompactFc (now (fc .entry)) (shiftTables (now (p2s .entry)) (now (s2pp .entry)) (now («nsym_list» .entry)) (now (perms .entry)) «n_satom» «n_patom» «num_trans») (now (done .entry)) transpose ⌝ }
+{
+    let a = judge(
+        fc.len(),
+        done.len(),
+        p2s,
+        s2pp,
+        nsym_list,
+        perms,
+        n_satom,
+        n_patom,
+        num_trans,
+    );
+    if tables::is_refusal(a) {
+        return a;
+    }
+    exchange(
+        fc,
+        p2s,
+        s2pp,
+        nsym_list,
+        perms,
+        n_satom,
+        n_patom,
+        num_trans,
+        transpose,
+    );
+    lists::clear_bytes(done);
+    Answer::Done
+}
+
+// Symmetrizes a compact set: per level twice the transpose and the row drift, then the averages; at the end the blocks of the atoms with themselves.
+pub fn perm_trans_symmetrize_compact_fc(
+    fc: &mut [f64],
+    p2s: &[i64],
+    s2pp: &[i64],
+    nsym_list: &[i64],
+    perms: &[i64],
+    done: &mut [u8],
+    n_satom: usize,
+    n_patom: usize,
+    num_trans: usize,
+    level: usize,
+) -> Answer
+    ensures { λ r. ⌜ (r, now (fc .exit), now (done .exit)) ≡ permTransSymmetrizeCompactFc (now (fc .entry)) (shiftTables (now (p2s .entry)) (now (s2pp .entry)) (now («nsym_list» .entry)) (now (perms .entry)) «n_satom» «n_patom» «num_trans») (now (done .entry)) level ⌝ }
+{
+    let a = judge_levels(
+        fc.len(),
+        done.len(),
+        p2s,
+        s2pp,
+        nsym_list,
+        perms,
+        n_satom,
+        n_patom,
+        num_trans,
+        level,
+    );
+    if tables::is_refusal(a) {
+        return a;
+    }
+    symmetrize(
+        fc,
+        p2s,
+        s2pp,
+        nsym_list,
+        perms,
+        n_satom,
+        n_patom,
+        num_trans,
+        level,
+    );
+    lists::clear_bytes(done);
+    Answer::Done
+}

@@ -1,0 +1,360 @@
+-- The loops of a full set of third order: they go over sorted atoms, whose blocks are the first of their groups, and tile by tile of first atoms.
+-- Assumes nothing.
+use mathlib.Core.Path.{_≡_, refl, sym, ap, ap₂, _∙_, subst}
+use mathlib.Core.Logic.{inl, inr}
+use mathlib.Core.Bool.{true, false}
+use Prim.Native.Nat.{ℕ, _+_, _*_, _-_, _≤_, _<_, min}
+use native.Mathlib.Nat.{le-trans, le-refl, mul-le-mul, mul-le-mul-right}
+use native.Mathlib.Omega.{arith}
+use mathlib.Core.List.{List, [], _∷_}
+use lib.ListN.{length}
+use lib.Ieee.{Float, nan}
+use borrow.Author.Tests.{lt-ltb, le-ltb, eq-eqb, ne-eqb}
+use Rattle.lists.specs.Tab.{times, times-add, times-nest, times-same, times-idle, times-tail, times-head, times-both, times-swap}
+use Rattle.lists.specs.Elements.{All, pick}
+use Rattle.lists.specs.Digits.{horner, room, in-row}
+use Rattle.lists.specs.Members.{In}
+use Rattle.tables.specs.Limits.{limit3}
+use Rattle.tables.specs.declared.Answer.{Answer}
+use Rattle.tables.specs.declared.Answer.the-variants.{Done, CountAboveLimit, WrongLength}
+use Rattle.tables.specs.Answers.{isRefusal, after, is-done, passed, after-refusal, after-done}
+use Rattle.tables.specs.Conditions.{not-above, not-wrong}
+use Rattle.places.specs.Places.{size}
+use Rattle.places.specs.Orders.{six, six-group}
+use Rattle.places.specs.Whole.{whole, whole-laws, size-whole}
+use Rattle.places.specs.Addresses.{block-below}
+use Rattle.orbits.specs.Transposed.{counterpart}
+use Rattle.orbits.specs.AtBlocks.{storedOf, whole-block, whole-counterpart}
+use Rattle.orbits.specs.Groups.{groupBlocks, meanBlock, spreadBlock}
+use Rattle.orbits.specs.Scatter.{Distinct}
+use Rattle.orbits.specs.Symmetric.{symmetrized}
+use Rattle.orbits.specs.GroupLoop.{worked, firstVisit, isFirst, visit-first, visit-later, lowest-leaves}
+use Rattle.orbits.specs.AnyOrder.{visits-commute}
+use Rattle.fc3.specs.Mean.{mean6, Blocks6}
+use Rattle.fc3.specs.Loops.{plain3, six-same}
+use Rattle.fc3.specs.Symmetrize.{judgedFull3, setPermutationSymmetryFc3}
+
+-- a full set of third order that passed its guard
+pub record FullReady (lenSet n : ℕ) : Type 0 where
+  pub atoms : n ≤ 256
+  pub set-length : lenSet ≡ size (whole n) 2
+
+-- atoms in rising order, none above another before it
+pub record Sorted (n a b c : ℕ) : Type 0 where
+  pub ab : a ≤ b
+  pub bc : b ≤ c
+  pub last : c < n
+
+-- the number of block (a, b, c)
+abbrev pub full3At : ℕ → ℕ → ℕ → ℕ → ℕ
+full3At n a b c = (a * n + b) * n + c
+
+-- the six blocks of atoms a, b, c
+abbrev pub sixOf : ℕ → ℕ → ℕ → ℕ → List ℕ
+sixOf n a b c = full3At n a b c ∷ full3At n a c b ∷ full3At n b a c ∷ full3At n b c a ∷ full3At n c a b ∷ full3At n c b a ∷ []
+
+-- ---- which of the six is the lowest
+
+-- two digits: the number is lower with the lower one before
+two-le : (n x y : ℕ) → x ≤ y → y < n → x * n + y ≤ y * n + x
+two-le n x y h l =
+    let m : (y - x) * 1 ≤ (y - x) * n = mul-le-mul (le-refl (y - x)) (omega arith) in
+    let e : y ≡ x + (y - x) = omega arith in
+    go (y - x) e m
+  where
+    go : (d : ℕ) → y ≡ x + d → d * 1 ≤ d * n → x * n + y ≤ y * n + x
+    go d e m = rw e (omega arith)
+
+two-lt : (n x y : ℕ) → x < y → y < n → x * n + y < y * n + x
+two-lt n x y h l =
+    let m : (y - x) * 2 ≤ (y - x) * n = mul-le-mul (le-refl (y - x)) (omega arith) in
+    let e : y ≡ x + (y - x) = omega arith in
+    go (y - x) e m (omega arith)
+  where
+    go : (d : ℕ) → y ≡ x + d → d * 2 ≤ d * n → 0 < d → x * n + y < y * n + x
+    go d e m p = rw e (omega arith)
+
+-- of three digits, the last two or the first two change places
+module _ (n x y z : ℕ) (l : y < n) where
+  last-le : x ≤ y → full3At n z x y ≤ full3At n z y x
+  last-le h = let t = two-le n x y h l in omega arith
+
+  last-lt : x < y → full3At n z x y < full3At n z y x
+  last-lt h = let t = two-lt n x y h l in omega arith
+
+  first-le : x ≤ y → full3At n x y z ≤ full3At n y x z
+  first-le h = let t = mul-le-mul-right n (two-le n x y h l) in omega arith
+
+  first-lt : z < n → x < y → full3At n x y z < full3At n y x z
+  first-lt k h = let t = mul-le-mul-right n (two-lt n x y h l) in omega arith
+
+-- a lower first digit
+lead-lt : (n x y z u v w : ℕ) → x < u → y < n → z < n → full3At n x y z < full3At n u v w
+lead-lt n x y z u v w h hy hz =
+    let s = in-row (x + 1) n x y (omega arith) hy in
+    let t = in-row ((x + 1) * n) n (x * n + y) z s hz in
+    let r : (x + 1) * n ≤ u * n = mul-le-mul-right n (omega arith) in
+    let q = mul-le-mul-right n r in
+    omega arith
+
+module _ (n a b c : ℕ) (s : Sorted n a b c) where
+  lt-a : a < n
+  lt-a = let h = s .ab in let k = s .bc in let l = s .last in omega arith
+
+  lt-b : b < n
+  lt-b = let k = s .bc in let l = s .last in omega arith
+
+  -- sorted atoms are the lowest of the six
+  sorted-lowest : All (λ q. full3At n a b c ≤ q) (sixOf n a b c)
+  sorted-lowest =
+      let ac : a ≤ c = le-trans (s .ab) (s .bc) in
+      let acb = last-le n b c a (s .last) (s .bc) in
+      let bac = first-le n a b c lt-b (s .ab) in
+      let bca = le-trans bac (last-le n a c b (s .last) ac) in
+      let cab = le-trans acb (first-le n a c b (s .last) ac) in
+      let cba = le-trans bca (first-le n b c a (s .last) (s .bc)) in
+      (le-refl (full3At n a b c), (acb, (bac, (bca, (cab, (cba, tt))))))
+
+  -- and where no two atoms are the same, the six differ
+  sorted-distinct : a < b → b < c → Distinct (sixOf n a b c)
+  sorted-distinct ab bc =
+      let u = last-lt n b c a (s .last) bc in
+      let v = lead-lt n a c b b a c ab (s .last) lt-b in
+      let w = last-lt n a c b (s .last) (omega arith) in
+      let x = lead-lt n b c a c a b bc (s .last) lt-a in
+      let y = last-lt n a b c lt-b ab in
+      apart _ _ _ _ _ _ u v w x y
+    where
+      apart : (p q r s t u : ℕ) → p < q → q < r → r < s → s < t → t < u → Distinct (p ∷ q ∷ r ∷ s ∷ t ∷ u ∷ [])
+      apart p q r s t u h1 h2 h3 h4 h5 = (
+        ((λ e. omega arith), ((λ e. omega arith), ((λ e. omega arith), ((λ e. omega arith), ((λ e. omega arith), tt))))),
+        (
+          ((λ e. omega arith), ((λ e. omega arith), ((λ e. omega arith), ((λ e. omega arith), tt)))),
+          (
+            ((λ e. omega arith), ((λ e. omega arith), ((λ e. omega arith), tt))),
+            (((λ e. omega arith), ((λ e. omega arith), tt)), (((λ e. omega arith), tt), (tt, tt))),
+          ),
+        ),
+      )
+
+-- ---- the group of a block
+
+module _ (n a b c : ℕ) (ha : a < n) (hb : b < n) (hc : c < n) where
+  at-order : (σ : List ℕ) → counterpart (whole n) 2 σ (full3At n a b c) ≡ storedOf (whole n) (pick 0 σ (a ∷ b ∷ c ∷ []))
+  unfolding horner
+  at-order σ = whole-counterpart n a (b ∷ c ∷ []) ha (hb, (hc, tt)) σ
+
+  stored-at : (x y z : ℕ) → x < n → y < n → z < n → storedOf (whole n) (x ∷ y ∷ z ∷ []) ≡ full3At n x y z
+  unfolding horner storedOf
+  stored-at x y z hx hy hz = whole-block n x (y ∷ z ∷ []) hx (hy, (hz, tt))
+
+  group-six : groupBlocks (whole n) 2 six (full3At n a b c) ≡ sixOf n a b c
+  unfolding groupBlocks six pick
+  group-six =
+      six-same (at-order (0 ∷ 1 ∷ 2 ∷ []) ∙ stored-at a b c ha hb hc) (at-order (0 ∷ 2 ∷ 1 ∷ []) ∙ stored-at a c b ha hc hb) (at-order (1 ∷ 0 ∷ 2 ∷ []) ∙ stored-at b a c hb ha hc)
+      (at-order (1 ∷ 2 ∷ 0 ∷ []) ∙ stored-at b c a hb hc ha) (at-order (2 ∷ 0 ∷ 1 ∷ []) ∙ stored-at c a b hc ha hb) (at-order (2 ∷ 1 ∷ 0 ∷ []) ∙ stored-at c b a hc hb ha)
+
+-- ---- the loops
+
+-- the group of atoms a, b, c worked out and written
+unfoldable pub groupAt : ℕ → ℕ → ℕ → ℕ → List Float → List Float
+groupAt n a b c = worked mean6 2 six (whole n) (full3At n a b c)
+
+-- the groups of b and c with the atoms from, .., to - 1
+unfoldable pub bunchOf : ℕ → ℕ → ℕ → ℕ → ℕ → List Float → List Float
+bunchOf n from to b c xs = times (to - from) (λ i. groupAt n (from + i) b c) xs
+
+-- the same with each c from b on
+unfoldable pub rowOf : ℕ → ℕ → ℕ → ℕ → List Float → List Float
+rowOf n from to b xs = times (n - b) (λ i. bunchOf n from to b (b + i)) xs
+
+-- the same with each b; of the atoms only those up to b
+unfoldable pub tileOf : ℕ → ℕ → ℕ → List Float → List Float
+tileOf n from to xs = times (n - from) (λ i. rowOf n from (min to (from + i + 1)) (from + i)) xs
+
+-- a visit of every block of slab a, sorted or not, in loop order
+abbrev pub visitAt : ℕ → ℕ → List Float → List Float
+visitAt n = firstVisit mean6 2 six (isFirst 2 six (whole n)) (whole n)
+
+unfoldable pub slabOf : ℕ → ℕ → List Float → List Float
+slabOf n a xs = times n (λ b. times n (λ c. visitAt n (full3At n a b c))) xs
+
+unfoldable pub slabsOf : ℕ → List Float → List Float
+slabsOf n xs = times n (slabOf n) xs
+
+module _ (n : ℕ) where
+  at-sorted : (a b c : ℕ) → Sorted n a b c → (xs : List Float) → visitAt n (full3At n a b c) xs ≡ groupAt n a b c xs
+  unfolding groupAt
+  at-sorted a b c s xs =
+      let g = group-six n a b c (lt-a n a b c s) (lt-b n a b c s) (s .last) in
+      visit-first mean6 2 six (whole n) (full3At n a b c) xs (rw g (inl refl)) (rw g (sorted-lowest n a b c s))
+
+  at-first-above : (a b c : ℕ) → b < a → a < n → c < n → (xs : List Float) → visitAt n (full3At n a b c) xs ≡ xs
+  at-first-above a b c h ha hc xs =
+      let g = group-six n a b c ha (omega arith) hc in
+      visit-later mean6 2 six (whole n) (full3At n a b c) (full3At n b a c) xs (rw g (inr (inr (inl refl)))) (first-lt n b a c ha hc h)
+
+  at-last-above : (a b c : ℕ) → c < b → a < n → b < n → (xs : List Float) → visitAt n (full3At n a b c) xs ≡ xs
+  at-last-above a b c h ha hb xs =
+      let g = group-six n a b c ha hb (omega arith) in
+      visit-later mean6 2 six (whole n) (full3At n a b c) (full3At n a c b) xs (rw g (inr (inl refl))) (last-lt n c b a hb h)
+
+  -- ---- the atoms of a tile may be taken last
+
+  commute : (p q : ℕ) → p < n * n * n → q < n * n * n → (xs : List Float) → visitAt n p (visitAt n q xs) ≡ visitAt n q (visitAt n p xs)
+  commute p q hp hq xs = unfold whole room in visits-commute mean6 (whole n) (whole-laws n) 2 six six-group p q hp hq xs
+
+  at-below : (a b c : ℕ) → a < n → b < n → c < n → full3At n a b c < n * n * n
+  at-below a b c ha hb hc = in-row (n * n) n (a * n + b) c (in-row n n a b ha hb) hc
+
+  module _ (from to : ℕ) (hf : from ≤ to) (ht : to ≤ n) where
+    -- a visit by its place in the tile
+    abbrev at : ℕ → ℕ → ℕ → List Float → List Float
+    at i b c = visitAt n (full3At n (from + i) b c)
+
+    in-tile : (i b c : ℕ) → i < to - from → b < n → c < n → full3At n (from + i) b c < n * n * n
+    in-tile i b c hi hb hc = at-below (from + i) b c (omega arith) hb hc
+
+    inner-last : (xs : List Float) → times (to - from) (λ i. slabOf n (from + i)) xs ≡ times n (λ b. times n (λ c. times (to - from) (λ i. at i b c))) xs
+    unfolding slabOf
+    inner-last xs =
+        let m = to - from in
+        times-swap m n (λ i b. times n (λ c. at i b c)) xs
+        (λ i b k d hi hb hk hd ys. times-both n n (λ c. at i b c) (λ c. at k d c) ys (λ c e hc he zs. commute (full3At n (from + i) b c) (full3At n (from + k) d e) (in-tile i b c hi hb hc) (in-tile k d e hk hd he) zs))
+        ∙ times-same n (λ b. times m (λ i. times n (λ c. at i b c))) (λ b. times n (λ c. times m (λ i. at i b c))) xs (λ b hb ys.
+        times-swap m n (λ i c. at i b c) ys (λ i c k e hi hc hk he zs. commute (full3At n (from + i) b c) (full3At n (from + k) b e) (in-tile i b c hi hb hc) (in-tile k b e hk hb he) zs))
+
+    -- and of all visits only those of sorted atoms do anything
+    all-bunch : (b c : ℕ) → from ≤ b → b ≤ c → c < n → (xs : List Float) → times (to - from) (λ i. at i b c) xs ≡ bunchOf n from (min to (b + 1)) b c xs
+    unfolding bunchOf
+    all-bunch b c h l hc xs =
+        times-head (min to (b + 1) - from) (to - from) (λ i. at i b c) (λ i. groupAt n (from + i) b c) xs (omega arith)
+        (λ i g hi ys. at-first-above (from + i) b c (omega arith) (omega arith) hc ys) (λ i hi ys. at-sorted (from + i) b c (record { ab = omega arith; bc = l; last = hc }) ys)
+
+    all-row : (b : ℕ) → from ≤ b → b < n → (xs : List Float) → times n (λ c. times (to - from) (λ i. at i b c)) xs ≡ rowOf n from (min to (b + 1)) b xs
+    unfolding rowOf
+    all-row b h hb xs =
+        times-tail b n (λ c. times (to - from) (λ i. at i b c)) (λ c. bunchOf n from (min to (b + 1)) b c) xs (omega arith)
+        (λ c hc ys. times-idle (to - from) (λ i. at i b c) ys (λ i hi zs. at-last-above (from + i) b c hc (omega arith) hb zs)) (λ c l hc ys. all-bunch b c h l hc ys)
+
+    all-tile : (xs : List Float) → times n (λ b. times n (λ c. times (to - from) (λ i. at i b c))) xs ≡ tileOf n from to xs
+    unfolding tileOf
+    all-tile xs =
+        times-tail from n (λ b. times n (λ c. times (to - from) (λ i. at i b c))) (λ b. rowOf n from (min to (b + 1)) b) xs (omega arith)
+        (λ b hb ys. times-idle n (λ c. times (to - from) (λ i. at i b c)) ys (λ c hc zs. times-idle (to - from) (λ i. at i b c) zs (λ i hi ws. at-first-above (from + i) b c (omega arith) (omega arith) hc ws)))
+        (λ b l hb ys. all-row b l hb ys)
+
+    -- one tile more
+    pub tile-more : (x : List Float) {y z : List Float} → y ≡ times from (slabOf n) x → z ≡ tileOf n from to y → z ≡ times to (slabOf n) x
+    tile-more x e f =
+        let t : from + (to - from) ≡ to = omega arith in
+        f ∙ ap (tileOf n from to) e ∙ sym (inner-last (times from (slabOf n) x) ∙ all-tile (times from (slabOf n) x))
+        ∙ sym (times-add from (to - from) (slabOf n) x) ∙ ap (λ k. times k (slabOf n) x) t
+
+  -- THE LOOPS OVER SORTED ATOMS LEAVE THE SYMMETRIZED SET
+  pub slabs-leave : (old : List Float) → length old ≡ size (whole n) 2 → slabsOf n old ≡ symmetrized nan mean6 (whole n) 2 six old
+  slabs-leave old lo = sym (by-blocks old) ∙ every old lo
+    where
+      by-blocks : (old : List Float) → times (n * n * n) (visitAt n) old ≡ slabsOf n old
+      by-blocks old = unfold slabsOf slabOf in (times-nest (n * n) n (visitAt n) old ∙ times-nest n n (λ i. times n (λ c. visitAt n (i * n + c))) old)
+
+      every : (old : List Float) → length old ≡ size (whole n) 2 → times (n * n * n) (visitAt n) old ≡ symmetrized nan mean6 (whole n) 2 six old
+      every old lo = unfold whole room in lowest-leaves mean6 (whole n) (whole-laws n) 2 six six-group old lo
+
+-- ---- the work on one group
+
+-- the six blocks as the program finds them
+pub record Found (n a b c b0 b1 b2 b3 b4 b5 : ℕ) : Type 0 where
+  pub abc : b0 ≡ horner n a (b ∷ c ∷ [])
+  pub acb : b1 ≡ horner n a (c ∷ b ∷ [])
+  pub bac : b2 ≡ horner n b (a ∷ c ∷ [])
+  pub bca : b3 ≡ horner n b (c ∷ a ∷ [])
+  pub cab : b4 ≡ horner n c (a ∷ b ∷ [])
+  pub cba : b5 ≡ horner n c (b ∷ a ∷ [])
+
+module _ {n a b c : ℕ} (s : Sorted n a b c) {b0 b1 b2 b3 b4 b5 : ℕ} (F : Found n a b c b0 b1 b2 b3 b4 b5) where
+  found-six : b0 ∷ b1 ∷ b2 ∷ b3 ∷ b4 ∷ b5 ∷ [] ≡ sixOf n a b c
+  found-six =
+      six-same (F .abc ∙ plain3 n a b c) (F .acb ∙ plain3 n a c b) (F .bac ∙ plain3 n b a c) (F .bca ∙ plain3 n b c a) (F .cab ∙ plain3 n c a b) (F .cba ∙ plain3 n c b a)
+
+  pub found-in : {lenSet : ℕ} → FullReady lenSet n → Blocks6 lenSet b0 b1 b2 b3 b4 b5
+  found-in {lenSet} R =
+      let ha = lt-a n a b c s in
+      let hb = lt-b n a b c s in
+      let hc = s .last in
+      record {
+        in0 = at b0 (F .abc) (block-below n n a (b ∷ c ∷ []) ha (hb, (hc, tt)));
+        in1 = at b1 (F .acb) (block-below n n a (c ∷ b ∷ []) ha (hc, (hb, tt)));
+        in2 = at b2 (F .bac) (block-below n n b (a ∷ c ∷ []) hb (ha, (hc, tt)));
+        in3 = at b3 (F .bca) (block-below n n b (c ∷ a ∷ []) hb (hc, (ha, tt)));
+        in4 = at b4 (F .cab) (block-below n n c (a ∷ b ∷ []) hc (ha, (hb, tt)));
+        in5 = at b5 (F .cba) (block-below n n c (b ∷ a ∷ []) hc (hb, (ha, tt)));
+      }
+    where
+      in-set : (q : ℕ) → q < room n 2 n → q * 27 + 27 ≤ room 3 3 (room n 2 n)
+      in-set q h = unfold room in omega arith
+
+      at : (q : ℕ) {k : ℕ} → q ≡ k → k < room n 2 n → q * 27 + 27 ≤ lenSet
+      at q {k} e h = rw (R .set-length, size-whole n 2) (in-set q (rw e h))
+
+  -- where no two atoms are the same, they differ
+  pub found-distinct : a < b → b < c → Distinct (b0 ∷ b1 ∷ b2 ∷ b3 ∷ b4 ∷ b5 ∷ [])
+  found-distinct ab bc = subst Distinct (sym found-six) (sorted-distinct n a b c s ab bc)
+
+  pub found-is : {new : List Float} (old : List Float) → new ≡ spreadBlock 2 six (b0 ∷ b1 ∷ b2 ∷ b3 ∷ b4 ∷ b5 ∷ []) (meanBlock mean6 2 six (b0 ∷ b1 ∷ b2 ∷ b3 ∷ b4 ∷ b5 ∷ []) old) old → new ≡ groupAt n a b c old
+  unfolding groupAt worked
+  found-is old e =
+      e ∙ ap (λ bs. spreadBlock 2 six bs (meanBlock mean6 2 six bs old) old) (found-six ∙ sym (group-six n a b c (lt-a n a b c s) (lt-b n a b c s) (s .last)))
+
+-- ---- the call
+
+-- products of counts are small
+pub small3 : (n : ℕ) → n ≤ 256 → (n * n ≤ 65536) × (n * n * n ≤ 16777216)
+small3 n h =
+    let h2 : n * n ≤ 256 * 256 = mul-le-mul h h in
+    let h3 : n * n * n ≤ 256 * 256 * 256 = mul-le-mul h2 h in
+    (omega arith, omega arith)
+
+full-size : (n : ℕ) → size (whole n) 2 ≡ n * n * n * 27
+full-size n = size-whole n 2 ∙ go n
+  where
+    go : (n : ℕ) → room 3 3 (room n 2 n) ≡ n * n * n * 27
+    go n = unfold room in omega arith
+
+-- the guard by its two tests
+module _ (lenSet n : ℕ) where
+  pub judged-above : limit3 < n → CountAboveLimit ≡ judgedFull3 lenSet n
+  unfolding judgedFull3
+  judged-above h = simp (lt-ltb _ _ h)
+
+  pub judged-wrong : n ≤ limit3 → (lenSet ≡ n * n * n * 27 → ⊥) → WrongLength ≡ judgedFull3 lenSet n
+  unfolding judgedFull3
+  judged-wrong h d = simp (le-ltb _ _ h, ne-eqb _ _ d)
+
+  pub judged-done : n ≤ limit3 → lenSet ≡ n * n * n * 27 → Done ≡ judgedFull3 lenSet n
+  unfolding judgedFull3
+  judged-done h e = simp (le-ltb _ _ h, eq-eqb _ _ e)
+
+module _ (set : List Float) (n : ℕ) (a : Answer) (e : a ≡ judgedFull3 (length set) n) where
+  -- what the call leaves, by the guard's answer
+  abbrev leaves : Answer → Answer × List Float
+  leaves a = (a, after a (symmetrized nan mean6 (whole n) 2 six set) set)
+
+  pub full-refused : isRefusal a ≡ true → _≡_ {A = Answer × List Float} (a, set) (setPermutationSymmetryFc3 set n)
+  unfolding setPermutationSymmetryFc3
+  full-refused r = ap (λ x. (a, x)) (sym (after-refusal a (symmetrized nan mean6 (whole n) 2 six set) set r)) ∙ ap leaves e
+
+  pub full-ready : isRefusal a ≡ false → FullReady (length set) n
+  unfolding judgedFull3
+  full-ready r =
+      let (q1, e1) = passed _ _ _ refl (sym e ∙ is-done a r) in
+      let (q2, e2) = passed _ _ _ refl e1 in
+      let (h, _) = not-above limit3 (n ∷ []) q1 in
+      let (ls, _) = not-wrong ((length set, n * n * n * 27) ∷ []) q2 in
+      record { atoms = h; set-length = ls ∙ sym (full-size n) }
+
+  pub full-done : isRefusal a ≡ false → {new : List Float} → new ≡ slabsOf n set → _≡_ {A = Answer × List Float} (Done, new) (setPermutationSymmetryFc3 set n)
+  unfolding setPermutationSymmetryFc3
+  full-done r {new} l =
+      ap₂ (λ x y. (x, y)) (sym (is-done a r)) (l ∙ slabs-leave n set (full-ready r .set-length) ∙ sym (after-done a (symmetrized nan mean6 (whole n) 2 six set) set r))
+      ∙ ap leaves e

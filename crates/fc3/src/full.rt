@@ -1,0 +1,121 @@
+// The symmetrizer of a full set. Its groups are those of atoms a <= b <= c: the block of the sorted atoms is the first of a group in loop order.
+// The groups of four first atoms are taken together, because their blocks lie side by side; no two groups share a number, so that their order makes no difference.
+ghost use mathlib.Core.Path.{_≡_};
+ghost use Prim.Native.Nat.{_+_, _<_, _≤_, min};
+ghost use lib.ListN.{length};
+ghost use Rattle.fc3.specs.Symmetrize.{judgedFull3, setPermutationSymmetryFc3};
+ghost use Rattle.fc3.specs.FullLoops.{FullReady, Sorted, groupAt, bunchOf, rowOf, tileOf, slabsOf};
+use crate::spread::work_apart;
+use crate::spread::work_group;
+use places::full3;
+use tables::Answer;
+use tables::atoms::SuperAtom;
+use tables::is_refusal;
+use tables::limits::LIMIT3;
+
+// The group of atoms a <= b <= c: all six orders of them. Three different atoms have six different blocks.
+fn full_group(fc3: &mut [f64], num_atom: usize, a: SuperAtom, b: SuperAtom, c: SuperAtom)
+    requires { ⌜ FullReady (length (now fc3)) «num_atom» × Sorted «num_atom» (a .0) (b .0) (c .0) ⌝ }
+    ensures { λ _. ⌜ now (fc3 .exit) ≡ groupAt «num_atom» (a .0) (b .0) (c .0) (now (fc3 .entry)) ⌝ }
+{
+    let abc = full3(a, b, c, num_atom);
+    let acb = full3(a, c, b, num_atom);
+    let bac = full3(b, a, c, num_atom);
+    let bca = full3(b, c, a, num_atom);
+    let cab = full3(c, a, b, num_atom);
+    let cba = full3(c, b, a, num_atom);
+    if a.0 < b.0 {
+        if b.0 < c.0 {
+            work_apart(fc3, abc, acb, bac, bca, cab, cba);
+            return;
+        }
+    }
+    work_group(fc3, abc, acb, bac, bca, cab, cba);
+}
+
+// The groups of b and c with the atoms from, .., to - 1. Their blocks (b, c, a) and (c, b, a) lie side by side.
+fn full_bunch(fc3: &mut [f64], num_atom: usize, from: usize, to: usize, b: SuperAtom, c: SuperAtom)
+    requires { ⌜ FullReady (length (now fc3)) «num_atom» × (from ≤ to) × (to ≤ b .0 + 1) × (b .0 ≤ c .0) × (c .0 < «num_atom») ⌝ }
+    ensures { λ _. ⌜ now (fc3 .exit) ≡ bunchOf «num_atom» from to (b .0) (c .0) (now (fc3 .entry)) ⌝ }
+{
+    let mut a = from;
+    while a < to {
+        full_group(fc3, num_atom, SuperAtom(a), b, c);
+        a += 1;
+    }
+}
+
+// The same with each c from b on.
+fn full_row(fc3: &mut [f64], num_atom: usize, from: usize, to: usize, b: SuperAtom)
+    requires { ⌜ FullReady (length (now fc3)) «num_atom» × (from ≤ to) × (to ≤ b .0 + 1) × (b .0 < «num_atom») ⌝ }
+    ensures { λ _. ⌜ now (fc3 .exit) ≡ rowOf «num_atom» from to (b .0) (now (fc3 .entry)) ⌝ }
+{
+    let mut c = b.0;
+    while c < num_atom {
+        full_bunch(fc3, num_atom, from, to, b, SuperAtom(c));
+        c += 1;
+    }
+}
+
+// The lower one of two numbers.
+fn lower(a: usize, b: usize) -> usize
+    ensures { λ r. ⌜ r ≡ min a b ⌝ }
+{
+    if a < b {
+        return a;
+    }
+    b
+}
+
+// The same with each b; of the atoms only those up to b.
+fn full_tile(fc3: &mut [f64], num_atom: usize, from: usize, to: usize)
+    requires { ⌜ FullReady (length (now fc3)) «num_atom» × (from ≤ to) × (to ≤ «num_atom») ⌝ }
+    ensures { λ _. ⌜ now (fc3 .exit) ≡ tileOf «num_atom» from to (now (fc3 .entry)) ⌝ }
+{
+    let mut b = from;
+    while b < num_atom {
+        let end = b + 1;
+        let until = lower(to, end);
+        full_row(fc3, num_atom, from, until, SuperAtom(b));
+        b += 1;
+    }
+}
+
+// All groups, in tiles of four first atoms.
+fn full_tiles(fc3: &mut [f64], num_atom: usize)
+    requires { ⌜ FullReady (length (now fc3)) «num_atom» ⌝ }
+    ensures { λ _. ⌜ now (fc3 .exit) ≡ slabsOf «num_atom» (now (fc3 .entry)) ⌝ }
+{
+    let mut from = 0;
+    while from < num_atom {
+        let next = from + 4;
+        let to = lower(next, num_atom);
+        full_tile(fc3, num_atom, from, to);
+        from = to;
+    }
+}
+
+// Refusals 1 and 2.
+fn judge_full(set_len: usize, num_atom: usize) -> Answer
+    ensures { λ r. ⌜ r ≡ judgedFull3 «set_len» «num_atom» ⌝ }
+{
+    if num_atom > LIMIT3 {
+        return Answer::CountAboveLimit;
+    }
+    if set_len != num_atom * num_atom * num_atom * 27 {
+        return Answer::WrongLength;
+    }
+    Answer::Done
+}
+
+// The set is symmetrized: all six orders of any three legs hold the same number.
+pub fn set_permutation_symmetry_fc3(fc3: &mut [f64], num_atom: usize) -> Answer
+    ensures { λ r. ⌜ (r, now (fc3 .exit)) ≡ setPermutationSymmetryFc3 (now (fc3 .entry)) «num_atom» ⌝ }
+{
+    let a = judge_full(fc3.len(), num_atom);
+    if is_refusal(a) {
+        return a;
+    }
+    full_tiles(fc3, num_atom);
+    Answer::Done
+}

@@ -1,0 +1,83 @@
+use Rattle.lines.specs.Lines.{lessAt, lineLess}
+use Rattle.lists.specs.Tab.{times, times-none, times-more}
+use mathlib.Core.Path.{_≡_, refl, ap, sym, _∙_}
+use lib.ListN.{length}
+use native.Mathlib.Omega.{arith}
+use Prim.Native.Nat.{ℕ, _≤_, _<_, _-_, _+_, _*_}
+use borrow.Author.Needs.{needs}
+use Rattle.lines.proofs.take_drift.Statement.{statement}
+use Rattle.lines.proofs.take_drift.Tie as tie
+use Rattle.lines.proofs.take_drift.Reads as reads
+use Rattle.lines.proofs.take_drift.Lts as lts
+use Rattle.blocks.proofs.read9.Reads as read9-reads
+use Rattle.blocks.proofs.write9.Reads as write9-reads
+use Rattle.lines.proofs.nine.less.Reads as less-reads
+
+abbrev Inv-loop : tie.InvT-loop
+Inv-loop fc₀ d first step count k₀ fc k = (k ≤ count) × (length fc ≡ length fc₀) × (fc ≡ times k (λ m. lessAt d (first + m * step)) fc₀)
+
+abbrev μ-loop : tie.MeasureT-loop
+μ-loop fc₀ d first step count k₀ fc k = count - k
+
+loop-holds : tie.Need-loop-holds Inv-loop μ-loop
+loop-holds c = (omega arith, refl, times-none _ _)
+
+mul-at : tie.Need-mul-at Inv-loop μ-loop
+mul-at c = omega (arith, c .before .before .before .pre .within (c .before .loop .k) (c .loop-test .taken))
+
+add-at : tie.Need-add-at Inv-loop μ-loop
+add-at c = omega (arith, c .before .before .before .pre .within (c .before .loop .k) (c .loop-test .taken))
+
+read9-requires : tie.Need-read9-requires Inv-loop μ-loop
+read9-requires c κs =
+    let l = c .before .before .loop in
+    rw (l .inv .1) (c .before .before .before .before .pre .within (l .k) (c .before .loop-test .taken))
+
+less-requires : tie.Need-less-requires Inv-loop μ-loop
+less-requires c κs = search needs
+
+write9-requires : tie.Need-write9-requires Inv-loop μ-loop
+write9-requires c κs =
+    let l = c .before .before .before .before .before .loop in
+    rw (l .inv .1) (c .before .before .before .before .before .before .before .pre .within (l .k) (c .before .before .before .before .loop-test .taken))
+
+add-k : tie.Need-add-k Inv-loop μ-loop
+add-k c = search needs
+
+loop-less : tie.Need-loop-less Inv-loop μ-loop
+loop-less c = search needs
+
+loop-again : tie.Need-loop-again Inv-loop μ-loop
+unfolding lessAt
+loop-again c =
+    let w = c .before .before in
+    let l = w .before .before .before .before .before .before .loop in
+    (omega arith, w .write9 .kept .0 ∙ l .inv .1, times-more (l .k) _ _ (l .inv .2) (rw (w .before .less .ensures, w .before .before .before .read9 .ensures) at (w .write9 .ensures)))
+
+same-length : tie.Need-same-length Inv-loop μ-loop
+same-length c = search needs
+
+returns : tie.Need-returns Inv-loop μ-loop
+unfolding lineLess
+returns c =
+    let l = c .before .loop in
+    let i : l .k ≡ c .before .before .before .args .count = omega arith in
+    l .inv .2 ∙ rw i
+
+pub take-drift-spec : {M : Type 1} → statement M
+take-drift-spec =
+    tie.close
+    (tie.spec
+    Inv-loop
+    μ-loop
+    loop-holds
+    mul-at
+    add-at
+    read9-requires
+    less-requires
+    write9-requires
+    add-k
+    loop-less
+    loop-again
+    same-length
+    returns)

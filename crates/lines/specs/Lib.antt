@@ -1,0 +1,4 @@
+pub mod Nine
+pub mod Lines
+pub mod Drifts
+pub mod Others

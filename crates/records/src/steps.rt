@@ -1,0 +1,63 @@
+// What the replay programs count with, and where the parts of a page and of a record begin.
+ghost use mathlib.Core.Path.{_≡_};
+ghost use mathlib.Core.Bool.{cond};
+ghost use Prim.Native.Nat.{_+_, _%_, _^_, _≤_};
+ghost use lib.Dec.{eqb, ltb};
+ghost use lib.ListN.{length};
+ghost use Rattle.records.specs.Words.{wordOf};
+
+// A count with b more.
+pub fn plus(a: u64, b: u64) -> u64
+    ensures { λ r. ⌜ r ≡ (a + b) % 2 ^ 64 ⌝ }
+{
+    std::num::wrapping_add_u64(a, b)
+}
+
+// The position n places after `at`.
+pub fn after(at: usize, n: usize) -> usize
+    ensures { λ r. ⌜ r ≡ (at + n) % 2 ^ 64 ⌝ }
+{
+    std::num::wrapping_add_usize(at, n)
+}
+
+// 1 where the two are the same, else 0.
+pub fn is(a: u64, b: u64) -> u64
+    ensures { λ r. ⌜ r ≡ cond (eqb a b) 1 0 ⌝ }
+{
+    if a == b { 1 } else { 0 }
+}
+
+// 1 where something differs, else 0.
+pub fn some(differences: u64) -> u64
+    ensures { λ r. ⌜ r ≡ cond (eqb differences 0) 0 1 ⌝ }
+{
+    if differences == 0 { 0 } else { 1 }
+}
+
+// Word number k of a record, where it is a count.
+pub fn count_of(r: &[u8], k: usize) -> usize
+    ensures { λ n. ⌜ n ≡ wordOf (now (r .entry)) k ⌝ }
+{
+    super::word_of(r, k) as usize
+}
+
+// A recorded length, not above `most`.
+pub fn size(w: u64, most: usize) -> usize
+    ensures { λ r. ⌜ (r ≡ cond (ltb most w) most w) × (r ≤ most) ⌝ }
+{
+    let n = w as usize;
+    if most < n {
+        return most;
+    }
+    n
+}
+
+// Where the records of a page begin.
+pub fn first(s: &[u8]) -> usize
+    ensures { λ r. ⌜ (r ≡ cond (ltb (length (now (s .entry))) 8) (length (now (s .entry))) 8) × (r ≤ length (now (s .entry))) ⌝ }
+{
+    if s.len() < 8 {
+        return s.len();
+    }
+    8
+}

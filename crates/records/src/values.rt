@@ -1,0 +1,321 @@
+// The numbers of a set that the recorder and the replay programs both make from a seed, tables read from a record, and
+// the checksum over a slice.
+ghost use mathlib.Core.Path.{_≡_};
+ghost use Prim.Native.Nat.{_<_};
+ghost use lib.ListN.{length};
+ghost use Rattle.lists.specs.Tab.{tab, times};
+ghost use Rattle.records.specs.Values.{stirred, drawn, classOf, shapedBits, valueAt, byteAt, integerAt, entryAt, mixedFloat, mixedByte, mixedInteger};
+use super::float;
+use super::float_word;
+use super::integer;
+use super::integer_word;
+use super::mix;
+use super::wide;
+use super::word_of;
+
+// For each of eight kinds of set the classes of sixteen numbers, one of which is drawn. 0: an ordinary number,
+// 1: a zero of either sign, 2: a subnormal number, 3: a huge one, 4: an infinity, 5: NaN, 6: any pattern.
+const CLASSES: [u64; 128] = [
+    0,
+    0,
+    0,
+    0,
+    0,
+    0,
+    0,
+    0,
+    0,
+    0,
+    0,
+    0,
+    0,
+    0,
+    0,
+    0,
+    1,
+    1,
+    1,
+    1,
+    1,
+    1,
+    1,
+    1,
+    1,
+    1,
+    2,
+    2,
+    2,
+    2,
+    0,
+    0,
+    3,
+    3,
+    3,
+    3,
+    3,
+    3,
+    3,
+    3,
+    0,
+    0,
+    0,
+    0,
+    0,
+    0,
+    0,
+    1,
+    4,
+    0,
+    0,
+    0,
+    0,
+    0,
+    0,
+    0,
+    0,
+    0,
+    0,
+    0,
+    0,
+    0,
+    0,
+    0,
+    5,
+    0,
+    0,
+    0,
+    0,
+    0,
+    0,
+    0,
+    0,
+    0,
+    0,
+    0,
+    0,
+    0,
+    0,
+    0,
+    6,
+    6,
+    6,
+    6,
+    6,
+    6,
+    6,
+    6,
+    6,
+    6,
+    6,
+    6,
+    6,
+    6,
+    6,
+    6,
+    1,
+    1,
+    1,
+    1,
+    1,
+    1,
+    1,
+    1,
+    1,
+    1,
+    1,
+    1,
+    1,
+    1,
+    1,
+    1,
+    0,
+    0,
+    0,
+    0,
+    0,
+    0,
+    0,
+    0,
+    0,
+    1,
+    1,
+    2,
+    3,
+    4,
+    5,
+    6,
+];
+
+// The bits of a pattern that a number of each class keeps, and those that are set in it.
+const KEPT: [u64; 8] = [
+    0x807f_ffff_ffff_ffff,
+    0x8000_0000_0000_0000,
+    0x800f_ffff_ffff_ffff,
+    0x801f_ffff_ffff_ffff,
+    0x8000_0000_0000_0000,
+    0,
+    0xffff_ffff_ffff_ffff,
+    0,
+];
+
+const SET: [u64; 8] = [
+    0x3f80_0000_0000_0000,
+    0,
+    0,
+    0x7fc0_0000_0000_0000,
+    0x7ff0_0000_0000_0000,
+    0x7ff8_0000_0000_0000,
+    0,
+    0,
+];
+
+// The number that is drawn after h.
+fn stir(h: u64) -> u64
+    requires { ⌜ h < 4294967291 ⌝ }
+    ensures { λ r. ⌜ (r ≡ stirred h) × (r < 4294967291) ⌝ }
+{
+    mix(h * h % 4294967291, h)
+}
+
+// What is drawn first for place i of a slice with this seed.
+fn draw(seed: u64, i: usize) -> u64
+    ensures { λ r. ⌜ (r ≡ drawn seed i) × (r < 4294967291) ⌝ }
+{
+    stir(mix(seed, i as u64))
+}
+
+// The class of a number of the kind, by the first number that is drawn for it.
+fn class(kind: u64, a: u64) -> u64
+    ensures { λ r. ⌜ r ≡ classOf kind a ⌝ }
+{
+    let t = CLASSES;
+    t[(kind % 8 * 16 + a % 16) as usize]
+}
+
+// The pattern b as that of a number of the class.
+fn shaped(class: u64, b: u64) -> u64
+    ensures { λ r. ⌜ r ≡ shapedBits class b ⌝ }
+{
+    let k = KEPT;
+    let s = SET;
+    let c = (class % 8) as usize;
+    (b & k[c]) | s[c]
+}
+
+// Number i of a set with this seed and of this kind.
+pub fn value(seed: u64, kind: u64, i: usize) -> f64
+    ensures { λ r. ⌜ r ≡ valueAt seed kind i ⌝ }
+{
+    let a = draw(seed, i);
+    let b = stir(a);
+    let c = stir(b);
+    float(shaped(class(kind, a), b + 4294967296 * c))
+}
+
+// Fills a set.
+pub fn fill(out: &mut [f64], seed: u64, kind: u64)
+    ensures { λ _. ⌜ now (out .exit) ≡ tab (length (now (out .entry))) (λ i. valueAt seed kind i) ⌝ }
+{
+    let mut i = 0;
+    while i < out.len() {
+        let x = value(seed, kind, i);
+        out[i] = x;
+        i += 1;
+    }
+}
+
+// A byte of a work slice.
+fn byte(seed: u64, i: usize) -> u8
+    ensures { λ r. ⌜ r ≡ byteAt seed i ⌝ }
+{
+    (draw(seed, i) % 256) as u8
+}
+
+// Fills a work slice of bytes.
+pub fn fill_bytes(out: &mut [u8], seed: u64)
+    ensures { λ _. ⌜ now (out .exit) ≡ tab (length (now (out .entry))) (λ i. byteAt seed i) ⌝ }
+{
+    let mut i = 0;
+    while i < out.len() {
+        let x = byte(seed, i);
+        out[i] = x;
+        i += 1;
+    }
+}
+
+// An integer of a work slice.
+fn whole(seed: u64, i: usize) -> i64
+    ensures { λ r. ⌜ r ≡ integerAt seed i ⌝ }
+{
+    draw(seed, i) as i64
+}
+
+// Fills a work slice of integers.
+pub fn fill_integers(out: &mut [i64], seed: u64)
+    ensures { λ _. ⌜ now (out .exit) ≡ tab (length (now (out .entry))) (λ i. integerAt seed i) ⌝ }
+{
+    let mut i = 0;
+    while i < out.len() {
+        let x = whole(seed, i);
+        out[i] = x;
+        i += 1;
+    }
+}
+
+// Entry i of a table whose entries are the words of the record from number `from` on.
+fn entry(r: &[u8], from: usize, i: usize) -> i64
+    ensures { λ x. ⌜ x ≡ entryAt (now (r .entry)) from i ⌝ }
+{
+    integer(word_of(r, std::num::wrapping_add_usize(from, i)))
+}
+
+// Reads a table: the words of the record from number `from` on.
+pub fn integers(r: &[u8], from: usize, out: &mut [i64])
+    ensures { λ _. ⌜ now (out .exit) ≡ tab (length (now (out .entry))) (λ i. entryAt (now (r .entry)) from i) ⌝ }
+{
+    let mut i = 0;
+    while i < out.len() {
+        let x = entry(r, from, i);
+        out[i] = x;
+        i += 1;
+    }
+}
+
+// The checksum h after the numbers of a slice.
+pub fn mix_floats(s: &[f64], h: u64) -> u64
+    ensures { λ r. ⌜ r ≡ times (length (now (s .entry))) (λ i. mixedFloat (now (s .entry)) i) h ⌝ }
+{
+    let mut g = h;
+    let mut i = 0;
+    while i < s.len() {
+        g = mix(g, float_word(s[i]));
+        i += 1;
+    }
+    g
+}
+
+// The checksum h after the bytes of a slice.
+pub fn mix_bytes(s: &[u8], h: u64) -> u64
+    ensures { λ r. ⌜ r ≡ times (length (now (s .entry))) (λ i. mixedByte (now (s .entry)) i) h ⌝ }
+{
+    let mut g = h;
+    let mut i = 0;
+    while i < s.len() {
+        g = mix(g, wide(s[i]));
+        i += 1;
+    }
+    g
+}
+
+// The checksum h after the integers of a slice.
+pub fn mix_integers(s: &[i64], h: u64) -> u64
+    ensures { λ r. ⌜ r ≡ times (length (now (s .entry))) (λ i. mixedInteger (now (s .entry)) i) h ⌝ }
+{
+    let mut g = h;
+    let mut i = 0;
+    while i < s.len() {
+        g = mix(g, integer_word(s[i]));
+        i += 1;
+    }
+    g
+}

@@ -1,0 +1,191 @@
+// Replays what the Rust answered for compute_permutation. Its input are pages of records, which oracle/ makes;
+// oracle/README.md says what the words of a record are. It writes how many calls were compared, how many differ in
+// the answer or in a slot, how many there are of each answer, and a checksum of the inputs and of all that was worked
+// out from them.
+use cells::Cell;
+use records::steps::after;
+use records::steps::first;
+use records::steps::is;
+use records::steps::plus;
+use records::steps::size;
+use records::steps::some;
+use records::values::mix_integers;
+
+// What was compared so far: records, differences, each answer, checksum.
+struct Tally {
+    seen: u64,
+    differ: u64,
+    matched: u64,
+    not_matched: u64,
+    above: u64,
+    wrong: u64,
+    sum: u64,
+}
+
+fn wide(x: u8) -> u64 {
+    x as u64
+}
+
+fn number(r: &[u8], k: usize) -> f64 {
+    records::float(records::word_of(r, k))
+}
+
+// Reads positions: the words of the record from number `from` on.
+fn floats(r: &[u8], from: usize, out: &mut [f64]) {
+    let mut i = 0;
+    while i < out.len() {
+        let x = number(r, after(from, i));
+        out[i] = x;
+        i += 1;
+    }
+}
+
+// What the slots hold before a call: 7.
+fn sevens(slots: &mut [i64]) {
+    let mut i = 0;
+    while i < slots.len() {
+        slots[i] = 7;
+        i += 1;
+    }
+}
+
+fn cell(r: &[u8]) -> Cell {
+    let l = [
+        number(r, 8),
+        number(r, 9),
+        number(r, 10),
+        number(r, 11),
+        number(r, 12),
+        number(r, 13),
+        number(r, 14),
+        number(r, 15),
+        number(r, 16),
+    ];
+    Cell {
+        lattice: l,
+        symprec: number(r, 7),
+    }
+}
+
+// Reads the positions, which are as many as the record says, and matches them. The answer's number.
+fn answer(r: &[u8], slots: &mut [i64], pos: &mut [f64], rot_pos: &mut [f64]) -> u64 {
+    let a = after(17, pos.len());
+    floats(r, 17, pos);
+    floats(r, a, rot_pos);
+    sevens(slots);
+    let n = records::word_of(r, 3) as usize;
+    let m = cells::compute_permutation(slots, cell(r), pos, rot_pos, n);
+    wide(cells::matching_number(m))
+}
+
+// How many slots hold something else than the words of the record from number `from` on.
+fn slot_differences(r: &[u8], from: usize, slots: &[i64]) -> u64 {
+    let mut d = 0;
+    let mut i = 0;
+    while i < slots.len() {
+        let w = records::integer_word(slots[i]);
+        d = plus(d, records::differs(w, records::word_of(r, after(from, i))));
+        i += 1;
+    }
+    d
+}
+
+// The record's number of a refusal: 0 for true and false.
+fn refusal(m: u64) -> u64 {
+    if m == 64 { 0 } else { m }
+}
+
+// What was compared with the record r too: the answer m, and the slots, which the record has from number `at` on.
+fn tallied(t: Tally, r: &[u8], at: usize, m: u64, slots: &[i64]) -> Tally {
+    let a = records::differs(refusal(m), records::word_of(r, 1));
+    let b = records::differs(is(m, 0), records::word_of(r, 2));
+    let c = slot_differences(r, at, slots);
+    let head = records::mix(records::mix(t.sum, records::word_of(r, 0)), refusal(m));
+    let inputs = records::mix_words(r, 3, at, records::mix(head, is(m, 0)));
+    Tally {
+        seen: plus(t.seen, 1),
+        differ: plus(t.differ, some(plus(plus(a, b), c))),
+        matched: plus(t.matched, is(m, 0)),
+        not_matched: plus(t.not_matched, is(m, 64)),
+        above: plus(t.above, is(m, 1)),
+        wrong: plus(t.wrong, is(m, 2)),
+        sum: mix_integers(slots, inputs),
+    }
+}
+
+// The record r, with room for its slots and positions.
+fn compare(t: Tally, r: &[u8], slots: &mut [i64], pos: &mut [f64], rot_pos: &mut [f64]) -> Tally {
+    let at = after(after(17, pos.len()), rot_pos.len());
+    let m = answer(r, slots, pos, rot_pos);
+    tallied(t, r, at, m, slots)
+}
+
+// The record r.
+fn step(t: Tally, r: &[u8]) -> Tally {
+    let mut slots = [0i64; 64];
+    let mut pos = [0.0f64; 192];
+    let mut rot_pos = [0.0f64; 192];
+    let a = size(records::word_of(r, 4), 64);
+    let b = size(records::word_of(r, 5), 192);
+    let c = size(records::word_of(r, 6), 192);
+    compare(t, r, &mut slots[..a], &mut pos[..b], &mut rot_pos[..c])
+}
+
+// The records of a page, after those of the pages before.
+fn replay(s: &[u8], so_far: Tally) -> Tally {
+    let mut t = so_far;
+    let n = records::count(s);
+    let mut at = first(s);
+    let mut i = 0;
+    while i < n {
+        let e = records::end(s, at);
+        let more = step(t, &s[at..e]);
+        t = more;
+        at = e;
+        i += 1;
+    }
+    t
+}
+
+fn read_page(so_far: Tally) -> Tally {
+    let mut page = io::large_buffer();
+    let n = io::read_full(0, &mut page);
+    replay(&page[..n], so_far)
+}
+
+// A line of the report.
+fn line(name: &[u8], n: u64) {
+    io::write_all(1, name);
+    io::print_decimal(1, n);
+    io::write_all(1, b"\n");
+}
+
+fn report(t: Tally) {
+    io::write_all(1, b"matching: ");
+    io::print_decimal(1, t.seen);
+    io::write_all(1, b" compared, ");
+    io::print_decimal(1, t.differ);
+    io::write_all(1, b" differ\n");
+    line(b"true: ", t.matched);
+    line(b"false: ", t.not_matched);
+    line(b"refused, 1: ", t.above);
+    line(b"refused, 2: ", t.wrong);
+    line(b"checksum ", t.sum);
+}
+
+// No file has more than four pages: the report would not have the records of a fifth.
+fn main() {
+    let none = Tally {
+        seen: 0,
+        differ: 0,
+        matched: 0,
+        not_matched: 0,
+        above: 0,
+        wrong: 0,
+        sum: 0,
+    };
+    let a = read_page(none);
+    let b = read_page(a);
+    let c = read_page(b);
+    report(read_page(c));
+}

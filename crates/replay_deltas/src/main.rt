@@ -1,0 +1,251 @@
+// Replays what the Rust answered for rotate_delta_fc2s and rotate_delta_fc3s. Its input are pages of records, which oracle/ makes;
+// oracle/README.md says what the words of a record are. It writes how many calls were compared, how many differ in
+// the answer or in a slice, how many there are of each answer, and a checksum of the inputs and of all that was worked
+// out from them.
+use records::steps::count_of;
+use records::steps::first;
+use records::steps::is;
+use records::steps::plus;
+use records::steps::size;
+use records::steps::some;
+
+// What was compared so far: records, differences, each answer, checksum.
+struct Tally {
+    seen: u64,
+    differ: u64,
+    done: u64,
+    above: u64,
+    wrong: u64,
+    out: u64,
+    sum: u64,
+}
+
+// What a call gave: the number of its answer, and the checksum of each slice that it may write.
+struct Outcome {
+    answer: u64,
+    set: u64,
+    work: u64,
+}
+
+fn wide(x: u8) -> u64 {
+    x as u64
+}
+
+fn fc2s(
+    r: &[u8],
+    fc3: &mut [f64],
+    rot_delta: &mut [f64],
+    delta: &[f64],
+    inv_u: &[f64],
+    site_sym_cart: &[f64],
+    rot_map_syms: &[i64],
+) -> u64 {
+    let a = deltas::rotate_delta_fc2s(
+        fc3,
+        delta,
+        inv_u,
+        site_sym_cart,
+        rot_map_syms,
+        rot_delta,
+        count_of(r, 14),
+        count_of(r, 15),
+        count_of(r, 16),
+    );
+    wide(tables::number(a))
+}
+
+fn fc3s(
+    r: &[u8],
+    fc4: &mut [f64],
+    rot_delta: &mut [f64],
+    delta: &[f64],
+    inv_u: &[f64],
+    site_sym_cart: &[f64],
+    rot_map_syms: &[i64],
+) -> u64 {
+    let a = deltas::rotate_delta_fc3s(
+        fc4,
+        delta,
+        inv_u,
+        site_sym_cart,
+        rot_map_syms,
+        rot_delta,
+        count_of(r, 14),
+        count_of(r, 15),
+        count_of(r, 16),
+    );
+    wide(tables::number(a))
+}
+
+// The call that the record names. The answer's number.
+fn call(
+    r: &[u8],
+    set: &mut [f64],
+    rot_delta: &mut [f64],
+    delta: &[f64],
+    inv_u: &[f64],
+    site_sym_cart: &[f64],
+    rot_map_syms: &[i64],
+) -> u64 {
+    if count_of(r, 4) == 2 {
+        return fc2s(r, set, rot_delta, delta, inv_u, site_sym_cart, rot_map_syms);
+    }
+    fc3s(r, set, rot_delta, delta, inv_u, site_sym_cart, rot_map_syms)
+}
+
+// What the set and the work slice hold before the call.
+fn prepare(r: &[u8], set: &mut [f64], rot_delta: &mut [f64]) {
+    let seed = records::word_of(r, 5);
+    records::values::fill(set, plus(seed, 3), records::word_of(r, 6));
+    records::values::fill(rot_delta, plus(seed, 4), records::word_of(r, 6));
+}
+
+// What inv_u and site_sym_cart hold.
+fn matrices(r: &[u8], inv_u: &mut [f64], site_sym_cart: &mut [f64]) {
+    let seed = records::word_of(r, 5);
+    records::values::fill(inv_u, plus(seed, 1), records::word_of(r, 7));
+    records::values::fill(site_sym_cart, plus(seed, 2), records::word_of(r, 7));
+}
+
+// Reads the map, makes the other slices, which are as long as the record says, and calls.
+fn answer(
+    r: &[u8],
+    set: &mut [f64],
+    rot_delta: &mut [f64],
+    delta: &mut [f64],
+    inv_u: &mut [f64],
+    site_sym_cart: &mut [f64],
+    rot_map_syms: &mut [i64],
+) -> u64 {
+    records::values::fill(delta, records::word_of(r, 5), records::word_of(r, 6));
+    matrices(r, inv_u, site_sym_cart);
+    prepare(r, set, rot_delta);
+    records::values::integers(r, 17, rot_map_syms);
+    call(r, set, rot_delta, delta, inv_u, site_sym_cart, rot_map_syms)
+}
+
+// The call of the record r on the set and the work slice, which are as long as the record says.
+fn work_out(r: &[u8], set: &mut [f64], rot_delta: &mut [f64]) -> u64 {
+    let mut delta = [0.0f64; 4096];
+    let mut inv_u = [0.0f64; 128];
+    let mut site_sym_cart = [0.0f64; 128];
+    let mut rot_map_syms = [0i64; 128];
+    let a = size(records::word_of(r, 9), 4096);
+    let b = size(records::word_of(r, 10), 128);
+    let c = size(records::word_of(r, 11), 128);
+    let d = size(records::word_of(r, 12), 128);
+    answer(
+        r,
+        set,
+        rot_delta,
+        &mut delta[..a],
+        &mut inv_u[..b],
+        &mut site_sym_cart[..c],
+        &mut rot_map_syms[..d],
+    )
+}
+
+fn run(r: &[u8], set: &mut [f64], rot_delta: &mut [f64]) -> Outcome {
+    let m = work_out(r, set, rot_delta);
+    let sum = records::values::mix_floats(set, 0);
+    let work = records::values::mix_floats(rot_delta, 0);
+    Outcome {
+        answer: m,
+        set: sum,
+        work: work,
+    }
+}
+
+// The record r, whose call gave o.
+fn compare(t: Tally, r: &[u8], o: Outcome) -> Tally {
+    let a = records::differs(o.answer, records::word_of(r, 1));
+    let b = records::differs(o.set, records::word_of(r, 2));
+    let c = records::differs(o.work, records::word_of(r, 3));
+    let head = records::mix(records::mix(t.sum, records::word_of(r, 0)), o.answer);
+    let answers = records::mix(records::mix(head, o.set), o.work);
+    Tally {
+        seen: plus(t.seen, 1),
+        differ: plus(t.differ, some(plus(plus(a, b), c))),
+        done: plus(t.done, is(o.answer, 0)),
+        above: plus(t.above, is(o.answer, 1)),
+        wrong: plus(t.wrong, is(o.answer, 2)),
+        out: plus(t.out, is(o.answer, 3)),
+        sum: records::mix_words(r, 4, r.len() / 8, answers),
+    }
+}
+
+// The record r, with room for its set and its work slice.
+fn step(t: Tally, r: &[u8], set: &mut [f64], work: &mut [f64]) -> Tally {
+    let n = size(records::word_of(r, 8), set.len());
+    let m = size(records::word_of(r, 13), work.len());
+    let o = run(r, &mut set[..n], &mut work[..m]);
+    compare(t, r, o)
+}
+
+// The records of a page, after those of the pages before.
+fn replay(s: &[u8], so_far: Tally, set: &mut [f64], work: &mut [f64]) -> Tally {
+    let mut t = so_far;
+    let n = records::count(s);
+    let mut at = first(s);
+    let mut i = 0;
+    while i < n {
+        let e = records::end(s, at);
+        let more = step(t, &s[at..e], set, work);
+        t = more;
+        at = e;
+        i += 1;
+    }
+    t
+}
+
+fn read_page(so_far: Tally, set: &mut [f64], work: &mut [f64]) -> Tally {
+    let mut page = io::large_buffer();
+    let n = io::read_full(0, &mut page);
+    replay(&page[..n], so_far, set, work)
+}
+
+fn two_pages(so_far: Tally, set: &mut [f64], work: &mut [f64]) -> Tally {
+    let t = read_page(so_far, set, work);
+    read_page(t, set, work)
+}
+
+// No file has more than four pages: the report would not have the records of a fifth.
+fn pages(set: &mut [f64], work: &mut [f64]) -> Tally {
+    let none = Tally {
+        seen: 0,
+        differ: 0,
+        done: 0,
+        above: 0,
+        wrong: 0,
+        out: 0,
+        sum: 0,
+    };
+    let t = two_pages(none, set, work);
+    two_pages(t, set, work)
+}
+
+// A line of the report.
+fn line(name: &[u8], n: u64) {
+    io::write_all(1, name);
+    io::print_decimal(1, n);
+    io::write_all(1, b"\n");
+}
+
+fn report(t: Tally) {
+    io::write_all(1, b"rotated: ");
+    io::print_decimal(1, t.seen);
+    io::write_all(1, b" compared, ");
+    io::print_decimal(1, t.differ);
+    io::write_all(1, b" differ\n");
+    line(b"ended well: ", t.done);
+    line(b"refused, 1: ", t.above);
+    line(b"refused, 2: ", t.wrong);
+    line(b"refused, 3: ", t.out);
+    line(b"checksum ", t.sum);
+}
+
+fn main() {
+    let mut set = [0.0f64; 6144];
+    let mut work = [0.0f64; 1024];
+    report(pages(&mut set, &mut work));
+}

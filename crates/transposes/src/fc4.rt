@@ -1,0 +1,327 @@
+// The transpose of a compact set. Pair after pair of first two atoms, block after block: a block and its counterpart change places, turned, at the
+// lower one of them. Blocks that a half shift exchanges with their own pair stay, as the Rust leaves them.
+ghost use mathlib.Core.Path.{_≡_};
+ghost use Prim.Native.Nat.{_+_, _*_, _<_, _≤_};
+ghost use lib.ListN.{length};
+ghost use Rattle.tables.specs.Compact.{shiftTables, shiftsOf};
+ghost use Rattle.places.specs.Moves.{order4};
+ghost use Rattle.orbits.specs.Transposed.{turned as turnedBy};
+ghost use Rattle.orbits.specs.Trading.{theOther};
+ghost use Rattle.orbits.specs.BlockPairs.{joinedPair};
+ghost use Rattle.blocks.specs.Block.{block, putBlock};
+ghost use Rattle.transposes.specs.Fc4.{transposedBy4, transposeCompactFc4};
+ghost use Rattle.transposes.specs.HalfShift.{Trading};
+ghost use Rattle.transposes.specs.Exchange.{turnedBlock};
+ghost use Rattle.transposes.specs.Fc4Loops.{Moving, at4, tradeAt, line4, plane4, pairs4};
+use crate::half_shift::stays;
+use lists::clear_bytes;
+use places::block4;
+use places::read_out4;
+use tables::Answer;
+use tables::atoms::PrimAtom;
+use tables::atoms::SuperAtom;
+use tables::atoms::p2s_at;
+use tables::guard::judge_compact;
+use tables::is_refusal;
+use tables::limits::LIMIT4;
+
+// Block a becomes v with its first two directions exchanged: of its nine runs of nine numbers, (x, y) comes from (y, x).
+fn put_turned(fc4: &mut [f64], a: usize, v: &[f64; 81])
+    requires { ⌜ a * 81 + 81 ≤ length (now fc4) ⌝ }
+    ensures { λ _. ⌜ now (fc4 .exit) ≡ putBlock 81 a (turnedBlock 81 (turnedBy 3 (order4 0)) (now (v .entry))) (now (fc4 .entry)) ⌝ }
+{
+    let mut x = 0;
+    while x < 9 {
+        let run = blocks::read9(v, x % 3 * 3 + x / 3);
+        blocks::write9(fc4, a * 9 + x, run);
+        x += 1;
+    }
+}
+
+// Block a becomes block b, another one, with its first two directions exchanged: the runs are read where they stand.
+fn copy_turned(fc4: &mut [f64], a: usize, b: usize)
+    requires { ⌜ (a * 81 + 81 ≤ length (now fc4)) × (b * 81 + 81 ≤ length (now fc4)) × (b ≡ a → ⊥) ⌝ }
+    ensures { λ _. ⌜ now (fc4 .exit) ≡ putBlock 81 a (turnedBlock 81 (turnedBy 3 (order4 0)) (block 81 b (now (fc4 .entry)))) (now (fc4 .entry)) ⌝ }
+{
+    let mut x = 0;
+    while x < 9 {
+        let y = x % 3 * 3 + x / 3;
+        let run = blocks::read9(fc4, b * 9 + y);
+        blocks::write9(fc4, a * 9 + x, run);
+        x += 1;
+    }
+}
+
+// Blocks a and b change places, each with its first two directions exchanged. A block that is its own counterpart is turned.
+fn exchange(fc4: &mut [f64], a: usize, b: usize)
+    requires { ⌜ (a * 81 + 81 ≤ length (now fc4)) × (b * 81 + 81 ≤ length (now fc4)) ⌝ }
+    ensures { λ _. ⌜ now (fc4 .exit) ≡ joinedPair theOther 81 (turnedBy 3 (order4 0)) a b (now (fc4 .entry)) ⌝ }
+{
+    let one = blocks::read81(fc4, a);
+    if b == a {
+        put_turned(fc4, b, &one);
+        return;
+    }
+    copy_turned(fc4, a, b);
+    put_turned(fc4, b, &one);
+}
+
+// Block (p, j, k, l) of a pair that moves and its counterpart, whose atoms begin j, i: i is p's representative.
+fn trade(
+    fc4: &mut [f64],
+    p2s: &[i64],
+    s2pp: &[i64],
+    nsym_list: &[i64],
+    perms: &[i64],
+    n_satom: usize,
+    n_patom: usize,
+    num_trans: usize,
+    p: PrimAtom,
+    i: SuperAtom,
+    j: SuperAtom,
+    k: SuperAtom,
+    l: SuperAtom,
+)
+    requires { ⌜ Moving (length (now fc4)) (shiftTables (now p2s) (now s2pp) (now «nsym_list») (now perms) «n_satom» «n_patom» «num_trans») (p .0) (i .0) (j .0) ⌝ }
+    requires { ⌜ (k .0 < «n_satom») × (l .0 < «n_satom») ⌝ }
+    ensures { λ _. ⌜ now (fc4 .exit) ≡ tradeAt (shiftTables (now (p2s .entry)) (now (s2pp .entry)) (now («nsym_list» .entry)) (now (perms .entry)) «n_satom» «n_patom» «num_trans») (at4 (shiftTables (now (p2s .entry)) (now (s2pp .entry)) (now («nsym_list» .entry)) (now (perms .entry)) «n_satom» «n_patom» «num_trans») (p .0) (j .0) (k .0) (l .0)) (now (fc4 .entry)) ⌝ }
+{
+    let b = block4(p, j, k, l, n_satom);
+    let c = read_out4(s2pp, nsym_list, perms, j, i, k, l, n_satom);
+    if b <= c {
+        exchange(fc4, b, c);
+    }
+}
+
+// The blocks (p, j, k, 0), (p, j, k, 1), ..
+fn line(
+    fc4: &mut [f64],
+    p2s: &[i64],
+    s2pp: &[i64],
+    nsym_list: &[i64],
+    perms: &[i64],
+    n_satom: usize,
+    n_patom: usize,
+    num_trans: usize,
+    p: PrimAtom,
+    i: SuperAtom,
+    j: SuperAtom,
+    k: SuperAtom,
+)
+    requires { ⌜ Moving (length (now fc4)) (shiftTables (now p2s) (now s2pp) (now «nsym_list») (now perms) «n_satom» «n_patom» «num_trans») (p .0) (i .0) (j .0) ⌝ }
+    requires { ⌜ k .0 < «n_satom» ⌝ }
+    ensures { λ _. ⌜ now (fc4 .exit) ≡ line4 (shiftTables (now (p2s .entry)) (now (s2pp .entry)) (now («nsym_list» .entry)) (now (perms .entry)) «n_satom» «n_patom» «num_trans») (p .0 * «n_satom» + j .0) (k .0) (now (fc4 .entry)) ⌝ }
+{
+    let mut l = 0;
+    while l < n_satom {
+        trade(
+            fc4,
+            p2s,
+            s2pp,
+            nsym_list,
+            perms,
+            n_satom,
+            n_patom,
+            num_trans,
+            p,
+            i,
+            j,
+            k,
+            SuperAtom(l),
+        );
+        l += 1;
+    }
+}
+
+// The blocks of pair (p, j), which moves.
+fn plane(
+    fc4: &mut [f64],
+    p2s: &[i64],
+    s2pp: &[i64],
+    nsym_list: &[i64],
+    perms: &[i64],
+    n_satom: usize,
+    n_patom: usize,
+    num_trans: usize,
+    p: PrimAtom,
+    i: SuperAtom,
+    j: SuperAtom,
+)
+    requires { ⌜ Moving (length (now fc4)) (shiftTables (now p2s) (now s2pp) (now «nsym_list») (now perms) «n_satom» «n_patom» «num_trans») (p .0) (i .0) (j .0) ⌝ }
+    ensures { λ _. ⌜ now (fc4 .exit) ≡ plane4 (shiftTables (now (p2s .entry)) (now (s2pp .entry)) (now («nsym_list» .entry)) (now (perms .entry)) «n_satom» «n_patom» «num_trans») (p .0 * «n_satom» + j .0) (now (fc4 .entry)) ⌝ }
+{
+    let mut k = 0;
+    while k < n_satom {
+        line(
+            fc4,
+            p2s,
+            s2pp,
+            nsym_list,
+            perms,
+            n_satom,
+            n_patom,
+            num_trans,
+            p,
+            i,
+            j,
+            SuperAtom(k),
+        );
+        k += 1;
+    }
+}
+
+// Pair q: (q / n_satom, q % n_satom).
+fn pair(
+    fc4: &mut [f64],
+    p2s: &[i64],
+    s2pp: &[i64],
+    nsym_list: &[i64],
+    perms: &[i64],
+    n_satom: usize,
+    n_patom: usize,
+    num_trans: usize,
+    q: usize,
+)
+    requires { ⌜ Trading 3 (length (now fc4)) (shiftTables (now p2s) (now s2pp) (now «nsym_list») (now perms) «n_satom» «n_patom» «num_trans») × (q < «n_patom» * «n_satom») ⌝ }
+    ensures { λ _. ⌜ now (fc4 .exit) ≡ plane4 (shiftTables (now (p2s .entry)) (now (s2pp .entry)) (now («nsym_list» .entry)) (now (perms .entry)) «n_satom» «n_patom» «num_trans») q (now (fc4 .entry)) ⌝ }
+{
+    let first = q / n_satom;
+    let second = q % n_satom;
+    let p = PrimAtom(first);
+    let j = SuperAtom(second);
+    if stays(
+        p2s,
+        s2pp,
+        nsym_list,
+        perms,
+        n_satom,
+        n_patom,
+        num_trans,
+        p,
+        j,
+    ) {
+        return;
+    }
+    let i = p2s_at(p2s, p);
+    plane(
+        fc4,
+        p2s,
+        s2pp,
+        nsym_list,
+        perms,
+        n_satom,
+        n_patom,
+        num_trans,
+        p,
+        i,
+        j,
+    );
+}
+
+// All pairs.
+fn pairs(
+    fc4: &mut [f64],
+    p2s: &[i64],
+    s2pp: &[i64],
+    nsym_list: &[i64],
+    perms: &[i64],
+    n_satom: usize,
+    n_patom: usize,
+    num_trans: usize,
+)
+    requires { ⌜ Trading 3 (length (now fc4)) (shiftTables (now p2s) (now s2pp) (now «nsym_list») (now perms) «n_satom» «n_patom» «num_trans») ⌝ }
+    ensures { λ _. ⌜ now (fc4 .exit) ≡ pairs4 (shiftTables (now (p2s .entry)) (now (s2pp .entry)) (now («nsym_list» .entry)) (now (perms .entry)) «n_satom» «n_patom» «num_trans») (now (fc4 .entry)) ⌝ }
+{
+    let end = n_patom * n_satom;
+    let mut q = 0;
+    while q < end {
+        pair(
+            fc4,
+            p2s,
+            s2pp,
+            nsym_list,
+            perms,
+            n_satom,
+            n_patom,
+            num_trans,
+            q,
+        );
+        q += 1;
+    }
+}
+
+// Type 0 exchanges pairs 0 and 1 of (atom, direction); any other type changes nothing.
+fn by_type(
+    fc4: &mut [f64],
+    p2s: &[i64],
+    s2pp: &[i64],
+    nsym_list: &[i64],
+    perms: &[i64],
+    n_satom: usize,
+    n_patom: usize,
+    num_trans: usize,
+    t_type: i64,
+)
+    requires { ⌜ Trading 3 (length (now fc4)) (shiftTables (now p2s) (now s2pp) (now «nsym_list») (now perms) «n_satom» «n_patom» «num_trans») ⌝ }
+    ensures { λ _. ⌜ now (fc4 .exit) ≡ transposedBy4 (shiftsOf (shiftTables (now (p2s .entry)) (now (s2pp .entry)) (now («nsym_list» .entry)) (now (perms .entry)) «n_satom» «n_patom» «num_trans»)) «t_type» (now (fc4 .entry)) ⌝ }
+{
+    if t_type == 0 {
+        pairs(
+            fc4,
+            p2s,
+            s2pp,
+            nsym_list,
+            perms,
+            n_satom,
+            n_patom,
+            num_trans,
+        );
+    }
+}
+
+// The first two legs of each number change places. The work slice is not needed here; it is left with zeros.
+pub fn transpose_compact_fc4(
+    fc4: &mut [f64],
+    p2s: &[i64],
+    s2pp: &[i64],
+    nsym_list: &[i64],
+    perms: &[i64],
+    done: &mut [u8],
+    n_satom: usize,
+    n_patom: usize,
+    num_trans: usize,
+    t_type: i64,
+) -> Answer
+    ensures { λ r. ⌜ (r, now (fc4 .exit), now (done .exit)) ≡ transposeCompactFc4 (now (fc4 .entry)) (shiftTables (now (p2s .entry)) (now (s2pp .entry)) (now («nsym_list» .entry)) (now (perms .entry)) «n_satom» «n_patom» «num_trans») (now (done .entry)) «t_type» ⌝ }
+{
+    let a = judge_compact(
+        LIMIT4,
+        3,
+        fc4.len(),
+        1,
+        done.len(),
+        p2s,
+        s2pp,
+        nsym_list,
+        perms,
+        n_satom,
+        n_patom,
+        num_trans,
+    );
+    if is_refusal(a) {
+        return a;
+    }
+    by_type(
+        fc4,
+        p2s,
+        s2pp,
+        nsym_list,
+        perms,
+        n_satom,
+        n_patom,
+        num_trans,
+        t_type,
+    );
+    clear_bytes(done);
+    Answer::Done
+}

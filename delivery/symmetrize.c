@@ -1,0 +1,227 @@
+/*
+ * Symmetrizes a delivery: symmetrize FOLDER [OUT]
+ *
+ * FOLDER holds cell.txt (lattice, positions), tables.txt (shift tables), fc2.f64 (full set of second order) and
+ * fc3.f64 (compact set of third order); samples/README.md says what is in them. Prints the drift before and after,
+ * how many orders of legs read out alike before and after, what becomes of damaged copies, and the time taken.
+ * With OUT, writes the symmetrized sets to OUT/fc2.f64 and OUT/fc3.f64. Exit status 0 only if all went well.
+ */
+#include "gullyfork.h"
+#include "delivery.h"
+
+#include <math.h>
+#include <stdio.h>
+#include <stdlib.h>
+#include <string.h>
+#include <time.h>
+
+static double seconds(void)
+{
+    struct timespec t;
+    clock_gettime(CLOCK_MONOTONIC, &t);
+    return (double)t.tv_sec + 1e-9 * (double)t.tv_nsec;
+}
+
+static const char *reason(uint8_t answer)
+{
+    switch (answer) {
+    case GF_DONE: return "done";
+    case GF_COUNT_ABOVE_LIMIT: return "a count is above its limit";
+    case GF_WRONG_LENGTH: return "a slice has another length than the counts ask for";
+    case GF_INDEX_OUT_OF_RANGE: return "an index table holds a negative number, or one that is not below its count";
+    case GF_BAD_SLAB: return "the two slabs are equal, or one is not there";
+    case GF_BAD_REPRESENTATIVE: return "a listed atom's representative does not represent itself, or is not listed";
+    case GF_BAD_SHIFT_TABLES: return "the shift tables break a rule";
+    default: return "not a refusal";
+    }
+}
+
+/* a refusal ends the program; nothing has been written then */
+static void must(uint8_t answer, const char *what)
+{
+    if (answer != GF_DONE) {
+        fprintf(stderr, "symmetrize: %s refused, %d: %s\n", what, answer, reason(answer));
+        exit(1);
+    }
+}
+
+static uint8_t symmetrize_third(const struct delivery *d, const int64_t *nsym_list, double *fc3, size_t len, uint8_t *done)
+{
+    size_t blocks = d->n_patom * d->n_satom * d->n_satom;
+    return gf_set_permutation_symmetry_compact_fc3(
+        fc3, len, d->p2s, d->n_patom, d->s2pp, d->n_satom, nsym_list, d->n_satom, d->perms,
+        d->num_trans * d->n_satom, done, blocks, d->n_satom, d->n_patom, d->num_trans);
+}
+
+/* ---- shift tables, and the same rows found by matching the positions */
+
+static void check_tables(const struct delivery *d)
+{
+    size_t n = d->n_satom;
+    must(gf_check_shift_tables(d->p2s, d->n_patom, d->s2pp, n, d->nsym_list, n, d->perms, d->num_trans * n, n, d->n_patom, d->num_trans),
+         "check of the shift tables");
+    printf("shift tables: every rule is kept\n");
+}
+
+/* row t sends atom a to the atom that stands where shift t puts a */
+static int row_matches(const struct delivery *d, size_t t, double *shifted, int64_t *row)
+{
+    size_t n = d->n_satom;
+    size_t image = (size_t)d->perms[t * n];
+    for (size_t a = 0; a < n; a++)
+        for (size_t x = 0; x < 3; x++)
+            shifted[a * 3 + x] = d->pos[a * 3 + x] + (d->pos[image * 3 + x] - d->pos[x]);
+    uint8_t answer = gf_compute_permutation(row, n, d->lattice, 9, 1e-5, d->pos, n * 3, shifted, n * 3, n);
+    return answer == GF_DONE && memcmp(row, d->perms + t * n, n * sizeof *row) == 0;
+}
+
+static void match_rows(const struct delivery *d)
+{
+    double *shifted = room(d->n_satom * 3, sizeof *shifted);
+    int64_t *row = room(d->n_satom, sizeof *row);
+    size_t same = 0;
+    for (size_t t = 0; t < d->num_trans; t++)
+        same += (size_t)row_matches(d, t, shifted, row);
+    printf("matching: %zu of %zu shifts send the positions as their row says\n", same, d->num_trans);
+    free(shifted);
+    free(row);
+}
+
+/* ---- second order */
+
+static void print_drift(const char *when, const double *fc2, size_t n)
+{
+    double value = 0.0;
+    size_t place[3] = {0, 0, 0};
+    uint8_t answer = gf_drift_report(fc2, n * n * 9, &value, 1, place, 3, n);
+    if (answer == GF_DRIFT_STILL)
+        printf("  drift %s: none\n", when);
+    else if (answer == GF_DRIFT_WORST)
+        printf("  drift %s: at most %.3e, at atom %zu, directions %zu and %zu\n", when, value, place[0], place[1], place[2]);
+    else if (answer == GF_DRIFT_NO_NUMBER)
+        printf("  drift %s: not a number at atom %zu, directions %zu and %zu\n", when, place[0], place[1], place[2]);
+    else
+        must(answer, "drift report");
+}
+
+static void second_order(struct delivery *d)
+{
+    size_t n = d->n_satom;
+    printf("second order: full set of %zu numbers\n", n * n * 9);
+    print_drift("before", d->fc2, n);
+    double start = seconds();
+    must(gf_perm_trans_symmetrize_fc(d->fc2, n * n * 9, n, 3), "perm_trans_symmetrize_fc");
+    double taken = seconds() - start;
+    print_drift("after", d->fc2, n);
+    printf("  symmetrized at level 3 in %.1f microseconds\n", 1e6 * taken);
+}
+
+/* ---- third order */
+
+/* the number at three pairs of atom and direction, x = atom * 3 + direction */
+static double read_out(const struct delivery *d, size_t x, size_t y, size_t z)
+{
+    size_t n = d->n_satom;
+    const int64_t *row = d->perms + (size_t)d->nsym_list[x / 3] * n;
+    size_t block = ((size_t)d->s2pp[x / 3] * n + (size_t)row[y / 3]) * n + (size_t)row[z / 3];
+    return d->fc3[block * 27 + (x % 3) * 9 + (y % 3) * 3 + z % 3];
+}
+
+static int same_bits(double a, double b)
+{
+    return memcmp(&a, &b, sizeof a) == 0;
+}
+
+/* whether all six orders of the three pairs read out the same bits; *widest is the widest difference so far */
+static int alike(const struct delivery *d, size_t x, size_t y, size_t z, double *widest)
+{
+    double v[6] = {read_out(d, x, y, z), read_out(d, x, z, y), read_out(d, y, x, z),
+                   read_out(d, y, z, x), read_out(d, z, x, y), read_out(d, z, y, x)};
+    int same = 1;
+    for (int i = 1; i < 6; i++) {
+        same &= same_bits(v[0], v[i]);
+        *widest = fmax(*widest, fabs(v[0] - v[i]));
+    }
+    return same;
+}
+
+static size_t print_alike(const struct delivery *d, const char *when)
+{
+    size_t legs = d->n_satom * 3, all = 0, same = 0;
+    double widest = 0.0;
+    for (size_t x = 0; x < legs; x++)
+        for (size_t y = x; y < legs; y++)
+            for (size_t z = y; z < legs; z++, all++)
+                same += (size_t)alike(d, x, y, z, &widest);
+    printf("  %s: of %zu triples of (atom, direction) pairs %zu read out the same bits in all six orders; widest difference %.3e\n",
+           when, all, same, widest);
+    return all - same;
+}
+
+static size_t third_order(struct delivery *d)
+{
+    size_t blocks = d->n_patom * d->n_satom * d->n_satom;
+    uint8_t *done = room(blocks, 1);
+    printf("third order: compact set of %zu numbers\n", blocks * 27);
+    print_alike(d, "before");
+    double start = seconds();
+    must(symmetrize_third(d, d->nsym_list, d->fc3, blocks * 27, done), "set_permutation_symmetry_compact_fc3");
+    double taken = seconds() - start;
+    size_t unlike = print_alike(d, "after");
+    printf("  symmetrized in %.1f microseconds, the check of its shift tables among them\n", 1e6 * taken);
+    free(done);
+    return unlike;
+}
+
+/* ---- damaged copies: each is refused with its reason, and the set that was lent is as it was */
+
+static int refuse(const struct delivery *d, const char *damage, const int64_t *nsym_list, size_t len)
+{
+    size_t blocks = d->n_patom * d->n_satom * d->n_satom;
+    double *set = room(blocks * 27, sizeof *set);
+    uint8_t *done = room(blocks, 1);
+    memcpy(set, d->fc3, blocks * 27 * sizeof *set);
+    uint8_t answer = symmetrize_third(d, nsym_list, set, len, done);
+    int kept = memcmp(set, d->fc3, blocks * 27 * sizeof *set) == 0;
+    printf("  %s: refusal %d, %s; the set is %s\n", damage, answer, reason(answer), kept ? "as it was" : "CHANGED");
+    free(set);
+    free(done);
+    return answer != GF_DONE && kept;
+}
+
+static int damaged_copies(const struct delivery *d)
+{
+    size_t n = d->n_satom, len = d->n_patom * n * n * 27;
+    int64_t *list = room(n, sizeof *list);
+    int fine = 1;
+    printf("damaged copies\n");
+    fine &= refuse(d, "one number short", d->nsym_list, len - 1);
+    memcpy(list, d->nsym_list, n * sizeof *list);
+    list[n - 1] = -1;
+    fine &= refuse(d, "last entry of nsym_list -1", list, len);
+    list[n - 1] = (d->nsym_list[n - 1] + 1) % (int64_t)d->num_trans;
+    if (d->num_trans > 1)
+        fine &= refuse(d, "last entry of nsym_list another row", list, len);
+    free(list);
+    return fine;
+}
+
+int main(int argc, char **argv)
+{
+    if (argc != 2 && argc != 3) {
+        fprintf(stderr, "usage: symmetrize FOLDER [OUT]\n");
+        return 2;
+    }
+    struct delivery d;
+    read_delivery(argv[1], &d);
+    printf("%zu atoms, %zu of them in the primitive cell, %zu shifts\n", d.n_satom, d.n_patom, d.num_trans);
+    check_tables(&d);
+    match_rows(&d);
+    second_order(&d);
+    size_t unlike = third_order(&d);
+    int refused = damaged_copies(&d);
+    if (argc == 3)
+        write_delivery(argv[2], &d);
+    free_delivery(&d);
+    return unlike == 0 && refused ? 0 : 1;
+}

@@ -1,0 +1,375 @@
+/*
+ * Gullyfork: force constants of second, third and fourth order, and the matching of atoms.
+ *
+ * Link with target/staticlib/libcapi.a, which `rt staticlib capi` writes (x86-64 Linux). C99 or later, and C++.
+ *
+ * SLICES
+ *   A slice is two arguments: a pointer, and the number of elements that it points to. The pointer is aligned for its type and never
+ *   NULL, also where the length is 0. A slice that a call may write (no const) overlaps no other slice of that call. The library
+ *   reads and writes nothing but the slices, allocates nothing, and keeps no pointer.
+ *
+ * SETS
+ *   Atoms count from 0, directions are 0 to 2. A set of order 2, 3 or 4 has a block of 9, 27 or 81 doubles for each pair, triple or
+ *   quadruple of atoms; the last atom varies fastest, and in a block the last direction. A full set has all atoms of the supercell in
+ *   every place; in a compact set the first atom is one of the primitive cell (its number there).
+ *
+ * ANSWERS
+ *   Every call but gf_nint, gf_round and gf_sqrt takes every input and answers with a number. 0 says that its work is done. The six
+ *   refusals, 1 to 6, are tried in the order of their numbers: all counts before any length, all lengths before any entry, and so on;
+ *   the first that applies is answered. A refused call has written nothing: every slice is as it was.
+ *   Limits, beyond which a count is refused: 1,024 atoms at second order and in matching, 256 at third, 64 at fourth, and the same
+ *   for n_patom, num_trans and num_first; level 1,000; the length of atom_list, num_rot, num_disp and num_site_sym 1,024. 0 is within
+ *   every limit.
+ *
+ * WORK SLICES
+ *   done, atom_list_reverse and rot_delta are memory to work in. What they hold has no influence on the result; a call that ends well
+ *   leaves them filled with zeros.
+ *
+ * SHIFT TABLES (compact sets)
+ *   The supercell has n_satom atoms, the primitive cell n_patom, and num_trans shifts (translations of the primitive cell) permute
+ *   the atoms of the supercell.
+ *     p2s        n_patom entries              p2s[p]: the atom of the supercell that stands for atom p of the primitive cell
+ *     s2pp       n_satom entries              s2pp[a]: the atom of the primitive cell that a is an image of
+ *     nsym_list  n_satom entries              nsym_list[a]: the row that sends a to p2s[s2pp[a]]
+ *     perms      num_trans x n_satom entries  row t sends atom a to perms[t * n_satom + a]
+ *   Refusal 3: an entry is negative or not below the count that it points into (n_satom, n_patom, num_trans, n_satom in this order).
+ *   Refusal 6: one of these rules is broken:
+ *     n_satom = n_patom x num_trans;
+ *     each row sends different atoms to different atoms; at least one row sends each atom to itself (the null shift); one row after
+ *     another is a row;
+ *     rows with different t never send an atom to the same place;
+ *     s2pp[p2s[p]] = p; s2pp is the same for an atom and its images;
+ *     row nsym_list[a] sends a to p2s[s2pp[a]].
+ *
+ * NUMBERS
+ *   What each call leaves is proved equal to a definition, which is written to be the result of phonopy/phonors 8e92295164 bit for bit,
+ *   any NaN for any NaN; docs/COMPARISON.md says how far the two were compared by running. The floating-point environment has to be the
+ *   one that a program starts with: to nearest, subnormal numbers kept.
+ */
+#ifndef GULLYFORK_H
+#define GULLYFORK_H
+
+#include <stdbool.h>
+#include <stddef.h>
+#include <stdint.h>
+
+#ifdef __cplusplus
+extern "C" {
+#endif
+
+/* What a call answers. */
+enum gf_answer {
+    GF_DONE = 0,               /* the work is done */
+    GF_COUNT_ABOVE_LIMIT = 1,  /* a count is above its limit */
+    GF_WRONG_LENGTH = 2,       /* a slice has a length other than the one stated for it */
+    GF_INDEX_OUT_OF_RANGE = 3, /* an index table holds a negative number, or one not below the count it points into, read or not */
+    GF_BAD_SLAB = 4,           /* the source or the target slab is not below num_first, or the two are equal */
+    GF_BAD_REPRESENTATIVE = 5, /* a listed atom's representative is not itself a listed atom that represents itself */
+    GF_BAD_SHIFT_TABLES = 6,   /* the shift tables break a rule */
+    GF_NOT_MATCHED = 64,       /* gf_compute_permutation: some slot is left free */
+    GF_DRIFT_STILL = 65,       /* gf_drift_report: all sums are zero */
+    GF_DRIFT_WORST = 66,       /* gf_drift_report: the worst sum is named */
+    GF_DRIFT_NO_NUMBER = 67    /* gf_drift_report: a sum is NaN */
+};
+
+/* ---- rounding and the root: never refused ---- */
+
+/* The nearest whole number as an integer; halves go away from zero, beyond int64_t it stops at the nearest end, NaN gives 0. */
+int64_t gf_nint(double x);
+
+/* The nearest whole number; halves go away from zero. */
+double gf_round(double x);
+
+/* The square root, IEEE 754, to nearest, ties to even; -0.0 gives -0.0, other negative numbers NaN. */
+double gf_sqrt(double x);
+
+/* ---- shift tables ---- */
+
+/*
+ * Judges shift tables alone, as every compact call of second order judges them.
+ * Refusals: 1 (limit 1,024), 2, 3, 6. GF_DONE: the tables keep every rule.
+ */
+uint8_t gf_check_shift_tables(
+    const int64_t *p2s, size_t p2s_len,
+    const int64_t *s2pp, size_t s2pp_len,
+    const int64_t *nsym_list, size_t nsym_list_len,
+    const int64_t *perms, size_t perms_len,
+    size_t n_satom, size_t n_patom, size_t num_trans);
+
+/* ---- matching ---- */
+
+/*
+ * Which rotated position each position lands on. All slots of rot_atom are set to -1; then, for i rising, the lowest free slot j
+ * whose rot_pos j is near pos i takes i. Near: the difference of the coordinates less its own rounding, times the lattice rows, is
+ * shorter than symprec. NaN is never near.
+ * GF_DONE: all slots are filled, and they are a bijection of near pairs. GF_NOT_MATCHED: a slot is left at -1; a match may exist all
+ * the same, since a slot once taken is not given up.
+ *   rot_atom  num_pos      only written
+ *   lattice   9            the cell's rows
+ *   pos       3 x num_pos
+ *   rot_pos   3 x num_pos
+ * Refusals: 1 (num_pos above 1,024), 2.
+ */
+uint8_t gf_compute_permutation(
+    int64_t *rot_atom, size_t rot_atom_len,
+    const double *lattice, size_t lattice_len,
+    double symprec,
+    const double *pos, size_t pos_len,
+    const double *rot_pos, size_t rot_pos_len,
+    size_t num_pos);
+
+/* ---- second order ---- */
+
+/*
+ * Symmetrizes a full set. Per level: the drift of each column is taken away, the drift of each row, and each number becomes the mean
+ * with its counterpart (atoms and directions exchanged). At the end the diagonal blocks are made anew from the sums of the others.
+ * Level 0 rewrites the diagonal blocks only.
+ *   fc  n_satom x n_satom x 9
+ * Refusals: 1 (n_satom above 1,024, level above 1,000), 2.
+ */
+uint8_t gf_perm_trans_symmetrize_fc(double *fc, size_t fc_len, size_t n_satom, size_t level);
+
+/*
+ * Symmetrizes a compact set. Per level: twice the transpose and the row drift, then the averages; at the end the blocks of the atoms
+ * with themselves.
+ *   fc    n_patom x n_satom x 9
+ *   done  n_patom x n_satom, work
+ * Refusals: 1 (a count above 1,024, level above 1,000), 2, 3, 6.
+ */
+uint8_t gf_perm_trans_symmetrize_compact_fc(
+    double *fc, size_t fc_len,
+    const int64_t *p2s, size_t p2s_len,
+    const int64_t *s2pp, size_t s2pp_len,
+    const int64_t *nsym_list, size_t nsym_list_len,
+    const int64_t *perms, size_t perms_len,
+    uint8_t *done, size_t done_len,
+    size_t n_satom, size_t n_patom, size_t num_trans,
+    size_t level);
+
+/*
+ * transpose true: the numbers of a compact set change places with their counterparts, the atoms of the pair exchanged and the
+ * directions too. Blocks that a half shift (a shift that swaps the two atoms) exchanges stay as they are.
+ * transpose false: each number becomes the mean of itself and its counterpart.
+ *   fc    n_patom x n_satom x 9
+ *   done  n_patom x n_satom, work
+ * Refusals: 1 (a count above 1,024), 2, 3, 6.
+ */
+uint8_t gf_set_index_permutation_symmetry_compact_fc(
+    double *fc, size_t fc_len,
+    const int64_t *p2s, size_t p2s_len,
+    const int64_t *s2pp, size_t s2pp_len,
+    const int64_t *nsym_list, size_t nsym_list_len,
+    const int64_t *perms, size_t perms_len,
+    uint8_t *done, size_t done_len,
+    size_t n_satom, size_t n_patom, size_t num_trans,
+    bool transpose);
+
+/*
+ * How far the rows of a full set are from adding up to zero: of each atom and pair of directions the sum over the second atom.
+ *   GF_DRIFT_STILL      all sums are zero; value 0.0, place 0, 0, 0
+ *   GF_DRIFT_WORST      value: the largest absolute value of a sum; place: where it stands (one of the places, if several share it)
+ *   GF_DRIFT_NO_NUMBER  a sum is NaN; value NaN, place: the first such sum, by atom and then directions
+ * It never answers GF_DONE.
+ *   fc     n_satom x n_satom x 9
+ *   value  1, only written
+ *   place  3: the row's atom and the two directions, only written
+ * Refusals: 1 (n_satom above 1,024), 2.
+ */
+uint8_t gf_drift_report(
+    const double *fc, size_t fc_len,
+    double *value, size_t value_len,
+    size_t *place, size_t place_len,
+    size_t n_satom);
+
+/*
+ * Fills the rows of the listed atoms from those of their representatives. Position i of the list is atom atom_list[i], whose blocks
+ * are row fc_indices_of_atom_list[i] of the set. Atom a is represented by atom map_atoms[a]; rotation map_syms[a] sends it there.
+ * To block (a, j) of a listed atom a that does not represent itself, block (map_atoms[a], image of j under that rotation) is added,
+ * turned by the rotation's transpose on both legs; so row a should be zero before. List entries are taken in order; an atom listed
+ * twice counts twice; of repeated representatives the last holds.
+ *   fc2                      num_first x num_pos x 9
+ *   atom_list                up to 1,024 entries below num_pos
+ *   fc_indices_of_atom_list  as many entries as atom_list, below num_first
+ *   r_carts                  num_rot x 9
+ *   permutations             num_rot x num_pos entries below num_pos: rotation s sends atom a to permutations[s * num_pos + a]
+ *   map_atoms                num_pos entries below num_pos
+ *   map_syms                 num_pos entries below num_rot
+ *   atom_list_reverse        num_pos, work
+ * Refusals: 1 (num_pos, num_first, num_rot or the list's length above 1,024), 2, 3, 5.
+ */
+uint8_t gf_distribute_fc2(
+    double *fc2, size_t fc2_len,
+    const int64_t *atom_list, size_t atom_list_len,
+    const int64_t *fc_indices_of_atom_list, size_t fc_indices_of_atom_list_len,
+    const double *r_carts, size_t r_carts_len,
+    const int64_t *permutations, size_t permutations_len,
+    const int64_t *map_atoms, size_t map_atoms_len,
+    const int64_t *map_syms, size_t map_syms_len,
+    int64_t *atom_list_reverse, size_t atom_list_reverse_len,
+    size_t num_pos, size_t num_first, size_t num_rot);
+
+/* ---- third order ---- */
+
+/*
+ * Symmetrizes a full set: the six orders of any three (atom, direction) pairs get their mean.
+ *   fc3  num_atom x num_atom x num_atom x 27
+ * Refusals: 1 (num_atom above 256), 2.
+ */
+uint8_t gf_set_permutation_symmetry_fc3(double *fc3, size_t fc3_len, size_t num_atom);
+
+/*
+ * Symmetrizes a compact set: read out to all atoms, the six orders of any three (atom, direction) pairs then hold the same bits.
+ *   fc3   n_patom x n_satom x n_satom x 27
+ *   done  n_patom x n_satom x n_satom, work
+ * Refusals: 1 (a count above 256), 2, 3, 6.
+ */
+uint8_t gf_set_permutation_symmetry_compact_fc3(
+    double *fc3, size_t fc3_len,
+    const int64_t *p2s, size_t p2s_len,
+    const int64_t *s2pp, size_t s2pp_len,
+    const int64_t *nsym_list, size_t nsym_list_len,
+    const int64_t *perms, size_t perms_len,
+    uint8_t *done, size_t done_len,
+    size_t n_satom, size_t n_patom, size_t num_trans);
+
+/*
+ * Exchanges two of the three (atom, direction) pairs of every number of a compact set: t_type 0 pairs 0 and 1, t_type 1 pairs 0
+ * and 2, t_type 2 pairs 1 and 2; any other t_type changes nothing. With t_type 0 and 1, blocks that a half shift (a shift that swaps
+ * the two atoms) exchanges stay as they are.
+ *   fc3   n_patom x n_satom x n_satom x 27
+ *   done  n_patom x n_satom, work
+ * Refusals, whatever the t_type: 1 (a count above 256), 2, 3, 6.
+ */
+uint8_t gf_transpose_compact_fc3(
+    double *fc3, size_t fc3_len,
+    const int64_t *p2s, size_t p2s_len,
+    const int64_t *s2pp, size_t s2pp_len,
+    const int64_t *nsym_list, size_t nsym_list_len,
+    const int64_t *perms, size_t perms_len,
+    uint8_t *done, size_t done_len,
+    size_t n_satom, size_t n_patom, size_t num_trans,
+    int64_t t_type);
+
+/*
+ * Fills slab target from slab source, a slab being all blocks of one first atom: block (i, j) of the target is block
+ * (atom_mapping[i], atom_mapping[j]) of the source, turned by rot_cart on each leg. Other slabs stay.
+ *   fc3           num_first x num_atom x num_atom x 27
+ *   atom_mapping  num_atom entries below num_atom
+ *   rot_cart      9
+ * Refusals: 1 (num_atom or num_first above 256), 2, 3, 4.
+ */
+uint8_t gf_distribute_fc3(
+    double *fc3, size_t fc3_len,
+    size_t target, size_t source,
+    const int64_t *atom_mapping, size_t atom_mapping_len,
+    size_t num_atom,
+    const double *rot_cart, size_t rot_cart_len,
+    size_t num_first);
+
+/*
+ * The blocks of third order of one displaced atom with all pairs of atoms, from the changes that num_disp displacements of that atom
+ * make to a set of second order. Each change is turned by each site symmetry; inv_u makes of them one block for each direction of
+ * the displaced atom. With num_disp or num_site_sym 0 the result is +0.0 everywhere.
+ *   fc3            num_atom x num_atom x 27, only written
+ *   delta_fc2s     num_disp x num_atom x num_atom x 9
+ *   inv_u          3 x num_disp x num_site_sym
+ *   site_sym_cart  num_site_sym x 9
+ *   rot_map_syms   num_site_sym x num_atom entries below num_atom: symmetry s sends atom a to rot_map_syms[s * num_atom + a]
+ *   rot_delta      num_disp x num_site_sym x 9, work
+ * Refusals: 1 (num_atom above 256, num_site_sym or num_disp above 1,024), 2, 3.
+ */
+uint8_t gf_rotate_delta_fc2s(
+    double *fc3, size_t fc3_len,
+    const double *delta_fc2s, size_t delta_fc2s_len,
+    const double *inv_u, size_t inv_u_len,
+    const double *site_sym_cart, size_t site_sym_cart_len,
+    const int64_t *rot_map_syms, size_t rot_map_syms_len,
+    double *rot_delta, size_t rot_delta_len,
+    size_t num_atom, size_t num_site_sym, size_t num_disp);
+
+/* ---- fourth order ---- */
+
+/*
+ * Symmetrizes a full set: the 24 orders of any four (atom, direction) pairs get their mean.
+ *   fc4   num_atom x num_atom x num_atom x num_atom x 81
+ *   done  num_atom x num_atom x num_atom x num_atom, work
+ * Refusals: 1 (num_atom above 64), 2.
+ */
+uint8_t gf_set_permutation_symmetry_fc4(
+    double *fc4, size_t fc4_len,
+    uint8_t *done, size_t done_len,
+    size_t num_atom);
+
+/*
+ * Symmetrizes a compact set: read out to all atoms, the 24 orders of any four (atom, direction) pairs then hold the same bits.
+ *   fc4   n_patom x n_satom x n_satom x n_satom x 81
+ *   done  n_patom x n_satom x n_satom x n_satom, work
+ * Refusals: 1 (a count above 64), 2, 3, 6.
+ */
+uint8_t gf_set_permutation_symmetry_compact_fc4(
+    double *fc4, size_t fc4_len,
+    const int64_t *p2s, size_t p2s_len,
+    const int64_t *s2pp, size_t s2pp_len,
+    const int64_t *nsym_list, size_t nsym_list_len,
+    const int64_t *perms, size_t perms_len,
+    uint8_t *done, size_t done_len,
+    size_t n_satom, size_t n_patom, size_t num_trans);
+
+/*
+ * Exchanges the first two of the four (atom, direction) pairs of every number of a compact set, with t_type 0; any other t_type
+ * changes nothing. Blocks that a half shift (a shift that swaps the two atoms) exchanges stay as they are.
+ *   fc4   n_patom x n_satom x n_satom x n_satom x 81
+ *   done  n_patom x n_satom, work
+ * Refusals, whatever the t_type: 1 (a count above 64), 2, 3, 6.
+ */
+uint8_t gf_transpose_compact_fc4(
+    double *fc4, size_t fc4_len,
+    const int64_t *p2s, size_t p2s_len,
+    const int64_t *s2pp, size_t s2pp_len,
+    const int64_t *nsym_list, size_t nsym_list_len,
+    const int64_t *perms, size_t perms_len,
+    uint8_t *done, size_t done_len,
+    size_t n_satom, size_t n_patom, size_t num_trans,
+    int64_t t_type);
+
+/*
+ * Fills slab target from slab source: block (i, j, k) of the target is block (atom_mapping[i], atom_mapping[j], atom_mapping[k]) of
+ * the source, turned by rot_cart on each leg. Other slabs stay.
+ *   fc4           num_first x num_atom x num_atom x num_atom x 81
+ *   atom_mapping  num_atom entries below num_atom
+ *   rot_cart      9
+ * Refusals: 1 (num_atom or num_first above 64), 2, 3, 4.
+ */
+uint8_t gf_distribute_fc4(
+    double *fc4, size_t fc4_len,
+    size_t target, size_t source,
+    const int64_t *atom_mapping, size_t atom_mapping_len,
+    size_t num_atom,
+    const double *rot_cart, size_t rot_cart_len,
+    size_t num_first);
+
+/*
+ * The blocks of fourth order of one displaced atom with all triples of atoms, from the changes that num_disp displacements of that
+ * atom make to a set of third order, as gf_rotate_delta_fc2s does one order below.
+ *   fc4            num_atom x num_atom x num_atom x 81, only written
+ *   delta_fc3s     num_disp x num_atom x num_atom x num_atom x 27
+ *   inv_u          3 x num_disp x num_site_sym
+ *   site_sym_cart  num_site_sym x 9
+ *   rot_map_syms   num_site_sym x num_atom entries below num_atom: symmetry s sends atom a to rot_map_syms[s * num_atom + a]
+ *   rot_delta      num_disp x num_site_sym x 27, work
+ * Refusals: 1 (num_atom above 64, num_site_sym or num_disp above 1,024), 2, 3.
+ */
+uint8_t gf_rotate_delta_fc3s(
+    double *fc4, size_t fc4_len,
+    const double *delta_fc3s, size_t delta_fc3s_len,
+    const double *inv_u, size_t inv_u_len,
+    const double *site_sym_cart, size_t site_sym_cart_len,
+    const int64_t *rot_map_syms, size_t rot_map_syms_len,
+    double *rot_delta, size_t rot_delta_len,
+    size_t num_atom, size_t num_site_sym, size_t num_disp);
+
+#ifdef __cplusplus
+}
+#endif
+
+#endif

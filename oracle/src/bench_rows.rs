@@ -1,0 +1,176 @@
+//! The rows of the benchmark. A size a × b is n_patom × n_satom.
+use crate::bench::Bench;
+use crate::call::{fit, Call};
+use crate::call_compact::{Compact, Name};
+use crate::call_deltas::Deltas;
+use crate::call_distribute::Distribute;
+use crate::call_full::Full;
+use crate::call_matching::Matching;
+use crate::call_slabs::Slabs;
+use crate::matching::{pair, Kind, SKEW};
+use crate::port;
+use crate::rng::Rng;
+use crate::shifts::{cyclic, product, tables, Group, Tables};
+use crate::wild::plain;
+
+/// Shifts along three axes, as supercells have them.
+fn axes(a: usize, b: usize, c: usize) -> Group {
+    product(&product(&cyclic(a), &cyclic(b)), &cyclic(c))
+}
+
+fn shifts_along(num_trans: usize) -> Group {
+    match num_trans {
+        8 => axes(2, 2, 2),
+        16 => axes(4, 2, 2),
+        64 => axes(4, 4, 4),
+        128 => axes(8, 4, 4),
+        1024 => axes(16, 8, 8),
+        n => cyclic(n),
+    }
+}
+
+fn shifts(n_patom: usize, n_satom: usize) -> Tables {
+    tables(&shifts_along(n_satom / n_patom), n_patom, None)
+}
+
+fn fitted<C: Call>(mut call: C) -> C {
+    fit(&mut call, u128::MAX);
+    call
+}
+
+/// "Row nsym_list[a] sends a to p2s[s2pp[a]]" is judged last, and here fails for the last a.
+fn break_last_rule(call: &mut Compact) {
+    let rows = call.tables.num_trans as i64;
+    let last = call.tables.nsym_list.last_mut().expect("an atom");
+    *last = (*last + 1) % rows;
+}
+
+fn compact(b: &Bench, call: &str, name: Name, sizes: [usize; 2], t_type: i64) {
+    let what = match name {
+        Name::Transpose3 => format!("{call}, type {t_type}"),
+        Name::Exchange2 => format!("{call}, {}", ["average", "transpose"][t_type as usize]),
+        _ => call.to_string(),
+    };
+    if port::has(call) {
+        let mut c = Compact { t_type, level: 1, ..Compact::new(name, shifts(sizes[0], sizes[1])) };
+        c.set = plain(&mut Rng::new(21), c.stated());
+        let threads = name == Name::Transpose3 && t_type == 2;
+        b.row(&what, &format!("{} × {}", sizes[0], sizes[1]), fitted(c), Some(break_last_rule), threads);
+    }
+}
+
+fn full(b: &Bench, call: &str, order: usize, atoms: usize) {
+    if port::has(call) {
+        let mut c = Full { level: 1, ..Full::new(order, atoms) };
+        c.set = plain(&mut Rng::new(22), c.stated());
+        b.row(call, &format!("{atoms}"), fitted(c), None, order == 3);
+    }
+}
+
+pub fn matching(b: &Bench) {
+    let mut r = Rng::new(23);
+    for n in [64, 512, 1024] {
+        for (what, kind) in [("same order", Kind::Same), ("neighbours exchanged", Kind::Near), ("any order", Kind::Permuted)] {
+            let (pos, rot_pos) = pair(&mut r, kind, n);
+            let call = Matching { slots: vec![0; n], lattice: SKEW.to_vec(), symprec: 1e-5, pos, rot_pos, num_pos: n };
+            b.row(&format!("compute_permutation, {what}"), &format!("{n}"), call, None, false);
+        }
+    }
+}
+
+/// All rows of a full set filled from those of four atoms, by 48 rotations.
+fn distribute2(b: &Bench, n: usize) {
+    let mut r = Rng::new(24);
+    let any_order = |r: &mut Rng| r.order(n).into_iter().map(|a| a as i64).collect::<Vec<_>>();
+    let call = Distribute {
+        set: plain(&mut r, n * n * 9),
+        atom_list: (0..n as i64).collect(),
+        fc_indices: (0..n as i64).collect(),
+        r_carts: plain(&mut r, 48 * 9),
+        permutations: (0..48).flat_map(|_| any_order(&mut r)).collect(),
+        map_atoms: (0..n as i64).map(|a| a % 4).collect(),
+        map_syms: (0..n).map(|_| r.below(48) as i64).collect(),
+        reverse: vec![0; n],
+        num_pos: n,
+        num_first: n,
+        num_rot: 48,
+    };
+    if port::has("distribute_fc2") {
+        b.row("distribute_fc2", &format!("{n}"), call, None, false);
+    }
+}
+
+/// One slab of two from the other.
+fn slabs(b: &Bench, call: &str, order: usize, n: usize) {
+    if port::has(call) {
+        let mut r = Rng::new(25);
+        let set = plain(&mut r, 2 * n.pow(order as u32 - 1) * 3usize.pow(order as u32));
+        let map = r.order(n).into_iter().map(|a| a as i64).collect();
+        let c = Slabs { order, set, target: 1, source: 0, map, rotation: plain(&mut r, 9), num_atom: n, num_first: 2 };
+        b.row(call, &format!("{n}"), c, None, false);
+    }
+}
+
+/// Two displacements, twelve site symmetries.
+fn deltas(b: &Bench, call: &str, order: usize, n: usize) {
+    if port::has(call) {
+        let mut r = Rng::new(26);
+        let below = n.pow(order as u32 - 1) * 3usize.pow(order as u32 - 1);
+        let (syms, disps) = (12, 2);
+        let c = Deltas {
+            order,
+            set: vec![0.0; 3 * below],
+            deltas: plain(&mut r, disps * below),
+            inv_u: plain(&mut r, 3 * disps * syms),
+            site_sym_cart: plain(&mut r, 9 * syms),
+            rot_map_syms: (0..syms).flat_map(|_| r.order(n)).map(|a| a as i64).collect(),
+            rot_delta: vec![],
+            num_atom: n,
+            num_site_sym: syms,
+            num_disp: disps,
+        };
+        b.row(call, &format!("{n}"), fitted(c), None, true);
+    }
+}
+
+pub fn second(b: &Bench) {
+    for n in [16, 64, 256] {
+        full(b, "perm_trans_symmetrize_fc", 2, n);
+    }
+    compact(b, "perm_trans_symmetrize_compact_fc", Name::Symmetrize2, [4, 512], 0);
+    compact(b, "set_index_permutation_symmetry_compact_fc", Name::Exchange2, [4, 512], 1);
+    compact(b, "set_index_permutation_symmetry_compact_fc", Name::Exchange2, [4, 512], 0);
+    distribute2(b, 256);
+}
+
+pub fn third(b: &Bench) {
+    for sizes in [[1, 64], [2, 32], [4, 64]] {
+        compact(b, "set_permutation_symmetry_compact_fc3", Name::Symmetrize3, sizes, 0);
+    }
+    full(b, "set_permutation_symmetry_fc3", 3, 64);
+    full(b, "set_permutation_symmetry_fc3", 3, 128);
+    for t_type in 0..3 {
+        compact(b, "transpose_compact_fc3", Name::Transpose3, [4, 64], t_type);
+    }
+    slabs(b, "distribute_fc3", 3, 64);
+    deltas(b, "rotate_delta_fc2s", 3, 64);
+}
+
+pub fn fourth(b: &Bench) {
+    compact(b, "set_permutation_symmetry_compact_fc4", Name::Symmetrize4, [1, 16], 0);
+    compact(b, "set_permutation_symmetry_compact_fc4", Name::Symmetrize4, [2, 16], 0);
+    full(b, "set_permutation_symmetry_fc4", 4, 16);
+    compact(b, "transpose_compact_fc4", Name::Transpose4, [2, 16], 0);
+    slabs(b, "distribute_fc4", 4, 16);
+    deltas(b, "rotate_delta_fc3s", 4, 16);
+}
+
+/// The table check alone, with the atoms, rows and representatives in plain order and in any order.
+pub fn checks(b: &Bench) {
+    println!("| check_shift_tables | plain order, us | any order, us |\n|---|---|---|");
+    for (n_patom, n_satom) in [(2, 32), (4, 64), (4, 512), (1, 1024)] {
+        let plain = shifts(n_patom, n_satom);
+        let mixed = tables(&shifts_along(n_satom / n_patom), n_patom, Some(&mut Rng::new(27)));
+        println!("| {n_patom} × {n_satom} | {:.1} | {:.1} |", b.check(&plain) * 1e6, b.check(&mixed) * 1e6);
+    }
+}

@@ -1,0 +1,81 @@
+//! The port's C names, as include/gullyfork.h has them.
+
+extern "C" {
+    pub fn gf_nint(x: f64) -> i64;
+    pub fn gf_round(x: f64) -> f64;
+    pub fn gf_sqrt(x: f64) -> f64;
+    pub fn gf_check_shift_tables(
+        p2s: *const i64, p2s_len: usize, s2pp: *const i64, s2pp_len: usize, nsym_list: *const i64,
+        nsym_list_len: usize, perms: *const i64, perms_len: usize, n_satom: usize, n_patom: usize, num_trans: usize,
+    ) -> u8;
+    pub fn gf_compute_permutation(
+        rot_atom: *mut i64, rot_atom_len: usize, lattice: *const f64, lattice_len: usize, symprec: f64,
+        pos: *const f64, pos_len: usize, rot_pos: *const f64, rot_pos_len: usize, num_pos: usize,
+    ) -> u8;
+    pub fn gf_perm_trans_symmetrize_fc(fc: *mut f64, fc_len: usize, n_satom: usize, level: usize) -> u8;
+    pub fn gf_perm_trans_symmetrize_compact_fc(
+        fc: *mut f64, fc_len: usize, p2s: *const i64, p2s_len: usize, s2pp: *const i64, s2pp_len: usize,
+        nsym_list: *const i64, nsym_list_len: usize, perms: *const i64, perms_len: usize, done: *mut u8,
+        done_len: usize, n_satom: usize, n_patom: usize, num_trans: usize, level: usize,
+    ) -> u8;
+    pub fn gf_set_index_permutation_symmetry_compact_fc(
+        fc: *mut f64, fc_len: usize, p2s: *const i64, p2s_len: usize, s2pp: *const i64, s2pp_len: usize,
+        nsym_list: *const i64, nsym_list_len: usize, perms: *const i64, perms_len: usize, done: *mut u8,
+        done_len: usize, n_satom: usize, n_patom: usize, num_trans: usize, transpose: bool,
+    ) -> u8;
+    pub fn gf_drift_report(
+        fc: *const f64, fc_len: usize, value: *mut f64, value_len: usize, place: *mut usize, place_len: usize,
+        n_satom: usize,
+    ) -> u8;
+    pub fn gf_distribute_fc2(
+        fc2: *mut f64, fc2_len: usize, atom_list: *const i64, atom_list_len: usize,
+        fc_indices_of_atom_list: *const i64, fc_indices_of_atom_list_len: usize, r_carts: *const f64,
+        r_carts_len: usize, permutations: *const i64, permutations_len: usize, map_atoms: *const i64,
+        map_atoms_len: usize, map_syms: *const i64, map_syms_len: usize, atom_list_reverse: *mut i64,
+        atom_list_reverse_len: usize, num_pos: usize, num_first: usize, num_rot: usize,
+    ) -> u8;
+    pub fn gf_set_permutation_symmetry_fc3(fc3: *mut f64, fc3_len: usize, num_atom: usize) -> u8;
+    pub fn gf_set_permutation_symmetry_compact_fc3(
+        fc3: *mut f64, fc3_len: usize, p2s: *const i64, p2s_len: usize, s2pp: *const i64, s2pp_len: usize,
+        nsym_list: *const i64, nsym_list_len: usize, perms: *const i64, perms_len: usize, done: *mut u8,
+        done_len: usize, n_satom: usize, n_patom: usize, num_trans: usize,
+    ) -> u8;
+    pub fn gf_transpose_compact_fc3(
+        fc3: *mut f64, fc3_len: usize, p2s: *const i64, p2s_len: usize, s2pp: *const i64, s2pp_len: usize,
+        nsym_list: *const i64, nsym_list_len: usize, perms: *const i64, perms_len: usize, done: *mut u8,
+        done_len: usize, n_satom: usize, n_patom: usize, num_trans: usize, t_type: i64,
+    ) -> u8;
+    pub fn gf_distribute_fc3(
+        fc3: *mut f64, fc3_len: usize, target: usize, source: usize, atom_mapping: *const i64,
+        atom_mapping_len: usize, num_atom: usize, rot_cart: *const f64, rot_cart_len: usize, num_first: usize,
+    ) -> u8;
+    pub fn gf_rotate_delta_fc2s(
+        fc3: *mut f64, fc3_len: usize, delta_fc2s: *const f64, delta_fc2s_len: usize, inv_u: *const f64,
+        inv_u_len: usize, site_sym_cart: *const f64, site_sym_cart_len: usize, rot_map_syms: *const i64,
+        rot_map_syms_len: usize, rot_delta: *mut f64, rot_delta_len: usize, num_atom: usize, num_site_sym: usize,
+        num_disp: usize,
+    ) -> u8;
+    pub fn gf_set_permutation_symmetry_fc4(
+        fc4: *mut f64, fc4_len: usize, done: *mut u8, done_len: usize, num_atom: usize,
+    ) -> u8;
+    pub fn gf_set_permutation_symmetry_compact_fc4(
+        fc4: *mut f64, fc4_len: usize, p2s: *const i64, p2s_len: usize, s2pp: *const i64, s2pp_len: usize,
+        nsym_list: *const i64, nsym_list_len: usize, perms: *const i64, perms_len: usize, done: *mut u8,
+        done_len: usize, n_satom: usize, n_patom: usize, num_trans: usize,
+    ) -> u8;
+    pub fn gf_transpose_compact_fc4(
+        fc4: *mut f64, fc4_len: usize, p2s: *const i64, p2s_len: usize, s2pp: *const i64, s2pp_len: usize,
+        nsym_list: *const i64, nsym_list_len: usize, perms: *const i64, perms_len: usize, done: *mut u8,
+        done_len: usize, n_satom: usize, n_patom: usize, num_trans: usize, t_type: i64,
+    ) -> u8;
+    pub fn gf_distribute_fc4(
+        fc4: *mut f64, fc4_len: usize, target: usize, source: usize, atom_mapping: *const i64,
+        atom_mapping_len: usize, num_atom: usize, rot_cart: *const f64, rot_cart_len: usize, num_first: usize,
+    ) -> u8;
+    pub fn gf_rotate_delta_fc3s(
+        fc4: *mut f64, fc4_len: usize, delta_fc3s: *const f64, delta_fc3s_len: usize, inv_u: *const f64,
+        inv_u_len: usize, site_sym_cart: *const f64, site_sym_cart_len: usize, rot_map_syms: *const i64,
+        rot_map_syms_len: usize, rot_delta: *mut f64, rot_delta_len: usize, num_atom: usize, num_site_sym: usize,
+        num_disp: usize,
+    ) -> u8;
+}

@@ -1,0 +1,143 @@
+//! That the comparison can fail: one flipped bit of one answer is seen, in every slice of every call. The Rust stands in
+//! for the library, so nothing but this folder is needed.
+use crate::call::{refusal, Call, Lent, Numbers};
+use crate::call_compact::{Compact, Name};
+use crate::call_drift::Drift;
+use crate::call_full::Full;
+use crate::makers;
+use crate::port;
+use crate::rng::Rng;
+use crate::shifts::{cyclic, tables};
+use crate::spoil::perhaps_spoilt;
+use crate::tally::Tally;
+use crate::{compare, compare_common};
+
+fn stand_in<C: Call>(call: &mut C) -> u8 {
+    let number = refusal(call);
+    if number > 0 {
+        return number;
+    }
+    let number = call.original();
+    call.parts().slices.iter_mut().filter(|s| s.work).for_each(Lent::clear);
+    number
+}
+
+/// Flips a bit of a number of the slice; a NaN is left, for any NaN equals any NaN. True if a bit was flipped.
+fn flip(lent: &mut Lent, at: usize, bit: usize) -> bool {
+    match &mut lent.numbers {
+        Numbers::Floats(v) if v[at].is_nan() => return false,
+        Numbers::Floats(v) => v[at] = f64::from_bits(v[at].to_bits() ^ 1 << bit),
+        Numbers::Integers(v) => v[at] ^= 1 << bit,
+        Numbers::Bytes(v) => v[at] ^= 1 << (bit % 8),
+    }
+    true
+}
+
+/// 300 calls: none differs as it is; each differs with one bit of one number flipped, and with one of the answer. Of the
+/// last `free` slices no bit is flipped.
+fn seen_but<C: Call>(free: usize, make: impl Fn(&mut Rng) -> C) {
+    let mut r = Rng::new(31);
+    let mut flipped = vec![0; make(&mut r).parts().slices.len() - free];
+    for _ in 0..300 {
+        let call = make(&mut r);
+        let mut call = perhaps_spoilt(&mut r, call);
+        let mut tally = Tally::new("");
+        tally.call(&mut call, &stand_in);
+        assert_eq!(tally.differences, 0, "{:?}", tally.smallest);
+        let (slice, bit) = (r.below(flipped.len()), r.below(64));
+        let n = call.parts().slices[slice].len();
+        let at = r.below(n.max(1));
+        let done = std::cell::Cell::new(false);
+        tally.call(&mut call, &|c: &mut C| {
+            let number = stand_in(c);
+            done.set(n > 0 && flip(&mut c.parts().slices[slice], at, bit));
+            number
+        });
+        assert_eq!(tally.differences, done.get() as u64, "slice {slice}, number {at}, bit {bit}");
+        flipped[slice] += done.get() as u64;
+        tally.call(&mut call, &|c: &mut C| stand_in(c) ^ 1 << (bit % 8));
+        assert_eq!(tally.differences, done.get() as u64 + 1, "answer, bit {}", bit % 8);
+    }
+    assert!(flipped.iter().all(|n| *n > 0), "{flipped:?}");
+}
+
+fn seen<C: Call>(make: impl Fn(&mut Rng) -> C) {
+    seen_but(0, make);
+}
+
+#[test]
+fn compact_sets() {
+    for name in [Name::Symmetrize2, Name::Exchange2, Name::Symmetrize3, Name::Transpose3, Name::Symmetrize4, Name::Transpose4] {
+        seen(|r| makers::compact(r, name));
+    }
+}
+
+#[test]
+fn full_sets() {
+    for order in 2..5 {
+        seen(|r| makers::full(r, order));
+    }
+}
+
+#[test]
+fn other_calls() {
+    seen(makers::check);
+    seen(makers::distribute);
+    for order in 3..5 {
+        seen(|r| makers::slabs(r, order));
+        seen(|r| makers::deltas(r, order));
+    }
+    seen(makers::matching);
+}
+
+/// Any place that shares the worst drift may be named, but no other.
+#[test]
+fn drift_reports() {
+    seen_but(1, makers::drift);
+    let set = (0..4 * 9).map(|k| [1.0, 2.0, 4.0, 4.0][k / 9]).collect();
+    let mut call = Drift { set, value: vec![0.0], place: vec![0; 3], n_satom: 2 };
+    for (place, differences) in [([1, 0, 0], 0), ([1, 2, 2], 0), ([0, 0, 0], 1), ([1, 0, 3], 1), ([2, 0, 0], 1), ([-1, 0, 0], 1)] {
+        let mut tally = Tally::new("");
+        tally.call(&mut call, &|c: &mut Drift| {
+            (c.value, c.place) = (vec![8.0], place.to_vec());
+            66
+        });
+        assert_eq!(tally.differences, differences, "{place:?}");
+    }
+}
+
+/// Sheet 11 of document 01.
+#[test]
+fn refusals_in_their_order() {
+    assert_eq!(refusal(&mut Full::new(2, 1025)), 1);
+    let mut call = Compact::new(Name::Symmetrize3, tables(&cyclic(1), 1, None));
+    (call.set, call.done) = (vec![0.0; 27], vec![0]);
+    assert_eq!(refusal(&mut call), 0);
+    call.set.pop();
+    assert_eq!(refusal(&mut call), 2);
+    call.tables.p2s[0] = 7;
+    assert_eq!(refusal(&mut call), 2);
+    call.set.push(0.0);
+    assert_eq!(refusal(&mut call), 3);
+}
+
+/// The same with the library, where there is one: a little of everything agrees, and a flipped bit is seen.
+#[test]
+fn the_library() {
+    if !port::has("perm_trans_symmetrize_fc") {
+        return;
+    }
+    assert_eq!(compare::compare("all", 5, 40), Some(true));
+    let mut tally = Tally::new("perm_trans_symmetrize_fc");
+    tally.calls(&mut Rng::new(5), 40, &|r| makers::full(r, 2), &|call: &mut Full| {
+        let number = call.port();
+        if let Some(x) = call.set.last_mut() {
+            *x = f64::from_bits(x.to_bits() ^ 1);
+        }
+        number
+    });
+    assert!(tally.differences > 20);
+    let mut tally = Tally::new("nint");
+    compare_common::patterns(&mut tally, &mut Rng::new(5), 1000);
+    assert_eq!(tally.differences, 0);
+}

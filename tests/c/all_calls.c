@@ -1,0 +1,376 @@
+/*
+ * Calls everything of include/gullyfork.h: each with a small correct input, whose result is known from the specification (its numbered
+ * sheets, where it has one), and with a refused input, which has to leave every slice as it was. Exits with 0 only if all holds.
+ */
+#include "gullyfork.h"
+
+#include <math.h>
+#include <stdio.h>
+#include <string.h>
+
+/* an array as a slice: its pointer and its length */
+#define S(array) (array), sizeof(array) / sizeof *(array)
+
+static int checks, failures;
+
+static void check_at(int line, const char *what, bool holds) {
+    checks++;
+    if (!holds) {
+        failures++;
+        printf("all_calls.c:%d: does not hold: %s\n", line, what);
+    }
+}
+
+#define CHECK(condition) check_at(__LINE__, #condition, (condition))
+
+static bool same_bits(double x, double y) {
+    return memcmp(&x, &y, sizeof x) == 0;
+}
+
+/* all numbers have the bits of x: tells -0.0 from 0.0 */
+static bool all_are(const double *xs, size_t n, double x) {
+    for (size_t i = 0; i < n; i++) {
+        if (!same_bits(xs[i], x)) {
+            return false;
+        }
+    }
+    return true;
+}
+
+static bool cleared(const uint8_t *bytes, size_t n) {
+    for (size_t i = 0; i < n; i++) {
+        if (bytes[i] != 0) {
+            return false;
+        }
+    }
+    return true;
+}
+
+/* 1.0, 2.0, .. */
+static void count_up(double *xs, size_t n) {
+    for (size_t i = 0; i < n; i++) {
+        xs[i] = (double)i + 1.0;
+    }
+}
+
+/* shift tables of one atom */
+static const int64_t one_p2s[] = {0}, one_s2pp[] = {0}, one_nsym[] = {0}, one_perms[] = {0};
+
+/* three atoms, one in the primitive cell, shifts in a circle (sheet 6); and the same with nsym_list wrong */
+static const int64_t three_p2s[] = {0}, three_s2pp[] = {0, 0, 0}, three_nsym[] = {0, 2, 1}, three_perms[] = {0, 1, 2, 1, 2, 0, 2, 0, 1};
+static const int64_t three_wrong[] = {0, 1, 2};
+
+/* two atoms, one in the primitive cell, a half shift (sheet 7) */
+static const int64_t two_p2s[] = {0}, two_s2pp[] = {0, 0}, two_nsym[] = {0, 1}, two_perms[] = {0, 1, 1, 0};
+
+static const int64_t beyond[] = {7};
+
+#define ONE S(one_p2s), S(one_s2pp), S(one_nsym), S(one_perms)
+#define TWO S(two_p2s), S(two_s2pp), S(two_nsym), S(two_perms)
+#define THREE S(three_p2s), S(three_s2pp), S(three_nsym), S(three_perms)
+#define ONE_BEYOND S(beyond), S(one_s2pp), S(one_nsym), S(one_perms)
+#define THREE_WRONG S(three_p2s), S(three_s2pp), S(three_wrong), S(three_perms)
+
+/* exchanges the first two axes; its transpose is itself */
+static const double mirror[] = {0, 1, 0, 1, 0, 0, 0, 0, 1};
+static const size_t mirrored[] = {1, 0, 2};
+
+static void rounding(void) {
+    CHECK(gf_nint(2.5) == 3); /* sheet 1 */
+    CHECK(gf_nint(-0.5) == -1);
+    CHECK(gf_nint(0.49999999999999994) == 0);
+    CHECK(gf_nint(1e300) == INT64_MAX);
+    CHECK(gf_nint((double)NAN) == 0);
+    CHECK(same_bits(gf_round(-2.5), -3.0));
+    CHECK(same_bits(gf_round(-0.25), -0.0));
+    uint64_t bits;
+    double root = gf_sqrt(2.0);
+    memcpy(&bits, &root, sizeof bits);
+    CHECK(bits == UINT64_C(0x3FF6A09E667F3BCD)); /* sheet 2 */
+    CHECK(same_bits(gf_sqrt(-0.0), -0.0));
+    CHECK(gf_sqrt(-1.0) != gf_sqrt(-1.0));
+}
+
+static void shift_tables(void) {
+    CHECK(gf_check_shift_tables(THREE, 3, 1, 3) == GF_DONE);
+    CHECK(gf_check_shift_tables(TWO, 2, 1, 2) == GF_DONE);
+    CHECK(gf_check_shift_tables(THREE, 3, 1, 1025) == GF_COUNT_ABOVE_LIMIT);
+    CHECK(gf_check_shift_tables(THREE, 3, 2, 3) == GF_WRONG_LENGTH);
+    CHECK(gf_check_shift_tables(ONE_BEYOND, 1, 1, 1) == GF_INDEX_OUT_OF_RANGE);
+    CHECK(gf_check_shift_tables(THREE_WRONG, 3, 1, 3) == GF_BAD_SHIFT_TABLES);
+}
+
+static void matching(void) {
+    const double unit[] = {1, 0, 0, 0, 1, 0, 0, 0, 1}, origin[] = {0, 0, 0}, eighth[] = {0.125, 0, 0};
+    const double pos[] = {0.25, 0, 0, 0, 0, 0}, rot_pos[] = {0.125, 0, 0, 0.375, 0, 0};
+    int64_t slot[] = {7}, slots[] = {7, 7};
+    CHECK(gf_compute_permutation(slot, 0, S(unit), 0.1, origin, 0, origin, 0, 0) == GF_DONE); /* sheet 8 */
+    CHECK(slot[0] == 7);
+    CHECK(gf_compute_permutation(S(slot), S(unit), ldexp(1.0, -600), S(origin), S(origin), 1) == GF_DONE);
+    CHECK(slot[0] == 0);
+    CHECK(gf_compute_permutation(S(slot), S(unit), 0.0, S(origin), S(origin), 1) == GF_NOT_MATCHED);
+    CHECK(slot[0] == -1);
+    CHECK(gf_compute_permutation(S(slots), S(unit), 0.1875, S(pos), S(rot_pos), 2) == GF_NOT_MATCHED); /* sheet 9 */
+    CHECK(slots[0] == 0 && slots[1] == -1);
+    CHECK(gf_compute_permutation(S(slot), S(unit), 0.125, S(eighth), S(origin), 1) == GF_NOT_MATCHED); /* sheet 10 */
+    slot[0] = 7;
+    CHECK(gf_compute_permutation(S(slot), S(unit), 0.1, S(origin), S(origin), 1025) == GF_COUNT_ABOVE_LIMIT);
+    CHECK(gf_compute_permutation(S(slot), unit, 8, 0.1, S(origin), S(origin), 1025) == GF_COUNT_ABOVE_LIMIT);
+    CHECK(gf_compute_permutation(S(slot), unit, 8, 0.1, S(origin), S(origin), 1) == GF_WRONG_LENGTH);
+    CHECK(gf_compute_permutation(S(slot), S(unit), 0.1, S(origin), origin, 2, 1) == GF_WRONG_LENGTH);
+    CHECK(slot[0] == 7);
+}
+
+static void full_second_order(void) {
+    double one[9], two[36] = {0}, before[36];
+    for (size_t level = 0; level < 3; level++) { /* sheet 3 */
+        count_up(S(one));
+        CHECK(gf_perm_trans_symmetrize_fc(S(one), 1, level) == GF_DONE);
+        CHECK(all_are(S(one), -0.0));
+    }
+    two[9 + 1] = 2; /* sheet 4: block (0, 1) */
+    two[9 + 3] = 4;
+    CHECK(gf_perm_trans_symmetrize_fc(S(two), 2, 0) == GF_DONE);
+    CHECK(two[1] == -3 && two[3] == -3);
+    CHECK(same_bits(two[0], -0.0) && same_bits(two[2], -0.0) && all_are(two + 4, 5, -0.0));
+    memcpy(before, two, sizeof two);
+    CHECK(gf_perm_trans_symmetrize_fc(S(two), 1025, 0) == GF_COUNT_ABOVE_LIMIT); /* sheet 11 */
+    CHECK(gf_perm_trans_symmetrize_fc(S(two), 2, 1001) == GF_COUNT_ABOVE_LIMIT);
+    CHECK(gf_perm_trans_symmetrize_fc(S(two), 3, 1) == GF_WRONG_LENGTH);
+    CHECK(memcmp(two, before, sizeof two) == 0);
+}
+
+static void drift(void) {
+    double fc[36] = {0}, value[] = {7};
+    size_t place[] = {7, 7, 7};
+    CHECK(gf_drift_report(S(fc), S(value), S(place), 1025) == GF_COUNT_ABOVE_LIMIT);
+    CHECK(gf_drift_report(S(fc), value, 0, S(place), 1025) == GF_COUNT_ABOVE_LIMIT);
+    CHECK(gf_drift_report(S(fc), S(value), S(place), 3) == GF_WRONG_LENGTH);
+    CHECK(gf_drift_report(S(fc), value, 0, S(place), 2) == GF_WRONG_LENGTH);
+    CHECK(gf_drift_report(S(fc), S(value), place, 2, 2) == GF_WRONG_LENGTH);
+    CHECK(value[0] == 7 && place[0] == 7 && place[1] == 7 && place[2] == 7);
+    CHECK(gf_drift_report(S(fc), S(value), S(place), 2) == GF_DRIFT_STILL);
+    CHECK(same_bits(value[0], 0.0) && place[0] == 0 && place[1] == 0 && place[2] == 0);
+    fc[0] = 1;
+    fc[18 + 5] = -3; /* atom 1, directions 1 and 2: -3 + 0.5 */
+    fc[27 + 5] = 0.5;
+    CHECK(gf_drift_report(S(fc), S(value), S(place), 2) == GF_DRIFT_WORST);
+    CHECK(value[0] == 2.5 && place[0] == 1 && place[1] == 1 && place[2] == 2);
+    fc[9 + 7] = (double)NAN; /* atom 0, directions 2 and 1 */
+    CHECK(gf_drift_report(S(fc), S(value), S(place), 2) == GF_DRIFT_NO_NUMBER);
+    CHECK(value[0] != value[0] && place[0] == 0 && place[1] == 2 && place[2] == 1);
+}
+
+static void compact_second_order(void) {
+    double one[9], three[27], before[27];
+    uint8_t done1[] = {7}, done3[] = {7, 7, 7};
+    count_up(S(one));
+    CHECK(gf_perm_trans_symmetrize_compact_fc(S(one), ONE, S(done1), 1, 1, 1, 2) == GF_DONE);
+    CHECK(all_are(S(one), -0.0) && cleared(S(done1)));
+    count_up(S(three));
+    memcpy(before, three, sizeof three);
+    CHECK(gf_perm_trans_symmetrize_compact_fc(S(three), THREE, S(done3), 3, 1, 3, 1001) == GF_COUNT_ABOVE_LIMIT);
+    CHECK(gf_set_index_permutation_symmetry_compact_fc(S(three), THREE, done3, 2, 3, 1, 3, true) == GF_WRONG_LENGTH);
+    CHECK(memcmp(three, before, sizeof three) == 0 && done3[0] == 7);
+    /* atoms 0 and 1 exchanged are 1 and 0, stored at 0 and 2 */
+    CHECK(gf_set_index_permutation_symmetry_compact_fc(S(three), THREE, S(done3), 3, 1, 3, true) == GF_DONE);
+    CHECK(cleared(S(done3)));
+    for (size_t k = 0; k < 3; k++) {
+        for (size_t l = 0; l < 3; l++) {
+            CHECK(three[k * 3 + l] == before[l * 3 + k]);
+            CHECK(three[9 + k * 3 + l] == before[18 + l * 3 + k]);
+            CHECK(three[18 + k * 3 + l] == before[9 + l * 3 + k]);
+        }
+    }
+    memcpy(three, before, sizeof three);
+    CHECK(gf_set_index_permutation_symmetry_compact_fc(S(three), THREE, S(done3), 3, 1, 3, false) == GF_DONE);
+    CHECK(three[9 + 1] == (before[9 + 1] + before[18 + 3]) / 2 && three[18 + 3] == three[9 + 1]);
+}
+
+static void distribute_second_order(void) {
+    const int64_t atom_list[] = {0, 1}, rows[] = {0, 1}, permutations[] = {0, 1, 1, 0};
+    const int64_t map_atoms[] = {0, 0}, map_syms[] = {0, 1}, astray[] = {1, 0};
+    double r_carts[] = {1, 0, 0, 0, 1, 0, 0, 0, 1, 0, 0, 0, 0, 0, 0, 0, 0, 0}, fc2[36] = {0}, before[36];
+    int64_t work[] = {7, 7};
+#define LISTED S(atom_list), S(rows), S(r_carts), S(permutations)
+    memcpy(r_carts + 9, mirror, sizeof mirror);
+    count_up(fc2, 18);
+    memcpy(before, fc2, sizeof fc2);
+    CHECK(gf_distribute_fc2(S(fc2), LISTED, S(astray), S(map_syms), S(work), 2, 2, 2) == GF_BAD_REPRESENTATIVE);
+    CHECK(gf_distribute_fc2(S(fc2), LISTED, S(map_atoms), S(map_syms), S(work), 2, 2, 1) == GF_WRONG_LENGTH);
+    CHECK(memcmp(fc2, before, sizeof fc2) == 0 && work[0] == 7 && work[1] == 7);
+    CHECK(gf_distribute_fc2(S(fc2), LISTED, S(map_atoms), S(map_syms), S(work), 2, 2, 2) == GF_DONE);
+    CHECK(work[0] == 0 && work[1] == 0);
+    CHECK(memcmp(fc2, before, 18 * sizeof *fc2) == 0);
+#undef LISTED
+    /* block (1, j) is block (0, 1 - j) mirrored */
+    for (size_t k = 0; k < 3; k++) {
+        for (size_t l = 0; l < 3; l++) {
+            CHECK(fc2[18 + k * 3 + l] == before[9 + mirrored[k] * 3 + mirrored[l]]);
+            CHECK(fc2[27 + k * 3 + l] == before[mirrored[k] * 3 + mirrored[l]]);
+        }
+    }
+}
+
+/* positions 5, 7, 11, 15, 19, 21 hold 1 to 6 (sheet 5) */
+static const size_t six[] = {5, 7, 11, 15, 19, 21};
+
+static void sheet5(double *block) {
+    memset(block, 0, 27 * sizeof *block);
+    for (size_t i = 0; i < 6; i++) {
+        block[six[i]] = (double)i + 1;
+    }
+}
+
+static bool sheet5_holds(const double *block) {
+    for (size_t i = 0; i < 6; i++) {
+        if (block[six[i]] != 3.5) {
+            return false;
+        }
+    }
+    return true;
+}
+
+static void symmetrize_third_order(void) {
+    double fc3[27], before[27];
+    uint8_t done[] = {7};
+    sheet5(fc3);
+    CHECK(gf_set_permutation_symmetry_fc3(S(fc3), 1) == GF_DONE);
+    CHECK(sheet5_holds(fc3));
+    memcpy(before, fc3, sizeof fc3);
+    CHECK(gf_set_permutation_symmetry_fc3(S(fc3), 257) == GF_COUNT_ABOVE_LIMIT);
+    CHECK(gf_set_permutation_symmetry_fc3(S(fc3), 2) == GF_WRONG_LENGTH);
+    CHECK(memcmp(fc3, before, sizeof fc3) == 0);
+    sheet5(fc3);
+    memcpy(before, fc3, sizeof fc3);
+    CHECK(gf_set_permutation_symmetry_compact_fc3(fc3, 26, ONE, S(done), 1, 1, 1) == GF_WRONG_LENGTH); /* sheet 11 */
+    CHECK(gf_set_permutation_symmetry_compact_fc3(fc3, 26, ONE_BEYOND, S(done), 1, 1, 1) == GF_WRONG_LENGTH);
+    CHECK(gf_set_permutation_symmetry_compact_fc3(S(fc3), ONE_BEYOND, S(done), 1, 1, 1) == GF_INDEX_OUT_OF_RANGE);
+    CHECK(memcmp(fc3, before, sizeof fc3) == 0 && done[0] == 7);
+    CHECK(gf_set_permutation_symmetry_compact_fc3(S(fc3), ONE, S(done), 1, 1, 1) == GF_DONE);
+    CHECK(sheet5_holds(fc3) && cleared(S(done)));
+}
+
+static void transpose_third_order(void) {
+    double three[243], two[108], before[243];
+    uint8_t done3[] = {7, 7, 7}, done2[] = {7, 7};
+    count_up(S(three));
+    memcpy(before, three, sizeof three);
+    CHECK(gf_transpose_compact_fc3(S(three), THREE_WRONG, S(done3), 3, 1, 3, 0) == GF_BAD_SHIFT_TABLES);
+    CHECK(memcmp(three, before, sizeof three) == 0 && done3[0] == 7);
+    CHECK(gf_transpose_compact_fc3(S(three), THREE, S(done3), 3, 1, 3, -1) == GF_DONE); /* no meaning: changes nothing */
+    CHECK(memcmp(three, before, sizeof three) == 0 && cleared(S(done3)));
+    CHECK(gf_transpose_compact_fc3(S(three), THREE, S(done3), 3, 1, 3, 0) == GF_DONE); /* sheet 6 */
+    for (size_t q = 0; q < 27; q++) {
+        size_t k = q / 9, l = q / 3 % 3, m = q % 3;
+        CHECK(three[(1 * 3 + 2) * 27 + q] == before[(2 * 3 + 1) * 27 + l * 9 + k * 3 + m]);
+    }
+    count_up(S(two));
+    CHECK(gf_transpose_compact_fc3(S(two), TWO, S(done2), 2, 1, 2, 0) == GF_DONE); /* sheet 7 */
+    CHECK(memcmp(two + 2 * 27, before + 2 * 27, 2 * 27 * sizeof *two) == 0);
+    CHECK(two[1 * 9] == before[1 * 3] && two[1 * 3] == before[1 * 9]);
+}
+
+static void slabs(void) {
+    const double identity[] = {1, 0, 0, 0, 1, 0, 0, 0, 1};
+    const int64_t mapping[] = {0};
+    double fc3[54], fc4[162], before[162];
+    count_up(S(fc3));
+    count_up(S(before));
+    CHECK(gf_distribute_fc3(S(fc3), 1, 1, S(mapping), 1, S(mirror), 2) == GF_BAD_SLAB);
+    CHECK(gf_distribute_fc3(S(fc3), 2, 0, S(mapping), 1, S(mirror), 2) == GF_BAD_SLAB);
+    CHECK(gf_distribute_fc3(S(fc3), 1, 0, S(beyond), 1, S(mirror), 2) == GF_INDEX_OUT_OF_RANGE);
+    CHECK(memcmp(fc3, before, sizeof fc3) == 0);
+    CHECK(gf_distribute_fc3(S(fc3), 1, 0, S(mapping), 1, S(mirror), 2) == GF_DONE);
+    CHECK(memcmp(fc3, before, 27 * sizeof *fc3) == 0);
+    for (size_t q = 0; q < 27; q++) {
+        CHECK(fc3[27 + q] == before[mirrored[q / 9] * 9 + mirrored[q / 3 % 3] * 3 + mirrored[q % 3]]);
+    }
+    count_up(S(fc4));
+    CHECK(gf_distribute_fc4(S(fc4), 0, 0, S(mapping), 1, S(mirror), 2) == GF_BAD_SLAB);
+    CHECK(gf_distribute_fc4(S(fc4), 1, 0, S(mapping), 65, S(mirror), 2) == GF_COUNT_ABOVE_LIMIT);
+    CHECK(memcmp(fc4, before, sizeof fc4) == 0);
+    CHECK(gf_distribute_fc4(S(fc4), 1, 0, S(mapping), 1, S(mirror), 2) == GF_DONE);
+    for (size_t q = 0; q < 81; q++) {
+        CHECK(fc4[81 + q] == before[mirrored[q / 27] * 27 + mirrored[q / 9 % 3] * 9 + mirrored[q / 3 % 3] * 3 + mirrored[q % 3]]);
+    }
+    CHECK(gf_distribute_fc4(S(fc4), 1, 0, S(mapping), 1, S(identity), 2) == GF_DONE);
+    CHECK(memcmp(fc4, before, 81 * sizeof *fc4) == 0 && memcmp(fc4 + 81, before, 81 * sizeof *fc4) == 0);
+}
+
+static void rotated_deltas(void) {
+    const double inv_u[] = {1, 2, 4};
+    const int64_t images[] = {0};
+    double delta_fc2s[9], delta_fc3s[27], fc3[27], fc4[81], work9[9], work27[27];
+    count_up(S(delta_fc2s));
+    count_up(S(delta_fc3s));
+    count_up(S(fc3));
+    count_up(S(fc4));
+    count_up(S(work9));
+    count_up(S(work27));
+    CHECK(gf_rotate_delta_fc2s(S(fc3), S(delta_fc2s), S(inv_u), S(mirror), S(beyond), S(work9), 1, 1, 1) == GF_INDEX_OUT_OF_RANGE);
+    CHECK(gf_rotate_delta_fc3s(S(fc4), S(delta_fc3s), S(inv_u), S(mirror), S(images), S(work9), 1, 1, 1) == GF_WRONG_LENGTH);
+    CHECK(fc3[26] == 27 && fc4[80] == 81 && work9[8] == 9);
+    CHECK(gf_rotate_delta_fc2s(S(fc3), S(delta_fc2s), S(inv_u), S(mirror), S(images), S(work9), 1, 1, 1) == GF_DONE);
+    CHECK(all_are(S(work9), 0.0));
+    for (size_t q = 0; q < 27; q++) {
+        CHECK(fc3[q] == inv_u[q / 9] * delta_fc2s[mirrored[q / 3 % 3] * 3 + mirrored[q % 3]]);
+    }
+    CHECK(gf_rotate_delta_fc3s(S(fc4), S(delta_fc3s), S(inv_u), S(mirror), S(images), S(work27), 1, 1, 1) == GF_DONE);
+    CHECK(all_are(S(work27), 0.0));
+    for (size_t q = 0; q < 81; q++) {
+        CHECK(fc4[q] == inv_u[q / 27] * delta_fc3s[mirrored[q / 9 % 3] * 9 + mirrored[q / 3 % 3] * 3 + mirrored[q % 3]]);
+    }
+    /* no displacement: +0.0 everywhere */
+    CHECK(gf_rotate_delta_fc2s(S(fc3), delta_fc2s, 0, inv_u, 0, S(mirror), S(images), work9, 0, 1, 1, 0) == GF_DONE);
+    CHECK(all_are(S(fc3), 0.0));
+}
+
+/* the four places of directions 0, 0, 0, 1 hold 1, 2, 3 and 6: their mean is 3 */
+static void four_orders(double *block) {
+    memset(block, 0, 81 * sizeof *block);
+    block[1] = 1;
+    block[3] = 2;
+    block[9] = 3;
+    block[27] = 6;
+}
+
+static void fourth_order(void) {
+    double fc4[81], before[81];
+    uint8_t done[] = {7};
+    four_orders(fc4);
+    memcpy(before, fc4, sizeof fc4);
+    CHECK(gf_set_permutation_symmetry_fc4(S(fc4), S(done), 65) == GF_COUNT_ABOVE_LIMIT);
+    CHECK(gf_set_permutation_symmetry_compact_fc4(S(fc4), ONE, S(done), 65, 1, 1) == GF_COUNT_ABOVE_LIMIT);
+    CHECK(gf_set_permutation_symmetry_compact_fc4(S(fc4), ONE_BEYOND, S(done), 1, 1, 1) == GF_INDEX_OUT_OF_RANGE);
+    CHECK(gf_transpose_compact_fc4(S(fc4), ONE, done, 0, 1, 1, 1, 0) == GF_WRONG_LENGTH);
+    CHECK(memcmp(fc4, before, sizeof fc4) == 0 && done[0] == 7);
+    CHECK(gf_transpose_compact_fc4(S(fc4), ONE, S(done), 1, 1, 1, 1) == GF_DONE); /* no meaning: changes nothing */
+    CHECK(memcmp(fc4, before, sizeof fc4) == 0 && cleared(S(done)));
+    CHECK(gf_transpose_compact_fc4(S(fc4), ONE, S(done), 1, 1, 1, 0) == GF_DONE);
+    CHECK(fc4[1] == 1 && fc4[3] == 2 && fc4[9] == 6 && fc4[27] == 3);
+    done[0] = 7;
+    CHECK(gf_set_permutation_symmetry_fc4(S(fc4), S(done), 1) == GF_DONE);
+    CHECK(fc4[1] == 3 && fc4[3] == 3 && fc4[9] == 3 && fc4[27] == 3 && cleared(S(done)));
+    four_orders(fc4);
+    done[0] = 7;
+    CHECK(gf_set_permutation_symmetry_compact_fc4(S(fc4), ONE, S(done), 1, 1, 1) == GF_DONE);
+    CHECK(fc4[1] == 3 && fc4[3] == 3 && fc4[9] == 3 && fc4[27] == 3 && cleared(S(done)));
+}
+
+int main(void) {
+    rounding();
+    shift_tables();
+    matching();
+    full_second_order();
+    drift();
+    compact_second_order();
+    distribute_second_order();
+    symmetrize_third_order();
+    transpose_third_order();
+    slabs();
+    rotated_deltas();
+    fourth_order();
+    printf("%d of %d hold\n", checks - failures, checks);
+    return failures != 0;
+}
