@@ -19,3 +19,8 @@ by-number {x = x} p q = ap (λ (k : ℕ). (k, x)) q ∙ ap numbered p
 pub by-number-with : {A B : Type 0} {a : Answer} {x : A} {y : B} {r : ℕ} {call : Answer × A × B} → (a, x, y) ≡ call → r ≡ numberOf a
     → (r, x, y) ≡ numberedWith call
 by-number-with {x = x} {y = y} p q = ap (λ (k : ℕ). (k, x, y)) q ∙ ap numberedWith p
+
+-- an integer argument comes back from the machine's word as itself, z′; the call was made with z
+pub by-number-at : {A B Z : Type 0} {a : Answer} {x : A} {y : B} {r : ℕ} {z z′ : Z} (call : Z → Answer × A × B) → z ≡ z′ → (a, x, y) ≡ call z
+    → r ≡ numberOf a → (r, x, y) ≡ numberedWith (call z′)
+by-number-at call e p q = by-number-with (p ∙ ap call e) q

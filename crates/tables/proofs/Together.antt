@@ -3,18 +3,18 @@
 use mathlib.Core.Path.{_≡_, refl, ap, _∙_}
 use mathlib.Core.List.{[], _∷_}
 use mathlib.Core.Bool.{Bool, true, false, not, _||_}
-use Prim.Native.Nat.{ℕ, suc, _+_, _*_, _≤_}
+use Prim.Native.Nat.{ℕ, suc, _*_, _≤_}
 use native.Mathlib.Nat.{mul-le-mul-right}
 use native.Mathlib.Omega.{arith}
 use lib.Dec.{eqb}
 use borrow.Author.Tests.{eq-eqb, ne-eqb}
 use Rattle.lists.specs.Digits.{room}
-use Rattle.lists.specs.Tests.{every, and-says}
+use Rattle.lists.specs.Tests.{and-says}
 use Rattle.tables.specs.declared.Answer.the-variants.{CountAboveLimit, WrongLength}
 use Rattle.tables.specs.Answers.{refused, not-refused}
-use Rattle.tables.specs.Conditions.{anyAbove, anyWrong, indexAt}
+use Rattle.tables.specs.Conditions.{anyAbove, anyWrong}
 use Rattle.tables.specs.Shifts.{Shifts, row, isNull, isAfter, follows, countsAgree, rowsInjective, hasNull, rowsClosed, rowsFree, p2sBack, s2ppKept, nsymLands, ruled}
-use Rattle.tables.specs.Compact.{ShiftTables, shiftsOf, tableLengths, judgedEntries, judgedTables, judgedCompact, perms-is, p2s-is, s2pp-is}
+use Rattle.tables.specs.Compact.{ShiftTables, shiftsOf, tableLengths, judgedEntries, judgedTables, judgedCompact}
 use Rattle.tables.specs.Rows.{rowsOf}
 
 pub product-small : (a b : ℕ) → a ≤ 1024 → b ≤ 1024 → a * b ≤ 1048576
@@ -26,16 +26,7 @@ module _ (S : Shifts) where
   unfolding ruled
   rules-of e = simp and-says at e
 
-  pub last-rule : countsAgree S ≡ true → rowsInjective S ≡ true → hasNull S ≡ true → rowsClosed S ≡ true → rowsFree S ≡ true → p2sBack S ≡ true → s2ppKept S ≡ true
-      → nsymLands S ≡ ruled S
-  unfolding ruled
-  last-rule c i n a f p s = rw (c, i, n, a, f, p, s)
-
 module _ (T : ShiftTables) where
-  pub same-injective : rowsInjective (rowsOf (T .nSatom) (T .numTrans) (T .perms)) ≡ rowsInjective (shiftsOf T)
-  unfolding rowsInjective row
-  same-injective = refl
-
   pub same-null : hasNull (rowsOf (T .nSatom) (T .numTrans) (T .perms)) ≡ hasNull (shiftsOf T)
   unfolding hasNull isNull row
   same-null = refl
@@ -47,14 +38,6 @@ module _ (T : ShiftTables) where
   pub same-closed : rowsClosed (rowsOf (T .nSatom) (T .numTrans) (T .perms)) ≡ rowsClosed (shiftsOf T)
   unfolding rowsClosed follows isAfter row
   same-closed = refl
-
-  pub same-back : every (T .nPatom) (λ p. eqb (indexAt (T .s2pp) (indexAt (T .p2s) p)) p) ≡ p2sBack (shiftsOf T)
-  unfolding p2sBack
-  same-back = simp (p2s-is T, s2pp-is T)
-
-  pub same-kept : every (T .numTrans) (λ t. every (T .nSatom) (λ a. eqb (indexAt (T .s2pp) (indexAt (T .perms) (t * T .nSatom + a))) (indexAt (T .s2pp) a))) ≡ s2ppKept (shiftsOf T)
-  unfolding s2ppKept
-  same-kept = simp (perms-is T, s2pp-is T)
 
 -- ---- the guard of compact calls, return by return
 

@@ -5,7 +5,6 @@ use mathlib.Core.Bool.{true, false}
 use mathlib.Core.List.{List, []}
 use mathlib.Core.Logic.{_⊎_, inl, inr}
 use Prim.Native.Nat.{ℕ, _+_, _*_, _-_, _≤_, _<_}
-use native.Mathlib.Nat.{mul-le-mul-right, one-mul}
 use native.Mathlib.Omega.{arith}
 use lib.IntN.{ℤ}
 use lib.ListN.{getD, set, replicate}
@@ -15,7 +14,7 @@ use Rattle.lists.specs.Cases.{eq-or-ne}
 use Rattle.lists.specs.Digits.{in-row}
 use Rattle.lists.specs.Tests.{some, says, same-test, refuted, every-at, every-of, some-at, some-of}
 use Rattle.tables.specs.Conditions.{indexAt, Readable, IndexTable, read}
-use Rattle.tables.specs.Shifts.{Shifts, row, distinct, distinct-says, isAfter, follows, rowsClosed, rowsFree}
+use Rattle.tables.specs.Shifts.{Shifts, row, distinct, distinct-says, isNull, isAfter, follows, rowsClosed, rowsFree}
 use Rattle.tables.specs.Compact.{ShiftTables, shiftsOf, perms-is}
 use Rattle.tables.specs.Marks.{lineAt, Line, Marks, getD-zeros}
 
@@ -53,18 +52,7 @@ module _ {n m : ℕ} {perms : List ℤ} (R : Rows n m perms) where
   pub row-below : (t a : ℕ) → t < m → a < n → row (rowsOf n m perms) t a < n
   row-below t a ht ha = rw (← row-is n m perms t a) (read (R .table) (t * n + a) (in-row m n t a ht ha) .1)
 
-  pub row-start : (t : ℕ) → t < m → t * n ≤ 1048576
-  row-start t ht = let h : t ≤ 1024 = omega (arith, R .shifts) in omega (arith, mul-le-mul-right n h, R .atoms)
-
-  -- row t as a line of the table, and the column of atom a
-  pub row-line : (t : ℕ) → t < m → Line perms (t * n) 1 n
-  unfolding lineAt
-  row-line t ht =
-      record {
-        readable = λ a ha. rw (one-mul a) (row-read t a ht ha);
-        small = λ a ha. rw (one-mul a) (omega (arith, R .atoms, read (R .table) (t * n + a) (in-row m n t a ht ha) .1));
-      }
-
+  -- the column of atom a as a line of the table
   pub column-line : (a : ℕ) → a < n → Line perms a n m
   unfolding lineAt
   column-line a ha =
@@ -72,10 +60,6 @@ module _ {n m : ℕ} {perms : List ℤ} (R : Rows n m perms) where
         readable = λ t ht. let e : a + n * t ≡ t * n + a = omega arith in rw e (row-read t a ht ha);
         small = λ t ht. let e : a + n * t ≡ t * n + a = omega arith in rw e (omega (arith, R .atoms, read (R .table) (t * n + a) (in-row m n t a ht ha) .1));
       }
-
-pub row-distinct : (n m : ℕ) (perms : List ℤ) (t : ℕ) → distinct n (lineAt perms (t * n) 1) ≡ distinct n (row (rowsOf n m perms) t)
-unfolding lineAt
-row-distinct n m perms t = distinct-same n _ _ (λ a h. ap (λ x. indexAt perms (t * n + x)) (one-mul a) ∙ row-is n m perms t a)
 
 pub column-is : (n m : ℕ) (perms : List ℤ) (a t : ℕ) → lineAt perms a n t ≡ row (rowsOf n m perms) t a
 unfolding lineAt
@@ -160,6 +144,12 @@ module _ (n m : ℕ) (perms : List ℤ) (marks : List ℕ) (M : Marked n m perms
       let j : row S t (row S s a) ≡ row S w a = eqb-true _ _ (every-at n _ p a ha) in
       let k : row S u (row S w a) ≡ row S x a = eqb-true _ _ (every-at n _ q a ha) in
       eq-eqb _ _ (i ∙ ap (row S u) j ∙ k))))
+
+-- the null shift after row t is row t
+pub null-follows : (n m : ℕ) (perms : List ℤ) → Rows n m perms → (u : ℕ) → isNull (rowsOf n m perms) u ≡ true → follows (rowsOf n m perms) u ≡ true
+unfolding follows isAfter isNull
+null-follows n m perms R u e =
+    every-of m _ (λ t ht. some-of m _ t ht (every-of n _ (λ a ha. every-at n _ e (row (rowsOf n m perms) t a) (row-below R t a ht ha))))
 
 pub known-more : (S : Shifts) (known : List ℕ) (v : ℕ) → Known S known → follows S v ≡ true → Known S (set known v 1)
 known-more S known v K e u hu p = go (eq-or-ne u v)

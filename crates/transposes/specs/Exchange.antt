@@ -14,11 +14,12 @@ use lib.Ieee.{Float, nan}
 use borrow.Author.Tests.{eqb-true}
 use Rattle.lists.specs.Cases.{eq-or-ne}
 use Rattle.lists.specs.Tests.{every, every-at}
-use Rattle.lists.specs.Tab.{tab, getD-tab, tab-ext, times}
+use Rattle.lists.specs.Tab.{tab, tabFrom, getD-tab, tab-ext, times}
 use Rattle.lists.specs.Elements.{pick}
 use Rattle.lists.specs.Digits.{horner, rest, digits}
 use Rattle.blocks.specs.Block.{block, putBlock, length-putBlock, getD-block, put-inside, put-outside, put-put, block-of}
-use Rattle.places.specs.Moves.{order4}
+use Rattle.lines.specs.Nine as nine
+use Rattle.places.specs.Moves.{order, order4}
 use Rattle.orbits.specs.Transposed.{turned}
 use Rattle.orbits.specs.BlockPairs.{joinedPair, joinedBlock}
 use Rattle.orbits.specs.Trading.{theOther}
@@ -124,3 +125,153 @@ module _ (a : ℕ) (v xs : List Float) where
           let q : ((b * 9 + y) * 9 + k) / 81 ≡ b = ap (λ p. p / 81) (omega arith) ∙ block-of 81 b (y * 9 + k) (omega arith) in
           let e : (b * 9 + y) * 9 + k ≡ b * 81 + (y * 9 + k) = omega arith in
           off-runs ((b * 9 + y) * 9 + k) (omega arith) i hi (λ d. n (sym q ∙ d)) ∙ ap (λ p. getD xs p nan) e ∙ sym (getD-block 81 b xs (y * 9 + k) (omega arith))
+
+-- ---- blocks of third order with their last two directions exchanged, by thirds of nine numbers
+
+pub nine-turned : {r : List Float} (v : List Float) → r ≡ nine.turned v → r ≡ turnedBlock 9 runFrom v
+unfolding turnedBlock tab tabFrom
+nine-turned v e = e
+
+-- what stands where two blocks changed places
+module _ (w : ℕ) (τ : ℕ → ℕ) (a b : ℕ) (xs : List Float) (q : ℕ) (h : q < length xs) where
+  one-put : q < length (putBlock w a (turnedBlock w τ (block w b xs)) xs)
+  one-put = rw (length-putBlock w a (turnedBlock w τ (block w b xs)) xs) h
+
+  in-second : q % w < w → τ (q % w) < w → q / w ≡ b → getD (joinedPair theOther w τ a b xs) q nan ≡ getD xs (a * w + τ (q % w)) nan
+  unfolding joinedPair joinedBlock turnedBlock
+  in-second hw ht e =
+      put-inside w b (turnedBlock w τ (block w a xs)) (putBlock w a (turnedBlock w τ (block w b xs)) xs) q one-put e
+      ∙ getD-tab w (λ k. getD (block w a xs) (τ k) nan) (q % w) nan hw ∙ getD-block w a xs (τ (q % w)) ht
+
+  in-first : q % w < w → τ (q % w) < w → (q / w ≡ b → ⊥) → q / w ≡ a → getD (joinedPair theOther w τ a b xs) q nan ≡ getD xs (b * w + τ (q % w)) nan
+  unfolding joinedPair joinedBlock turnedBlock
+  in-first hw ht n e =
+      put-outside w b (turnedBlock w τ (block w a xs)) (putBlock w a (turnedBlock w τ (block w b xs)) xs) q one-put n
+      ∙ put-inside w a (turnedBlock w τ (block w b xs)) xs q h e
+      ∙ getD-tab w (λ k. getD (block w b xs) (τ k) nan) (q % w) nan hw ∙ getD-block w b xs (τ (q % w)) ht
+
+  in-neither : (q / w ≡ b → ⊥) → (q / w ≡ a → ⊥) → getD (joinedPair theOther w τ a b xs) q nan ≡ getD xs q nan
+  unfolding joinedPair joinedBlock turnedBlock
+  in-neither n m =
+      put-outside w b (turnedBlock w τ (block w a xs)) (putBlock w a (turnedBlock w τ (block w b xs)) xs) q one-put n
+      ∙ put-outside w a (turnedBlock w τ (block w b xs)) xs q h m
+
+length-pair : (w : ℕ) (τ : ℕ → ℕ) (a b : ℕ) (xs : List Float) → length (joinedPair theOther w τ a b xs) ≡ length xs
+unfolding joinedPair joinedBlock turnedBlock
+length-pair w τ a b xs =
+    length-putBlock w b (turnedBlock w τ (block w a xs)) (putBlock w a (turnedBlock w τ (block w b xs)) xs)
+    ∙ length-putBlock w a (turnedBlock w τ (block w b xs)) xs
+
+-- where a position comes from, by computation over all of them
+isThird : ℕ → Bool
+isThird k = eqb (turned 2 (order 2) k) (k / 9 * 9 + runFrom (k % 9))
+
+all-third : every 27 isThird ≡ true
+unfolding every isThird turned order pick horner digits rest
+all-third = refl
+
+from-third : (k : ℕ) → k < 27 → turned 2 (order 2) k ≡ k / 9 * 9 + runFrom (k % 9)
+unfolding isThird
+from-third k h = eqb-true (turned 2 (order 2) k) (k / 9 * 9 + runFrom (k % 9)) (every-at 27 isThird all-third k h)
+
+run-small : (x : ℕ) → x < 9 → runFrom x < 9
+run-small x h = omega arith
+
+-- third i of block c, and its places
+third-of : (c q i : ℕ) → q / 9 % 3 ≡ i → q / 27 ≡ c → q / 9 ≡ c * 3 + i
+third-of c q i e f = omega arith
+
+third-in : (c q i : ℕ) → i < 3 → q / 9 ≡ c * 3 + i → q / 27 ≡ c
+third-in c q i h e = omega arith
+
+third-not : (c q i : ℕ) → (q / 9 % 3 ≡ i → ⊥) → i < 3 → q / 9 ≡ c * 3 + i → ⊥
+third-not c q i n h e = n (omega arith)
+
+module _ (a b : ℕ) (xs : List Float) (ha : a * 27 + 27 ≤ length xs) (hb : b * 27 + 27 ≤ length xs) where
+  thirds : ℕ → List Float
+  thirds i = times i (λ l. joinedPair theOther 9 runFrom (a * 3 + l) (b * 3 + l)) xs
+
+  length-thirds : (i : ℕ) → length (thirds i) ≡ length xs
+  unfolding thirds times
+  length-thirds zero = refl
+  length-thirds (suc i) = length-pair 9 runFrom (a * 3 + i) (b * 3 + i) (thirds i) ∙ length-thirds i
+
+  -- a place of a third that is not met yet
+  third-still : (q : ℕ) → q < length xs → (i : ℕ) → i ≤ q / 9 % 3 → getD (thirds i) q nan ≡ getD xs q nan
+  unfolding thirds times
+  third-still q h zero g = refl
+  third-still q h (suc i) g =
+      in-neither 9 runFrom (a * 3 + i) (b * 3 + i) (thirds i) q (rw (length-thirds i) h) (λ e. omega arith) (λ e. omega arith)
+      ∙ third-still q h i (omega arith)
+
+  -- the place that a place of a whole block comes from
+  whole-from : (c q : ℕ) → c * 27 + turned 2 (order 2) (q % 27) ≡ (c * 3 + q / 9 % 3) * 9 + runFrom (q % 9)
+  whole-from c q =
+      let x : q % 27 / 9 ≡ q / 9 % 3 = omega arith in
+      let y : q % 27 % 9 ≡ q % 9 = omega arith in
+      ap (λ k. c * 27 + k) (from-third (q % 27) (mod-lt q (lit< tt)) ∙ ap₂ (λ x y. x * 9 + runFrom y) x y) ∙ omega arith
+
+  whole-small : (q : ℕ) → turned 2 (order 2) (q % 27) < 27
+  whole-small q =
+      let k : q % 27 < 27 = mod-lt q (lit< tt) in
+      rw (from-third (q % 27) k) (omega arith)
+
+  -- a third of block c, and what is read for it
+  still-at : (c q i : ℕ) → c * 27 + 27 ≤ length xs → q / 9 % 3 ≡ i → getD (thirds i) ((c * 3 + i) * 9 + runFrom (q % 9)) nan ≡ getD xs (c * 27 + turned 2 (order 2) (q % 27)) nan
+  still-at c q i hc e =
+      let s : i < 3 = omega arith in
+      let r : runFrom (q % 9) < 9 = run-small (q % 9) (mod-lt q (lit< tt)) in
+      let d : ((c * 3 + i) * 9 + runFrom (q % 9)) / 9 ≡ c * 3 + i = block-of 9 (c * 3 + i) (runFrom (q % 9)) r in
+      third-still ((c * 3 + i) * 9 + runFrom (q % 9)) (omega arith) i (rw d (omega arith))
+      ∙ ap (λ p. getD xs p nan) (ap (λ i. (c * 3 + i) * 9 + runFrom (q % 9)) (sym e) ∙ sym (whole-from c q))
+
+  -- a place of a third that was met
+  third-done : (q : ℕ) → q < length xs → (i : ℕ) → i ≤ 3 → q / 9 % 3 < i → getD (thirds i) q nan ≡ getD (joinedPair theOther 27 (turned 2 (order 2)) a b xs) q nan
+  third-done q h zero u g = absurd (omega arith)
+  third-done q h (suc i) u g = ⊎-elim now (λ (n : q / 9 % 3 ≡ i → ⊥). before n (third-done q h i (omega arith) (omega arith))) (eq-or-ne (q / 9 % 3) i)
+    where
+      l : q < length (thirds i)
+      l = rw (length-thirds i) h
+
+      k : q % 27 < 27
+      k = mod-lt q (lit< tt)
+
+      whole : getD (joinedPair theOther 9 runFrom (a * 3 + i) (b * 3 + i) (thirds i)) q nan ≡ getD (thirds (suc i)) q nan
+      whole = unfold thirds times in refl
+
+      s : q / 9 % 3 < 3
+      s = mod-lt (q / 9) (lit< tt)
+
+      r : runFrom (q % 9) < 9
+      r = run-small (q % 9) (mod-lt q (lit< tt))
+
+      before : (q / 9 % 3 ≡ i → ⊥) → getD (thirds i) q nan ≡ getD (joinedPair theOther 27 (turned 2 (order 2)) a b xs) q nan
+          → getD (thirds (suc i)) q nan ≡ getD (joinedPair theOther 27 (turned 2 (order 2)) a b xs) q nan
+      before n y = sym whole ∙ in-neither 9 runFrom (a * 3 + i) (b * 3 + i) (thirds i) q l (λ e. third-apart b e) (λ e. third-apart a e) ∙ y
+        where
+          third-apart : (c : ℕ) → q / 9 ≡ c * 3 + i → ⊥
+          third-apart c e = third-not c q i n (omega arith) e
+
+      now : q / 9 % 3 ≡ i → getD (thirds (suc i)) q nan ≡ getD (joinedPair theOther 27 (turned 2 (order 2)) a b xs) q nan
+      now e = sym whole ∙ ⊎-elim
+          (λ (f : q / 27 ≡ b).
+          in-second 9 runFrom (a * 3 + i) (b * 3 + i) (thirds i) q l (mod-lt q (lit< tt)) r (third-of b q i e f) ∙ still-at a q i ha e
+          ∙ sym (in-second 27 (turned 2 (order 2)) a b xs q h k (whole-small q) f))
+          (λ (n : q / 27 ≡ b → ⊥). ⊎-elim
+          (λ (f : q / 27 ≡ a).
+          in-first 9 runFrom (a * 3 + i) (b * 3 + i) (thirds i) q l (mod-lt q (lit< tt)) r (λ d. n (third-in b q i (omega arith) d)) (third-of a q i e f) ∙ still-at b q i hb e
+          ∙ sym (in-first 27 (turned 2 (order 2)) a b xs q h k (whole-small q) n f))
+          (λ (m : q / 27 ≡ a → ⊥).
+          in-neither 9 runFrom (a * 3 + i) (b * 3 + i) (thirds i) q l (λ d. n (third-in b q i (omega arith) d)) (λ d. m (third-in a q i (omega arith) d)) ∙ third-still q h i (omega arith)
+          ∙ sym (in-neither 27 (turned 2 (order 2)) a b xs q h n m))
+          (eq-or-ne (q / 27) a))
+          (eq-or-ne (q / 27) b)
+
+  -- three thirds that changed places are the blocks that changed places
+  pub thirds-are : times 3 (λ l. joinedPair theOther 9 runFrom (a * 3 + l) (b * 3 + l)) xs ≡ joinedPair theOther 27 (turned 2 (order 2)) a b xs
+  thirds-are =
+      (unfold thirds in
+      ext-getD nan (thirds 3) (joinedPair theOther 27 (turned 2 (order 2)) a b xs) (length-thirds 3 ∙ sym (length-pair 27 (turned 2 (order 2)) a b xs))
+      (λ q g.
+      let h : q < length xs = rw (length-thirds 3) at g in
+      third-done q h 3 (omega arith) (mod-lt (q / 9) (lit< tt))))

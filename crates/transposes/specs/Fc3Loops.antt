@@ -2,14 +2,17 @@
 use mathlib.Core.Path.{_≡_, refl, sym, ap, ap₂, _∙_}
 use mathlib.Core.Bool.{Bool, true, false, cond, _||_}
 use Prim.Native.Nat.{ℕ, zero, suc, _+_, _*_, _≤_, _<_}
+use native.Mathlib.Nat.{mul-le-mul}
 use native.Mathlib.Omega.{arith}
 use lib.Dec.{ltb, lit<, lit≤}
 use borrow.Author.Tests.{lt-ltb, le-ltb}
+use mathlib.Core.Logic.{_⊎_, ⊎-elim}
+use Rattle.lists.specs.Cases.{lt-or-le}
 use mathlib.Core.List.{List, [], _∷_}
 use lib.IntN.{ℤ, pos, negsuc}
 use lib.ListN.{length, getD, replicate}
 use lib.Ieee.{Float, nan}
-use Rattle.lists.specs.Tab.{tab, tabFrom, times, times-nest}
+use Rattle.lists.specs.Tab.{tab, tabFrom, times, times-nest, times-idle}
 use Rattle.lists.specs.Elements.{pick, pick-pick, straight, pick-straight}
 use Rattle.lists.specs.Digits.{horner, room, rest, digits}
 use Rattle.tables.specs.Shifts.{Shifts, Laws, p2sAt}
@@ -32,7 +35,7 @@ use Rattle.tables.specs.declared.Answer.the-variants.{Done}
 use Rattle.tables.specs.Answers.{isRefusal, after, is-done, refused-call, done-call}
 use Rattle.tables.specs.Limits.{limit3}
 use Rattle.transposes.specs.Fc3.{transposedBy, judgedTranspose, transposeCompactFc3}
-use Rattle.transposes.specs.HalfShift.{Sound, Trading, trading}
+use Rattle.transposes.specs.HalfShift.{Sound, Trading, trading, block-in}
 use Rattle.transposes.specs.Exchange.{turnedBlock}
 
 -- atoms of a block, and its number
@@ -218,6 +221,57 @@ module _ (T : ShiftTables) (Z : Sound T) (t n : ℕ) (ht : t < 3) (hn : n < room
       ap (λ c. joinedPair theOther c (turned 2 (order t)) n (counterpart (shiftsOf T) 2 (order t) n) xs) (sym in27)
       ∙ pair-is theOther (blocksBy (shiftsOf T) 2 (order t) (stayOf T t)) (pairs-of T (Z .rules) t ht) xs n hn
       ∙ sym (rw (e, le-ltb (counterpart (shiftsOf T) 2 (order t) n) n h))
+
+-- a visit as the program finds its two blocks
+module _ {lenSet : ℕ} (T : ShiftTables) (R : Trading 2 lenSet T) (t p j k : ℕ) (ht : t < 3) (a : Atoms T p j k)
+    (n o : ℕ) (en : n ≡ horner (T .nSatom) p (j ∷ k ∷ [])) (eo : o ≡ counterpart (shiftsOf T) 2 (order t) (at3 T p j k)) where
+  own : n ≡ at3 T p j k
+  own = en ∙ plain3 (T .nSatom) p j k
+
+  pub found-in : (n * 27 + 27 ≤ lenSet) × (o * 27 + 27 ≤ lenSet)
+  found-in =
+      let h = at-in T p j k a in
+      (block-in T R 27 in27 n (rw own h), block-in T R 27 in27 o (rw eo (other-in T (R .sound) t (at3 T p j k) ht h [])))
+
+  pub found-met : o < n → (xs : List Float) → xs ≡ turnAt T t (at3 T p j k) xs
+  found-met h xs = sym (turn-lower T (R .sound) t (at3 T p j k) ht (at-in T p j k a) xs (rw (← eo, ← own) h))
+
+  pub found-stays : stayOf T t (at3 T p j k) ≡ true → (xs : List Float) → xs ≡ turnAt T t (at3 T p j k) xs
+  found-stays e xs = sym (turn-stays T (R .sound) t (at3 T p j k) ht (at-in T p j k a) xs e)
+
+  pub found-now : n ≤ o → stayOf T t (at3 T p j k) ≡ false → (xs : List Float) {new : List Float} → new ≡ joinedPair theOther 27 (turned 2 (order t)) n o xs
+      → new ≡ turnAt T t (at3 T p j k) xs
+  found-now h s xs e =
+      e ∙ ap₂ (λ u v. joinedPair theOther 27 (turned 2 (order t)) u v xs) own eo
+      ∙ turn-taken T (R .sound) t (at3 T p j k) ht (at-in T p j k a) xs (rw (← eo, ← own) h) s
+
+-- type 0: all blocks of a pair that stays
+pub row-stays : (T : ShiftTables) → Sound T → (p j : ℕ) → p < T .nPatom → j < T .nSatom → stays (shiftsOf T) p j ≡ true → (xs : List Float) → xs ≡ rowT T 0 p j xs
+unfolding rowT
+row-stays T Z p j hp hj e xs =
+    sym (times-idle (T .nSatom) (λ k. turnAt T 0 (at3 T p j k)) xs (λ k hk y.
+    turn-stays T Z 0 (at3 T p j k) (lit< tt) (at-in T p j k (hp, hj, hk)) y (sym (stay-0 T p j k (hp, hj, hk) 0 refl) ∙ e)))
+
+-- type 2: the counterpart (p, k, j) is the lower one exactly where k < j
+below : (n p j k : ℕ) → k < j → j < n → (p * n + k) * n + j < (p * n + j) * n + k
+below n p j k h g =
+    let m : (k + 1) * n ≤ j * n = mul-le-mul (omega arith) (omega arith) in
+    omega arith
+
+pub rising : (n p j k : ℕ) → j ≤ k → k < n → (p * n + j) * n + k ≤ (p * n + k) * n + j
+rising n p j k h g =
+    ⊎-elim
+    (λ (l : j < k). let b = below n p k j l g in omega arith)
+    (λ (l : k ≤ j). let e : j ≡ k = omega arith in rw e (omega arith))
+    (lt-or-le j k)
+
+-- so the first j visits of a row change nothing
+pub idle-2 : (T : ShiftTables) → Sound T → (p j : ℕ) → p < T .nPatom → j < T .nSatom → (xs : List Float) → xs ≡ times j (λ k. turnAt T 2 (at3 T p j k)) xs
+idle-2 T Z p j hp hj xs =
+    sym (times-idle j (λ k. turnAt T 2 (at3 T p j k)) xs (λ k hk y.
+    let a : Atoms T p j k = (hp, hj, omega arith) in
+    let e : at3 T p k j ≡ counterpart (shiftsOf T) 2 (order 2) (at3 T p j k) = other-2 T Z p j k a 2 (at3 T p k j) refl (sym (plain3 (T .nSatom) p k j)) in
+    turn-lower T Z 2 (at3 T p j k) (lit< tt) (at-in T p j k a) y (rw (← e) (below (T .nSatom) p j k hk hj))))
 
 -- the call
 module _ (set : List Float) (T : ShiftTables) (work : List ℕ) (t : ℤ) (a : Answer) (e : a ≡ judgedTranspose (length set) (length work) T) where

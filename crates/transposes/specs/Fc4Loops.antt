@@ -32,7 +32,7 @@ use Rattle.orbits.specs.Transposed.{counterpart, turned, blocksBy, paired, coun
 use Rattle.orbits.specs.AtBlocks.{storedOf, counterpart-at}
 use Rattle.orbits.specs.Trading.{theOther, staysAt, Trades, trades, stays-both}
 use Rattle.transposes.specs.Fc4.{transposedBy4, transposeCompactFc4}
-use Rattle.transposes.specs.HalfShift.{Sound, Trading, trading, block-in}
+use Rattle.transposes.specs.HalfShift.{Sound, Trading, trading, block-in, Moving}
 
 -- atoms of a block, and its number
 abbrev pub Atoms : ShiftTables → ℕ → ℕ → ℕ → ℕ → Type 0
@@ -44,14 +44,6 @@ at4 T p j k l = ((p * T .nSatom + j) * T .nSatom + k) * T .nSatom + l
 pub in81 : inBlock 3 ≡ 81
 unfolding inBlock room
 in81 = refl
-
--- a pair (p, j) that moves: i is p's representative
-pub record Moving (lenSet : ℕ) (T : ShiftTables) (p i j : ℕ) : Type 0 where
-  pub trading : Trading 3 lenSet T
-  pub first : p < T .nPatom
-  pub second : j < T .nSatom
-  pub rep : i ≡ indexAt (T .p2s) p
-  pub moves : stays (shiftsOf T) p j ≡ false
 
 -- the blocks with their counterparts, those that stay among them
 abbrev tradedBlocks : ShiftTables → Blocks
@@ -185,7 +177,7 @@ pub pairs-small : (T : ShiftTables) → Sound T → T .nPatom * T .nSatom ≤ 10
 pairs-small T Z = let h : T .nPatom * T .nSatom ≤ 1024 * 1024 = mul-le-mul (Z .fit .patoms) (Z .fit .satoms) in omega arith
 
 -- a visit as the program finds its two blocks
-module _ (lenSet : ℕ) (T : ShiftTables) (p i j k l : ℕ) (M : Moving lenSet T p i j) (hk : k < T .nSatom) (hl : l < T .nSatom)
+module _ (lenSet : ℕ) (T : ShiftTables) (p i j k l : ℕ) (M : Moving 3 lenSet T p i j) (hk : k < T .nSatom) (hl : l < T .nSatom)
     (b c : ℕ) (eb : b ≡ horner (T .nSatom) p (j ∷ k ∷ l ∷ [])) (ec : c ≡ storedIn (T .nSatom) (T .s2pp) (T .nsymList) (T .perms) j (i ∷ k ∷ l ∷ [])) where
   own : b ≡ at4 T p j k l
   unfolding horner

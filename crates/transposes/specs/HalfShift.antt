@@ -28,6 +28,14 @@ pub record Trading (m lenSet : ℕ) (T : ShiftTables) : Type 0 where
   pub set-length : lenSet ≡ size (shiftsOf T) m
   pub sound : Sound T
 
+-- a pair (p, j) of first atoms whose blocks move where they trade: i is p's representative
+pub record Moving (m lenSet : ℕ) (T : ShiftTables) (p i j : ℕ) : Type 0 where
+  pub trading : Trading m lenSet T
+  pub first : p < T .nPatom
+  pub second : j < T .nSatom
+  pub rep : i ≡ indexAt (T .p2s) p
+  pub moves : stays (shiftsOf T) p j ≡ false
+
 pub trading : {limit m lenSet k lenWork : ℕ} (T : ShiftTables) → limit ≤ limit2 → Compact limit m lenSet k lenWork T → Trading m lenSet T
 unfolding size
 trading T h R =

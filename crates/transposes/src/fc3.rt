@@ -5,14 +5,15 @@ ghost use Prim.Native.Nat.{_+_, _*_, _<_, _≤_};
 ghost use lib.ListN.{length};
 ghost use Rattle.tables.specs.Compact.{shiftTables, shiftsOf};
 ghost use Rattle.places.specs.Moves.{order};
-ghost use Rattle.orbits.specs.Transposed.{counterpart, turned as turnedBy};
+ghost use Rattle.orbits.specs.Transposed.{turned as turnedBy};
 ghost use Rattle.orbits.specs.Trading.{theOther};
 ghost use Rattle.orbits.specs.BlockPairs.{joinedPair};
 ghost use Rattle.transposes.specs.Fc3.{transposedBy, transposeCompactFc3};
-ghost use Rattle.transposes.specs.HalfShift.{Sound, Trading};
-ghost use Rattle.transposes.specs.Exchange.{turnedBlock};
-ghost use Rattle.transposes.specs.Fc3Loops.{Atoms, at3, stayOf, turnAt, rowT, slabT, allT};
+ghost use Rattle.transposes.specs.HalfShift.{Trading, Moving};
+ghost use Rattle.transposes.specs.Exchange.{runFrom};
+ghost use Rattle.transposes.specs.Fc3Loops.{Atoms, at3, turnAt, rowT, slabT, allT};
 use crate::half_shift::stays;
+use lines::nine;
 use lists::clear_bytes;
 use orbits::turn;
 use places::block3;
@@ -25,33 +26,54 @@ use tables::guard::judge_compact;
 use tables::is_refusal;
 use tables::limits::LIMIT3;
 
-// A block with the two directions exchanged that type t exchanges.
-fn turned(t: usize, v: [f64; 27]) -> [f64; 27]
-    requires { ⌜ t < 3 ⌝ }
-    ensures { λ r. ⌜ r ≡ turnedBlock 27 (turnedBy 2 (order t)) v ⌝ }
-{
-    if t == 0 {
-        return turn::turn_mln(v);
-    }
-    if t == 1 {
-        return turn::turn_nml(v);
-    }
-    turn::turn_lnm(v)
-}
-
-// Blocks a and b change places, each turned.
-fn exchange(fc3: &mut [f64], t: usize, a: usize, b: usize)
-    requires { ⌜ (t < 3) × (a * 27 + 27 ≤ length (now fc3)) × (b * 27 + 27 ≤ length (now fc3)) ⌝ }
-    ensures { λ _. ⌜ now (fc3 .exit) ≡ joinedPair theOther 27 (turnedBy 2 (order t)) a b (now (fc3 .entry)) ⌝ }
+// Blocks a and b change places, each with directions 0 and 1 exchanged (type 0).
+fn exchange0(fc3: &mut [f64], a: usize, b: usize)
+    requires { ⌜ (a * 27 + 27 ≤ length (now fc3)) × (b * 27 + 27 ≤ length (now fc3)) ⌝ }
+    ensures { λ _. ⌜ now (fc3 .exit) ≡ joinedPair theOther 27 (turnedBy 2 (order 0)) a b (now (fc3 .entry)) ⌝ }
 {
     let one = blocks::read27(fc3, a);
     let other = blocks::read27(fc3, b);
-    blocks::write27(fc3, a, turned(t, other));
-    blocks::write27(fc3, b, turned(t, one));
+    blocks::write27(fc3, a, turn::turn_mln(other));
+    blocks::write27(fc3, b, turn::turn_mln(one));
 }
 
-// The block that trades with block (p, j, k): the read-out block of its atoms in the order of type t.
-fn other(
+// Blocks a and b change places, each with directions 0 and 2 exchanged (type 1).
+fn exchange1(fc3: &mut [f64], a: usize, b: usize)
+    requires { ⌜ (a * 27 + 27 ≤ length (now fc3)) × (b * 27 + 27 ≤ length (now fc3)) ⌝ }
+    ensures { λ _. ⌜ now (fc3 .exit) ≡ joinedPair theOther 27 (turnedBy 2 (order 1)) a b (now (fc3 .entry)) ⌝ }
+{
+    let one = blocks::read27(fc3, a);
+    let other = blocks::read27(fc3, b);
+    blocks::write27(fc3, a, turn::turn_nml(other));
+    blocks::write27(fc3, b, turn::turn_nml(one));
+}
+
+// Blocks a and b of nine numbers change places, each transposed.
+fn exchange9(fc3: &mut [f64], a: usize, b: usize)
+    requires { ⌜ (a * 9 + 9 ≤ length (now fc3)) × (b * 9 + 9 ≤ length (now fc3)) ⌝ }
+    ensures { λ _. ⌜ now (fc3 .exit) ≡ joinedPair theOther 9 runFrom a b (now (fc3 .entry)) ⌝ }
+{
+    let one = blocks::read9(fc3, a);
+    let other = blocks::read9(fc3, b);
+    blocks::write9(fc3, a, nine::turned(other));
+    blocks::write9(fc3, b, nine::turned(one));
+}
+
+// Blocks a and b change places, each with directions 1 and 2 exchanged (type 2): nine numbers of one direction 0 after another, which fit the registers.
+fn exchange2(fc3: &mut [f64], a: usize, b: usize)
+    requires { ⌜ (a * 27 + 27 ≤ length (now fc3)) × (b * 27 + 27 ≤ length (now fc3)) ⌝ }
+    ensures { λ _. ⌜ now (fc3 .exit) ≡ joinedPair theOther 27 (turnedBy 2 (order 2)) a b (now (fc3 .entry)) ⌝ }
+{
+    let mut l = 0;
+    while l < 3 {
+        exchange9(fc3, a * 3 + l, b * 3 + l);
+        l += 1;
+    }
+}
+
+// One visit of type 0: block (p, j, k) of a pair (p, j) that moves and its counterpart change places at the lower one of them: i is p's representative.
+fn visit0(
+    fc3: &mut [f64],
     p2s: &[i64],
     s2pp: &[i64],
     nsym_list: &[i64],
@@ -59,27 +81,170 @@ fn other(
     n_satom: usize,
     n_patom: usize,
     num_trans: usize,
-    t: usize,
+    p: PrimAtom,
+    i: SuperAtom,
+    j: SuperAtom,
+    k: SuperAtom,
+)
+    requires { ⌜ Moving 2 (length (now fc3)) (shiftTables (now p2s) (now s2pp) (now «nsym_list») (now perms) «n_satom» «n_patom» «num_trans») (p .0) (i .0) (j .0) × (k .0 < «n_satom») ⌝ }
+    ensures { λ _. ⌜ now (fc3 .exit) ≡ turnAt (shiftTables (now (p2s .entry)) (now (s2pp .entry)) (now («nsym_list» .entry)) (now (perms .entry)) «n_satom» «n_patom» «num_trans») 0 (at3 (shiftTables (now (p2s .entry)) (now (s2pp .entry)) (now («nsym_list» .entry)) (now (perms .entry)) «n_satom» «n_patom» «num_trans») (p .0) (j .0) (k .0)) (now (fc3 .entry)) ⌝ }
+{
+    let n = block3(p, j, k, n_satom);
+    let o = read_out3(s2pp, nsym_list, perms, j, i, k, n_satom);
+    if n <= o {
+        exchange0(fc3, n, o);
+    }
+}
+
+// One visit of type 1: block (p, j, k) and its counterpart change places, unless they stay or were met at the lower one.
+fn visit1(
+    fc3: &mut [f64],
+    p2s: &[i64],
+    s2pp: &[i64],
+    nsym_list: &[i64],
+    perms: &[i64],
+    n_satom: usize,
+    n_patom: usize,
+    num_trans: usize,
     p: PrimAtom,
     j: SuperAtom,
     k: SuperAtom,
-) -> usize
-    requires { ⌜ Sound (shiftTables (now p2s) (now s2pp) (now «nsym_list») (now perms) «n_satom» «n_patom» «num_trans») ⌝ }
-    requires { ⌜ Atoms (shiftTables (now p2s) (now s2pp) (now «nsym_list») (now perms) «n_satom» «n_patom» «num_trans») (p .0) (j .0) (k .0) × (t < 3) ⌝ }
-    ensures { λ r. ⌜ r ≡ counterpart (shiftsOf (shiftTables (now (p2s .entry)) (now (s2pp .entry)) (now («nsym_list» .entry)) (now (perms .entry)) «n_satom» «n_patom» «num_trans»)) 2 (order t) (at3 (shiftTables (now (p2s .entry)) (now (s2pp .entry)) (now («nsym_list» .entry)) (now (perms .entry)) «n_satom» «n_patom» «num_trans») (p .0) (j .0) (k .0)) ⌝ }
+)
+    requires { ⌜ Trading 2 (length (now fc3)) (shiftTables (now p2s) (now s2pp) (now «nsym_list») (now perms) «n_satom» «n_patom» «num_trans») ⌝ }
+    requires { ⌜ Atoms (shiftTables (now p2s) (now s2pp) (now «nsym_list») (now perms) «n_satom» «n_patom» «num_trans») (p .0) (j .0) (k .0) ⌝ }
+    ensures { λ _. ⌜ now (fc3 .exit) ≡ turnAt (shiftTables (now (p2s .entry)) (now (s2pp .entry)) (now («nsym_list» .entry)) (now (perms .entry)) «n_satom» «n_patom» «num_trans») 1 (at3 (shiftTables (now (p2s .entry)) (now (s2pp .entry)) (now («nsym_list» .entry)) (now (perms .entry)) «n_satom» «n_patom» «num_trans») (p .0) (j .0) (k .0)) (now (fc3 .entry)) ⌝ }
 {
-    if t == 2 {
-        return block3(p, k, j, n_satom);
+    let n = block3(p, j, k, n_satom);
+    let i = p2s_at(p2s, p);
+    let o = read_out3(s2pp, nsym_list, perms, k, j, i, n_satom);
+    if o < n {
+        return;
+    }
+    if stays(
+        p2s,
+        s2pp,
+        nsym_list,
+        perms,
+        n_satom,
+        n_patom,
+        num_trans,
+        p,
+        k,
+    ) {
+        return;
+    }
+    exchange1(fc3, n, o);
+}
+
+// Type 2: blocks (p, j, k) and (p, k, j) change places. The first one is not the higher one where j ≤ k.
+fn visit2(
+    fc3: &mut [f64],
+    p2s: &[i64],
+    s2pp: &[i64],
+    nsym_list: &[i64],
+    perms: &[i64],
+    n_satom: usize,
+    n_patom: usize,
+    num_trans: usize,
+    p: PrimAtom,
+    j: SuperAtom,
+    k: SuperAtom,
+)
+    requires { ⌜ Trading 2 (length (now fc3)) (shiftTables (now p2s) (now s2pp) (now «nsym_list») (now perms) «n_satom» «n_patom» «num_trans») ⌝ }
+    requires { ⌜ Atoms (shiftTables (now p2s) (now s2pp) (now «nsym_list») (now perms) «n_satom» «n_patom» «num_trans») (p .0) (j .0) (k .0) × (j .0 ≤ k .0) ⌝ }
+    ensures { λ _. ⌜ now (fc3 .exit) ≡ turnAt (shiftTables (now (p2s .entry)) (now (s2pp .entry)) (now («nsym_list» .entry)) (now (perms .entry)) «n_satom» «n_patom» «num_trans») 2 (at3 (shiftTables (now (p2s .entry)) (now (s2pp .entry)) (now («nsym_list» .entry)) (now (perms .entry)) «n_satom» «n_patom» «num_trans») (p .0) (j .0) (k .0)) (now (fc3 .entry)) ⌝ }
+{
+    let n = block3(p, j, k, n_satom);
+    let o = block3(p, k, j, n_satom);
+    exchange2(fc3, n, o);
+}
+
+// Type 0: the blocks of a pair (p, j) that moves.
+fn line0(
+    fc3: &mut [f64],
+    p2s: &[i64],
+    s2pp: &[i64],
+    nsym_list: &[i64],
+    perms: &[i64],
+    n_satom: usize,
+    n_patom: usize,
+    num_trans: usize,
+    p: PrimAtom,
+    i: SuperAtom,
+    j: SuperAtom,
+)
+    requires { ⌜ Moving 2 (length (now fc3)) (shiftTables (now p2s) (now s2pp) (now «nsym_list») (now perms) «n_satom» «n_patom» «num_trans») (p .0) (i .0) (j .0) ⌝ }
+    ensures { λ _. ⌜ now (fc3 .exit) ≡ rowT (shiftTables (now (p2s .entry)) (now (s2pp .entry)) (now («nsym_list» .entry)) (now (perms .entry)) «n_satom» «n_patom» «num_trans») 0 (p .0) (j .0) (now (fc3 .entry)) ⌝ }
+{
+    let mut k = 0;
+    while k < n_satom {
+        visit0(
+            fc3,
+            p2s,
+            s2pp,
+            nsym_list,
+            perms,
+            n_satom,
+            n_patom,
+            num_trans,
+            p,
+            i,
+            j,
+            SuperAtom(k),
+        );
+        k += 1;
+    }
+}
+
+// Type 0: the blocks (p, j, 0), (p, j, 1), .. move or stay together.
+fn row0(
+    fc3: &mut [f64],
+    p2s: &[i64],
+    s2pp: &[i64],
+    nsym_list: &[i64],
+    perms: &[i64],
+    n_satom: usize,
+    n_patom: usize,
+    num_trans: usize,
+    p: PrimAtom,
+    j: SuperAtom,
+)
+    requires { ⌜ Trading 2 (length (now fc3)) (shiftTables (now p2s) (now s2pp) (now «nsym_list») (now perms) «n_satom» «n_patom» «num_trans») ⌝ }
+    requires { ⌜ (p .0 < «n_patom») × (j .0 < «n_satom») ⌝ }
+    ensures { λ _. ⌜ now (fc3 .exit) ≡ rowT (shiftTables (now (p2s .entry)) (now (s2pp .entry)) (now («nsym_list» .entry)) (now (perms .entry)) «n_satom» «n_patom» «num_trans») 0 (p .0) (j .0) (now (fc3 .entry)) ⌝ }
+{
+    if stays(
+        p2s,
+        s2pp,
+        nsym_list,
+        perms,
+        n_satom,
+        n_patom,
+        num_trans,
+        p,
+        j,
+    ) {
+        return;
     }
     let i = p2s_at(p2s, p);
-    if t == 0 {
-        return read_out3(s2pp, nsym_list, perms, j, i, k, n_satom);
-    }
-    read_out3(s2pp, nsym_list, perms, k, j, i, n_satom)
+    line0(
+        fc3,
+        p2s,
+        s2pp,
+        nsym_list,
+        perms,
+        n_satom,
+        n_patom,
+        num_trans,
+        p,
+        i,
+        j,
+    );
 }
 
-// Whether block (p, j, k) stays under type t.
-fn passed_over(
+// Type 1: the blocks (p, j, 0), (p, j, 1), ..
+fn row1(
+    fc3: &mut [f64],
     p2s: &[i64],
     s2pp: &[i64],
     nsym_list: &[i64],
@@ -87,17 +252,17 @@ fn passed_over(
     n_satom: usize,
     n_patom: usize,
     num_trans: usize,
-    t: usize,
     p: PrimAtom,
     j: SuperAtom,
-    k: SuperAtom,
-) -> bool
-    requires { ⌜ Sound (shiftTables (now p2s) (now s2pp) (now «nsym_list») (now perms) «n_satom» «n_patom» «num_trans») ⌝ }
-    requires { ⌜ Atoms (shiftTables (now p2s) (now s2pp) (now «nsym_list») (now perms) «n_satom» «n_patom» «num_trans») (p .0) (j .0) (k .0) × (t < 3) ⌝ }
-    ensures { λ r. ⌜ r ≡ stayOf (shiftTables (now (p2s .entry)) (now (s2pp .entry)) (now («nsym_list» .entry)) (now (perms .entry)) «n_satom» «n_patom» «num_trans») t (at3 (shiftTables (now (p2s .entry)) (now (s2pp .entry)) (now («nsym_list» .entry)) (now (perms .entry)) «n_satom» «n_patom» «num_trans») (p .0) (j .0) (k .0)) ⌝ }
+)
+    requires { ⌜ Trading 2 (length (now fc3)) (shiftTables (now p2s) (now s2pp) (now «nsym_list») (now perms) «n_satom» «n_patom» «num_trans») ⌝ }
+    requires { ⌜ (p .0 < «n_patom») × (j .0 < «n_satom») ⌝ }
+    ensures { λ _. ⌜ now (fc3 .exit) ≡ rowT (shiftTables (now (p2s .entry)) (now (s2pp .entry)) (now («nsym_list» .entry)) (now (perms .entry)) «n_satom» «n_patom» «num_trans») 1 (p .0) (j .0) (now (fc3 .entry)) ⌝ }
 {
-    if t == 0 {
-        return stays(
+    let mut k = 0;
+    while k < n_satom {
+        visit1(
+            fc3,
             p2s,
             s2pp,
             nsym_list,
@@ -107,10 +272,33 @@ fn passed_over(
             num_trans,
             p,
             j,
+            SuperAtom(k),
         );
+        k += 1;
     }
-    if t == 1 {
-        return stays(
+}
+
+// Type 2: the blocks (p, j, j), (p, j, j + 1), .. change places with theirs; those before were met there.
+fn row2(
+    fc3: &mut [f64],
+    p2s: &[i64],
+    s2pp: &[i64],
+    nsym_list: &[i64],
+    perms: &[i64],
+    n_satom: usize,
+    n_patom: usize,
+    num_trans: usize,
+    p: PrimAtom,
+    j: SuperAtom,
+)
+    requires { ⌜ Trading 2 (length (now fc3)) (shiftTables (now p2s) (now s2pp) (now «nsym_list») (now perms) «n_satom» «n_patom» «num_trans») ⌝ }
+    requires { ⌜ (p .0 < «n_patom») × (j .0 < «n_satom») ⌝ }
+    ensures { λ _. ⌜ now (fc3 .exit) ≡ rowT (shiftTables (now (p2s .entry)) (now (s2pp .entry)) (now («nsym_list» .entry)) (now (perms .entry)) «n_satom» «n_patom» «num_trans») 2 (p .0) (j .0) (now (fc3 .entry)) ⌝ }
+{
+    let mut k = j.0;
+    while k < n_satom {
+        visit2(
+            fc3,
             p2s,
             s2pp,
             nsym_list,
@@ -119,14 +307,15 @@ fn passed_over(
             n_patom,
             num_trans,
             p,
-            k,
+            j,
+            SuperAtom(k),
         );
+        k += 1;
     }
-    false
 }
 
-// One visit: block (p, j, k) and its counterpart change places, unless they stay or were met at the lower one.
-fn visit(
+// Types 1 and 2, which exchange with the last leg.
+fn row_last(
     fc3: &mut [f64],
     p2s: &[i64],
     s2pp: &[i64],
@@ -138,14 +327,28 @@ fn visit(
     t: usize,
     p: PrimAtom,
     j: SuperAtom,
-    k: SuperAtom,
 )
     requires { ⌜ Trading 2 (length (now fc3)) (shiftTables (now p2s) (now s2pp) (now «nsym_list») (now perms) «n_satom» «n_patom» «num_trans») ⌝ }
-    requires { ⌜ Atoms (shiftTables (now p2s) (now s2pp) (now «nsym_list») (now perms) «n_satom» «n_patom» «num_trans») (p .0) (j .0) (k .0) × (t < 3) ⌝ }
-    ensures { λ _. ⌜ now (fc3 .exit) ≡ turnAt (shiftTables (now (p2s .entry)) (now (s2pp .entry)) (now («nsym_list» .entry)) (now (perms .entry)) «n_satom» «n_patom» «num_trans») t (at3 (shiftTables (now (p2s .entry)) (now (s2pp .entry)) (now («nsym_list» .entry)) (now (perms .entry)) «n_satom» «n_patom» «num_trans») (p .0) (j .0) (k .0)) (now (fc3 .entry)) ⌝ }
+    requires { ⌜ (p .0 < «n_patom») × (j .0 < «n_satom») × (t < 3) × (t ≡ 0 → ⊥) ⌝ }
+    ensures { λ _. ⌜ now (fc3 .exit) ≡ rowT (shiftTables (now (p2s .entry)) (now (s2pp .entry)) (now («nsym_list» .entry)) (now (perms .entry)) «n_satom» «n_patom» «num_trans») t (p .0) (j .0) (now (fc3 .entry)) ⌝ }
 {
-    let n = block3(p, j, k, n_satom);
-    let o = other(
+    if t == 1 {
+        row1(
+            fc3,
+            p2s,
+            s2pp,
+            nsym_list,
+            perms,
+            n_satom,
+            n_patom,
+            num_trans,
+            p,
+            j,
+        );
+        return;
+    }
+    row2(
+        fc3,
         p2s,
         s2pp,
         nsym_list,
@@ -153,33 +356,12 @@ fn visit(
         n_satom,
         n_patom,
         num_trans,
-        t,
         p,
         j,
-        k,
     );
-    if o < n {
-        return;
-    }
-    if passed_over(
-        p2s,
-        s2pp,
-        nsym_list,
-        perms,
-        n_satom,
-        n_patom,
-        num_trans,
-        t,
-        p,
-        j,
-        k,
-    ) {
-        return;
-    }
-    exchange(fc3, t, n, o);
 }
 
-// The blocks (p, j, 0), (p, j, 1), ..
+// The blocks (p, j, 0), (p, j, 1), .. by type, each type with a loop of its own: the type is then a constant where the blocks move.
 fn row(
     fc3: &mut [f64],
     p2s: &[i64],
@@ -197,9 +379,8 @@ fn row(
     requires { ⌜ (p .0 < «n_patom») × (j .0 < «n_satom») × (t < 3) ⌝ }
     ensures { λ _. ⌜ now (fc3 .exit) ≡ rowT (shiftTables (now (p2s .entry)) (now (s2pp .entry)) (now («nsym_list» .entry)) (now (perms .entry)) «n_satom» «n_patom» «num_trans») t (p .0) (j .0) (now (fc3 .entry)) ⌝ }
 {
-    let mut k = 0;
-    while k < n_satom {
-        visit(
+    if t == 0 {
+        row0(
             fc3,
             p2s,
             s2pp,
@@ -208,13 +389,24 @@ fn row(
             n_satom,
             n_patom,
             num_trans,
-            t,
             p,
             j,
-            SuperAtom(k),
         );
-        k += 1;
+        return;
     }
+    row_last(
+        fc3,
+        p2s,
+        s2pp,
+        nsym_list,
+        perms,
+        n_satom,
+        n_patom,
+        num_trans,
+        t,
+        p,
+        j,
+    );
 }
 
 // The blocks of slab p.

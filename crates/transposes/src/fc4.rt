@@ -10,9 +10,9 @@ ghost use Rattle.orbits.specs.Trading.{theOther};
 ghost use Rattle.orbits.specs.BlockPairs.{joinedPair};
 ghost use Rattle.blocks.specs.Block.{block, putBlock};
 ghost use Rattle.transposes.specs.Fc4.{transposedBy4, transposeCompactFc4};
-ghost use Rattle.transposes.specs.HalfShift.{Trading};
+ghost use Rattle.transposes.specs.HalfShift.{Trading, Moving};
 ghost use Rattle.transposes.specs.Exchange.{turnedBlock};
-ghost use Rattle.transposes.specs.Fc4Loops.{Moving, at4, tradeAt, line4, plane4, pairs4};
+ghost use Rattle.transposes.specs.Fc4Loops.{at4, tradeAt, line4, plane4, pairs4};
 use crate::half_shift::stays;
 use lists::clear_bytes;
 use places::block4;
@@ -82,7 +82,7 @@ fn trade(
     k: SuperAtom,
     l: SuperAtom,
 )
-    requires { ⌜ Moving (length (now fc4)) (shiftTables (now p2s) (now s2pp) (now «nsym_list») (now perms) «n_satom» «n_patom» «num_trans») (p .0) (i .0) (j .0) ⌝ }
+    requires { ⌜ Moving 3 (length (now fc4)) (shiftTables (now p2s) (now s2pp) (now «nsym_list») (now perms) «n_satom» «n_patom» «num_trans») (p .0) (i .0) (j .0) ⌝ }
     requires { ⌜ (k .0 < «n_satom») × (l .0 < «n_satom») ⌝ }
     ensures { λ _. ⌜ now (fc4 .exit) ≡ tradeAt (shiftTables (now (p2s .entry)) (now (s2pp .entry)) (now («nsym_list» .entry)) (now (perms .entry)) «n_satom» «n_patom» «num_trans») (at4 (shiftTables (now (p2s .entry)) (now (s2pp .entry)) (now («nsym_list» .entry)) (now (perms .entry)) «n_satom» «n_patom» «num_trans») (p .0) (j .0) (k .0) (l .0)) (now (fc4 .entry)) ⌝ }
 {
@@ -108,7 +108,7 @@ fn line(
     j: SuperAtom,
     k: SuperAtom,
 )
-    requires { ⌜ Moving (length (now fc4)) (shiftTables (now p2s) (now s2pp) (now «nsym_list») (now perms) «n_satom» «n_patom» «num_trans») (p .0) (i .0) (j .0) ⌝ }
+    requires { ⌜ Moving 3 (length (now fc4)) (shiftTables (now p2s) (now s2pp) (now «nsym_list») (now perms) «n_satom» «n_patom» «num_trans») (p .0) (i .0) (j .0) ⌝ }
     requires { ⌜ k .0 < «n_satom» ⌝ }
     ensures { λ _. ⌜ now (fc4 .exit) ≡ line4 (shiftTables (now (p2s .entry)) (now (s2pp .entry)) (now («nsym_list» .entry)) (now (perms .entry)) «n_satom» «n_patom» «num_trans») (p .0 * «n_satom» + j .0) (k .0) (now (fc4 .entry)) ⌝ }
 {
@@ -147,7 +147,7 @@ fn plane(
     i: SuperAtom,
     j: SuperAtom,
 )
-    requires { ⌜ Moving (length (now fc4)) (shiftTables (now p2s) (now s2pp) (now «nsym_list») (now perms) «n_satom» «n_patom» «num_trans») (p .0) (i .0) (j .0) ⌝ }
+    requires { ⌜ Moving 3 (length (now fc4)) (shiftTables (now p2s) (now s2pp) (now «nsym_list») (now perms) «n_satom» «n_patom» «num_trans») (p .0) (i .0) (j .0) ⌝ }
     ensures { λ _. ⌜ now (fc4 .exit) ≡ plane4 (shiftTables (now (p2s .entry)) (now (s2pp .entry)) (now («nsym_list» .entry)) (now (perms .entry)) «n_satom» «n_patom» «num_trans») (p .0 * «n_satom» + j .0) (now (fc4 .entry)) ⌝ }
 {
     let mut k = 0;

@@ -1,11 +1,10 @@
 -- `capi::c_fc4::gf_transpose_compact_fc4` meets its contract. Assumes nothing.
-use mathlib.Core.Path.{ap, _∙_}
 use borrow.Author.Needs.{needs}
 use mir.Syntax.{w64}
 use mir.ValLaws.{toZ-ofZ}
 use Rattle.tables.specs.Compact.{shiftTables}
 use Rattle.transposes.specs.Fc4.{transposeCompactFc4}
-use Rattle.capi.specs.Numbered.{by-number-with}
+use Rattle.capi.specs.Numbered.{by-number-at}
 use Rattle.capi.proofs.c_fc4.gf_transpose_compact_fc4.Statement.{statement}
 use Rattle.capi.proofs.c_fc4.gf_transpose_compact_fc4.Tie as tie
 
@@ -27,7 +26,8 @@ returns c =
     let s = x .before .before .before .before .before in
     let a = s .args in
     let T = shiftTables (a .p2s .now) (a .s2pp .now) (a .nsym-list .now) (a .perms .now) (a .n-satom) (a .n-patom) (a .num-trans) in
-    by-number-with (x .transpose-compact-fc4 .ensures ∙ ap (transposeCompactFc4 (a .fc4 .now) T (a .done .now)) (toZ-ofZ w64 (a .t-type) (s .fits .t-type))) (c .number .ensures)
+    by-number-at (transposeCompactFc4 (a .fc4 .now) T (a .done .now)) (toZ-ofZ w64 (a .t-type) (s .fits .t-type)) (x .transpose-compact-fc4 .ensures)
+    (c .number .ensures)
 
 pub gf-transpose-compact-fc4-spec : {M : Type 1} → statement M
 gf-transpose-compact-fc4-spec = tie.close (tie.spec transpose-compact-fc4-requires number-requires same-length same-length-2 returns)

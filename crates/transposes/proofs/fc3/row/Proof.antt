@@ -1,64 +1,34 @@
--- The loop over k. Assumes nothing.
-use Prim.Native.Nat.{_≤_, _-_}
-use native.Mathlib.Omega.{arith}
-use mathlib.Core.Path.{_≡_, refl, _∙_}
-use lib.ListN.{length}
-use borrow.Author.Needs.{needs}
-use Rattle.lists.specs.Tab.{times, times-none, times-more}
+use mathlib.Core.Path.{_≡_, sym, ap, _∙_}
 use Rattle.tables.specs.Compact.{shiftTables}
-use Rattle.transposes.specs.Fc3Loops.{at3, turnAt, rowT}
+use Rattle.transposes.specs.Fc3Loops.{rowT}
+use borrow.Author.Needs.{needs}
 use Rattle.transposes.proofs.fc3.row.Statement.{statement}
 use Rattle.transposes.proofs.fc3.row.Tie as tie
 
-abbrev Inv-loop : tie.InvT-loop
-Inv-loop fc3₀ p2s s2pp nsym-list perms n-satom n-patom num-trans t p j k₀ fc3 k =
-    let T = shiftTables p2s s2pp nsym-list perms n-satom n-patom num-trans in
-    (k ≤ n-satom) × (length fc3 ≡ length fc3₀) × (fc3 ≡ times k (λ k. turnAt T t (at3 T (p .0) (j .0) k)) fc3₀)
+row0-requires : tie.Need-row0-requires
+row0-requires c κs = let s = c .before .before .before in (s .pre .0, (s .pre .1 .0, s .pre .1 .1))
 
-abbrev μ-loop : tie.MeasureT-loop
-μ-loop fc3₀ p2s s2pp nsym-list perms n-satom n-patom num-trans t p j k₀ fc3 k = n-satom - k
-
-loop-holds : tie.Need-loop-holds Inv-loop μ-loop
-loop-holds c = (omega arith, refl, times-none _ _)
-
-visit-requires : tie.Need-visit-requires Inv-loop μ-loop
-visit-requires c κs =
-    let l = c .before .before .loop in
-    let s = c .before .before .before .before in
-    (rw (l .inv .1) (s .pre .0), ((s .pre .1 .0, s .pre .1 .1, omega arith), s .pre .1 .2))
-
-add-k : tie.Need-add-k Inv-loop μ-loop
-add-k c = search needs
-
-loop-less : tie.Need-loop-less Inv-loop μ-loop
-loop-less c = search needs
-
-loop-again : tie.Need-loop-again Inv-loop μ-loop
-loop-again c =
-    let v = c .before .before in
-    let l = v .before .before .before .loop in
-    (omega arith, v .visit .kept .0 ∙ l .inv .1, times-more (l .k) _ _ (l .inv .2) (v .visit .ensures))
-
-same-length : tie.Need-same-length Inv-loop μ-loop
+same-length : tie.Need-same-length
 same-length c = search needs
 
-returns : tie.Need-returns Inv-loop μ-loop
-unfolding rowT
+returns : tie.Need-returns
 returns c =
-    let l = c .before .loop in
-    let e : l .k ≡ c .before .before .before .args .n-satom = omega arith in
-    l .inv .2 ∙ rw e
+    let x = c .before .before in
+    let i = x .before .before in
+    let s = i .before .before in
+    let a = s .args in
+    let T = shiftTables (a .p2s .now) (a .s2pp .now) (a .nsym-list .now) (a .perms .now) (a .n-satom) (a .n-patom) (a .num-trans) in
+    let e : a .t ≡ 0 = i .if1 .taken in
+    x .row0 .ensures ∙ ap (λ t. rowT T t (a .p .0) (a .j .0) (a .fc3 .now)) (sym e)
+
+row-last-requires : tie.Need-row-last-requires
+row-last-requires c κs = let s = c .before .before .before in (s .pre .0, (s .pre .1 .0, s .pre .1 .1, s .pre .1 .2, c .before .if1 .left))
+
+same-length-2 : tie.Need-same-length-2
+same-length-2 c = search needs
+
+returns-2 : tie.Need-returns-2
+returns-2 c = c .before .before .row-last .ensures
 
 pub row-spec : {M : Type 1} → statement M
-row-spec =
-    tie.close
-    (tie.spec
-    Inv-loop
-    μ-loop
-    loop-holds
-    visit-requires
-    add-k
-    loop-less
-    loop-again
-    same-length
-    returns)
+row-spec = tie.close (tie.spec row0-requires same-length returns row-last-requires same-length-2 returns-2)
