@@ -3,6 +3,7 @@ use crate::call::{Call, Lent, Numbers};
 use crate::call_tables::Check;
 use crate::memory::most_of;
 use crate::shifts::Tables;
+use crate::stack::deepest;
 use rayon::{ThreadPool, ThreadPoolBuilder};
 use std::hint::black_box;
 use std::time::Instant;
@@ -21,7 +22,7 @@ struct Times {
     two: f64,
     /// A copy of the set: the least that a call can take that reads and writes it once.
     copy: f64,
-    /// The same call where the last entry of the tables breaks a rule: all that is judged before the work begins.
+    /// The check of the call's shift tables alone.
     guard: f64,
 }
 
@@ -65,22 +66,21 @@ impl Bench {
     }
 
     pub fn head(&self) {
-        println!("| call | size | port, us | the Rust, us | ratio | guard, us | ratio without it | ratio, 2 threads | copy, us | heap / work, kB |");
-        println!("|---|---|---|---|---|---|---|---|---|---|");
+        println!("| call | size | port, us | the Rust, us | ratio | guard, us | ratio without it | ratio, 2 threads | copy, us | heap / work, kB | stack, kB |");
+        println!("|---|---|---|---|---|---|---|---|---|---|---|");
     }
 
-    fn times<C: Call + Send>(&self, call: &mut C, refuse: Option<fn(&mut C)>, threads: bool) -> Times {
+    fn times<C: Call + Send>(&self, call: &mut C, tables: Option<Tables>, threads: bool) -> Times {
         let (mut mine, mut theirs) = (call.clone(), call.clone());
+        let mut check = tables.map(Check);
         let mut least = Times { port: f64::MAX, one: f64::MAX, two: f64::MAX, copy: f64::MAX, guard: f64::MAX };
         let start = Instant::now();
         let mut runs = 0;
         while runs < 3 || (runs < 400 && start.elapsed().as_secs_f64() < self.patience) {
             least.copy = least.copy.min(copy_of_set(&mut mine, call));
             restore(&mut mine, call);
-            if let Some(refuse) = refuse {
-                refuse(&mut mine);
-                least.guard = least.guard.min(clock(|| assert_eq!(black_box(&mut mine).port(), 6)));
-                restore(&mut mine, call);
+            if let Some(check) = &mut check {
+                least.guard = least.guard.min(clock(|| assert_eq!(black_box(check).port(), 0)));
             }
             least.port = least.port.min(clock(|| black_box(&mut mine).port()));
             restore(&mut theirs, call);
@@ -95,11 +95,15 @@ impl Bench {
         least
     }
 
-    /// A row of the table: how many times the port's time the Rust takes. `refuse` spoils the last thing that is judged,
-    /// where that takes time, and `threads` says that the Rust uses them.
-    pub fn row<C: Call + Send>(&self, name: &str, size: &str, mut call: C, refuse: Option<fn(&mut C)>, threads: bool) {
-        let times = self.times(&mut call, refuse, threads);
+    /// A row of the table: how many times the port's time the Rust takes. `tables` are those that the call judges,
+    /// and `threads` says that the Rust uses them.
+    pub fn row<C: Call + Send>(&self, name: &str, size: &str, mut call: C, tables: Option<Tables>, threads: bool) {
+        let times = self.times(&mut call, tables, threads);
         let mut again = call.clone();
+        let stack = deepest(&mut || {
+            black_box(again.port());
+        });
+        restore(&mut again, &mut call);
         let heap = most_of(|| self.one.install(|| again.original())) / 1024;
         let lent = call.parts().slices.iter().filter(|s| s.work).map(|s| s.len() * s.width()).sum::<usize>() / 1024;
         let us = |t: f64| if t == f64::MAX { "".into() } else { format!("{:.1}", t * 1e6) };
@@ -116,18 +120,24 @@ impl Bench {
             ratio(times.two, times.port),
             us(times.copy),
             format!("{heap} / {lent}"),
+            format!("{:.1}", stack as f64 / 1024.0),
         ];
         println!("| {name} | {size} | {} |", columns.join(" | "));
+    }
+
+    /// The least time of the work, in seconds.
+    pub fn least(&self, mut work: impl FnMut()) -> f64 {
+        let start = Instant::now();
+        let mut least = f64::MAX;
+        while start.elapsed().as_secs_f64() < self.patience / 4.0 {
+            least = least.min(clock(&mut work));
+        }
+        least
     }
 
     /// The least time of the table check alone, in seconds.
     pub fn check(&self, tables: &Tables) -> f64 {
         let mut call = Check(tables.clone());
-        let start = Instant::now();
-        let mut least = f64::MAX;
-        while start.elapsed().as_secs_f64() < self.patience / 4.0 {
-            least = least.min(clock(|| assert_eq!(black_box(&mut call).port(), 0)));
-        }
-        least
+        self.least(|| assert_eq!(black_box(&mut call).port(), 0))
     }
 }

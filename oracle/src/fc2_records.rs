@@ -5,7 +5,7 @@ use crate::call_compact::{Compact, Name};
 use crate::call_distribute::Distribute;
 use crate::call_drift::Drift;
 use crate::call_full::Full;
-use crate::record::{checksum, counted, float_word, Record, Replay};
+use crate::record::{counted, float_word, report, Record, Replay};
 use crate::rng::Rng;
 use crate::shifts::{loop5, tables, Tables};
 use crate::spoil::spoil;
@@ -320,7 +320,6 @@ pub fn replay() -> Replay {
     compact_sets(&mut all, Name::Exchange2);
     distributed(&mut all);
     let records = all.records;
-    let of = |word: usize, n: u64| records.iter().filter(|r| r[word] == n).count();
     let names = [
         "perm_trans_symmetrize_fc",
         "perm_trans_symmetrize_compact_fc",
@@ -328,22 +327,16 @@ pub fn replay() -> Replay {
         "distribute_fc2",
         "drift_report",
     ];
-    let mut stdout = String::new();
+    let mut stdout = report("second order", &records, 2);
     for (k, name) in names.iter().enumerate() {
-        stdout += &format!("{name}: {}\n", of(1, k as u64 + 1));
+        stdout += &format!("{name}: {}\n", records.iter().filter(|r| r[1] == k as u64 + 1).count());
     }
-    stdout += &format!("not refused: {}\n", of(2, 0));
-    for refusal in [1, 2, 3, 5, 6] {
-        stdout += &format!("refused, {refusal}: {}\n", of(2, refusal));
-    }
-    stdout += &format!("differ: 0\nchecksum {}\n", checksum(&records));
-    Replay { records, stdout }
+    Replay::new(records, stdout, 4)
 }
 
 #[cfg(test)]
 mod tests {
     use super::*;
-    use crate::record::{pages, PAGE};
 
     #[test]
     fn every_call_and_refusal_is_recorded() {
@@ -357,7 +350,6 @@ mod tests {
         for case in 0..3 {
             assert!(records.iter().any(|r| r[1] == 5 && r[2] == 0 && r[3] == case), "drift {case}");
         }
-        assert!(pages(&records).len() <= 4 * PAGE, "the program reads four pages");
     }
 
     // sheet 11: 1,025 atoms, and every slice as it was

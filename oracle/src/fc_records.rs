@@ -1,6 +1,6 @@
 //! Recorded answers of the originals' symmetrizers and transposes of third and fourth order.
 use crate::call::ATOMS;
-use crate::record::{checksum, counted, Record, Replay};
+use crate::record::{counted, report, Record, Replay};
 use crate::rng::Rng;
 use crate::shift_records::{groups, zeros};
 use crate::shifts::{cyclic, product, s3, tables, Tables};
@@ -17,23 +17,13 @@ pub fn width(order: u32) -> usize {
     3usize.pow(order)
 }
 
-/// The longest set of a replay program.
+/// The longest set that is recorded.
 fn room(order: u32) -> usize {
     if order == 3 {
         32768
     } else {
         83000
     }
-}
-
-/// What a replay program has to write, by the answers of its records, their first words after the count.
-pub fn stdout(title: &str, records: &[Record], refusals: &[u64]) -> String {
-    let number = |answer: u64| records.iter().filter(|r| r[1] == answer).count();
-    let mut text = format!("{title}: {} compared, 0 differ\nended well: {}\n", records.len(), number(0));
-    for k in refusals {
-        text += &format!("refused, {k}: {}\n", number(*k));
-    }
-    text + &format!("checksum {}\n", checksum(records))
 }
 
 #[derive(Clone, Copy, PartialEq)]
@@ -92,6 +82,11 @@ impl Call {
         }
     }
 
+    /// The number of the call in a record: 0 to 2 of third order, 3 to 5 of fourth.
+    fn number(&self) -> u64 {
+        3 * (self.order as u64 - 3) + self.name as u64
+    }
+
     /// The original's call.
     fn run(&self, f: &mut [f64]) {
         let t = &self.tables;
@@ -121,7 +116,7 @@ impl Call {
             self.run(set);
             work.fill(0);
         }
-        let mut words = vec![refusal, sum(set), byte_sum(&work), self.name as u64, self.fresh as u64];
+        let mut words = vec![refusal, sum(set), byte_sum(&work), self.number(), self.fresh as u64];
         words.extend([self.t_type as u64, self.seed, self.kind]);
         words.extend([self.set, self.work, t.n_satom, t.n_patom, t.num_trans].map(|n| n as u64));
         words.extend(lists.map(|l| l.len() as u64));
@@ -322,21 +317,23 @@ fn lists(order: u32, r: &mut Rng) -> Vec<Call> {
     calls
 }
 
-/// The words of a record: see README.md.
-pub fn replay(order: u32) -> Replay {
+fn calls(order: u32) -> Vec<Call> {
     let mut r = Rng::new(30 + order as u64);
     let mut calls = full(order);
     calls.extend(good(order, &mut r));
     calls.extend(small_counts(order));
     calls.extend(refused(order, &mut r));
     calls.extend(lists(order, &mut r));
-    let mut memory = vec![0.0; room(order)];
-    let mut records = vec![];
     for (k, call) in calls.iter_mut().enumerate() {
         call.seed = 1000 * order as u64 + k as u64;
-        records.push(call.record(&mut memory));
     }
-    let title = if order == 3 { "third order" } else { "fourth order" };
-    let stdout = stdout(title, &records, &[1, 2, 3, 6]);
-    Replay { records, stdout }
+    calls
+}
+
+/// The words of a record: see README.md. The sets of both orders are lent from one memory.
+pub fn replay() -> Replay {
+    let mut memory = vec![0.0; room(4)];
+    let records: Vec<Record> = [3, 4].into_iter().flat_map(calls).map(|call| call.record(&mut memory)).collect();
+    let stdout = report("third and fourth order", &records, 1);
+    Replay::new(records, stdout, 8)
 }

@@ -110,7 +110,7 @@ pub fn replay() -> Replay {
     let line = |name: &str, nan: usize| format!("{name}: {} compared, {nan} of them NaN, 0 differ\n", records.len());
     let stdout = [line("nint", 0), line("round", numberless(2)), line("sqrt", numberless(3))].concat()
         + &format!("checksum {}\n", checksum(&records));
-    Replay { records, stdout }
+    Replay::new(records, stdout, 1)
 }
 
 #[cfg(test)]

@@ -41,6 +41,7 @@ mod shift_records;
 mod shifts;
 mod slab_records;
 mod spoil;
+mod stack;
 mod tally;
 mod values;
 mod wild;
@@ -48,7 +49,7 @@ mod wild;
 #[global_allocator]
 static HEAP: memory::Counting = memory::Counting;
 
-const USAGE: &str = "oracle record common|shifts|matching|second|third|fourth|distribute|deltas FOLDER
+const USAGE: &str = "oracle record common|shifts|matching|second|symmetry|distribute|deltas FOLDER
 oracle flip PROGRAM FOLDER COUNT
 oracle compare all|limits|CALL [SEED [COUNT]]
 oracle bench all|common|cells|fc2|fc3|fc4|tables [SECONDS]";
@@ -63,8 +64,7 @@ fn record(name: &str, folder: &Path) -> Outcome {
         "shifts" => shift_records::replay(),
         "matching" => matching::replay(),
         "second" => fc2_records::replay(),
-        "third" => fc_records::replay(3),
-        "fourth" => fc_records::replay(4),
+        "symmetry" => fc_records::replay(),
         "distribute" => slab_records::distribute(),
         "deltas" => slab_records::deltas(),
         _ => return None,
@@ -103,7 +103,8 @@ fn bench(name: &str, patience: f64) -> Outcome {
     }
     if known {
         let cores = std::thread::available_parallelism().map_or(0, |n| n.get());
-        println!("{cores} cores; peak memory of the whole run: {} MB", memory::peak().map_or("?".into(), |m| m.to_string()));
+        let idle = stack::deepest(&mut || ()) as f64 / 1024.0;
+        println!("{cores} cores; a thread that does nothing uses {idle:.1} kB of stack; peak memory of the whole run: {} MB", memory::peak().map_or("?".into(), |m| m.to_string()));
     }
     known.then_some(true)
 }

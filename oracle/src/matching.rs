@@ -1,6 +1,6 @@
 //! Recorded answers of the original's compute_permutation.
 use crate::cells::compute_permutation;
-use crate::record::{checksum, counted, float_word, Record, Replay};
+use crate::record::{counted, float_word, report, Record, Replay};
 use crate::rng::Rng;
 
 /// What the slots hold before each call.
@@ -220,17 +220,9 @@ pub fn replay() -> Replay {
     calls.extend(matched());
     calls.extend(refused());
     let records: Vec<Record> = calls.iter().map(Call::record).collect();
-    let answers = |refusal: u64, matched: u64| records.iter().filter(|r| r[1] == refusal && r[2] == matched).count();
-    let stdout = format!(
-        "matching: {} compared, 0 differ\ntrue: {}\nfalse: {}\nrefused, 1: {}\nrefused, 2: {}\nchecksum {}\n",
-        records.len(),
-        answers(0, 1),
-        answers(0, 0),
-        answers(1, 0),
-        answers(2, 0),
-        checksum(&records)
-    );
-    Replay { records, stdout }
+    let answers = |matched: u64| records.iter().filter(|r| r[1] == 0 && r[2] == matched).count();
+    let stdout = report("matching", &records, 1) + &format!("true: {}\nfalse: {}\n", answers(1), answers(0));
+    Replay::new(records, stdout, 4)
 }
 
 #[cfg(test)]

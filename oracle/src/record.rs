@@ -16,6 +16,24 @@ pub struct Replay {
     pub stdout: String,
 }
 
+impl Replay {
+    /// For a program that reads at most so many pages.
+    pub fn new(records: Vec<Record>, stdout: String, most: usize) -> Replay {
+        assert!(pages(&records).len() <= most * PAGE, "more than the program reads");
+        Replay { records, stdout }
+    }
+}
+
+/// What the programs write in common, by the answers of their records, whose word number is `answer`.
+pub fn report(title: &str, records: &[Record], answer: usize) -> String {
+    let number = |k: u64| records.iter().filter(|r| r[answer] == k).count();
+    let mut text = format!("{title}: {} compared, 0 differ\nended well: {}\n", records.len(), number(0));
+    for k in 1..=6 {
+        text += &format!("refused, {k}: {}\n", number(k));
+    }
+    text + &format!("checksum {}\n", checksum(records))
+}
+
 /// The checksum over all words of the records, in order. A replay program takes the answers that it
 /// worked out for those that were recorded. The modulus is a prime: one wrong bit changes the sum.
 pub fn checksum(records: &[Record]) -> u64 {

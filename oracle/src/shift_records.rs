@@ -1,5 +1,5 @@
 //! Recorded verdicts on shift tables: good ones, and ones damaged in every way that document 01 names.
-use crate::record::{checksum, counted, Record, Replay};
+use crate::record::{counted, report, Record, Replay};
 use crate::rng::Rng;
 use crate::shifts::{cyclic, loop5, product, q8, s3, tables, Group, Tables};
 
@@ -250,13 +250,8 @@ pub fn replay() -> Replay {
     calls.extend(out_of_range(&mut r));
     calls.extend(broken_rules(&mut r));
     let records: Vec<Record> = calls.iter().map(Call::record).collect();
-    let verdicts: Vec<u64> = records.iter().map(|r| r[1]).collect();
-    let mut stdout = format!("shift tables: {} compared, 0 differ\n", records.len());
-    for verdict in [0, 1, 2, 3, 6] {
-        stdout += &format!("verdict {verdict}: {}\n", verdicts.iter().filter(|v| **v == verdict).count());
-    }
-    stdout += &format!("checksum {}\n", checksum(&records));
-    Replay { records, stdout }
+    let stdout = report("shift tables", &records, 1);
+    Replay::new(records, stdout, 4)
 }
 
 #[cfg(test)]

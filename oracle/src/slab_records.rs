@@ -1,7 +1,7 @@
 //! Recorded answers of the originals' distribute and rotate_delta calls of third and fourth order.
 use crate::call::LIST;
-use crate::fc_records::{limit, shorten, stdout, width};
-use crate::record::{counted, Record, Replay};
+use crate::fc_records::{limit, shorten, width};
+use crate::record::{counted, report, Record, Replay};
 use crate::rng::Rng;
 use crate::values::{floats, sum, KINDS};
 use crate::{fc3, fc4};
@@ -166,8 +166,8 @@ pub fn distribute() -> Replay {
             records.push(call.record());
         }
     }
-    let stdout = stdout("distributed", &records, &[1, 2, 3, 4]);
-    Replay { records, stdout }
+    let stdout = report("distributed", &records, 1);
+    Replay::new(records, stdout, 4)
 }
 
 /// A call of rotate_delta_fc2s (order 3) or rotate_delta_fc3s (order 4).
@@ -324,6 +324,6 @@ pub fn deltas() -> Replay {
             records.push(call.record());
         }
     }
-    let stdout = stdout("rotated", &records, &[1, 2, 3]);
-    Replay { records, stdout }
+    let stdout = report("rotated", &records, 1);
+    Replay::new(records, stdout, 4)
 }

@@ -3,7 +3,7 @@ use mathlib.Core.Path.{_≡_, refl, sym, ap, _∙_, subst}
 use mathlib.Core.Bool.{Bool, true, false, not, _||_}
 use mathlib.Core.List.{List, [], _∷_}
 use Prim.Native.Nat.{ℕ, zero, suc, _+_, _*_, _/_, _%_, _^_, _<_, _≤_}
-use native.Mathlib.Nat.{le-trans, div-lt-iff-lt-mul, mod-lt, mod-eq-of-lt, mul-assoc, mul-one, one-mul, pow-zero, pow-suc, mul-le-mul, mul-le-mul-right}
+use native.Mathlib.Nat.{le-trans, div-lt-iff-lt-mul, mod-lt, mul-assoc, mul-one, one-mul, pow-zero, pow-suc, mul-le-mul, mul-le-mul-left, mul-le-mul-right}
 use native.Mathlib.Omega.{arith}
 use lib.IntN.{ℤ}
 use lib.ListN.{length, replicate}
@@ -56,9 +56,9 @@ ready limit m D lengthResult lengthWork h e =
     (R, record { result-length = l1; work-length = l6 })
 
 -- the result is so many rows
-pub rows-fit : {D : Deltas} {m lengthResult lengthWork : ℕ} → Lengths D m lengthResult lengthWork → (rows : ℕ) → rows * D .numAtom ≡ D .numAtom ^ m
-    → rows * (D .numAtom * (3 * 3 ^ m)) ≡ lengthResult
-rows-fit {D} {m} l rows e = rows-length D m rows e ∙ sym (l .result-length)
+pub rows-fit : {D : Deltas} {m lengthResult lengthWork : ℕ} → Lengths D m lengthResult lengthWork → (k rows : ℕ) → rows * k ≡ D .numAtom ^ m
+    → rows * (k * (3 * 3 ^ m)) ≡ lengthResult
+rows-fit {D} {m} l k rows e = rows-length D m k rows e ∙ sym (l .result-length)
 
 -- ---- powers
 
@@ -74,9 +74,8 @@ square a = ap (λ x. x * a) (one-power a) ∙ sym (pow-suc a 1)
 pub cube : (a : ℕ) → a * a * a ≡ a ^ 3
 cube a = ap (λ x. x * a) (square a) ∙ sym (pow-suc a 2)
 
-pub some-atoms : (a i : ℕ) → i < a * a → 0 < a
-some-atoms zero i h = omega arith
-some-atoms (suc a) i h = omega arith
+pub rows-of-cube : (a : ℕ) → a * (a * a) ≡ a ^ 3
+rows-of-cube a = sym (mul-assoc a a a) ∙ cube a
 
 -- ---- one pair of a displacement and a site symmetry
 
@@ -203,7 +202,7 @@ turn {D} {m} R n h =
       };
     }
 
--- the sources of a row's blocks are there
+-- the sources of a row's blocks are there: they are blocks of two atoms, or of three, and first is the source of the row's first atom
 pub row-sources : (D : Deltas) (m n i first : ℕ) → Ready D (suc m) → n < total D → 0 < D .numAtom → first ≡ source D n m i
     → (first * D .numAtom + D .numAtom) * 3 ^ suc m ≤ length (D .deltas)
 row-sources D m n i first R h z e =
@@ -213,16 +212,29 @@ row-sources D m n i first R h z e =
     let c : first * a + a ≤ D .numDisp * a ^ suc m = subst (λ (x : ℕ). first * a + a ≤ x) (next-power (D .numDisp) a m) (omega arith) in
     subst (λ (x : ℕ). (first * a + a) * 3 ^ suc m ≤ x) (sym (R .deltas-length)) (mul-le-mul-right (3 ^ suc m) c)
 
--- the source of a row as the code works it out, for the blocks of two and of three atoms
-module _ (D : Deltas) (n : ℕ) where
-  abbrev imageOf : ℕ → ℕ
-  imageOf a = indexAt (D .rotMapSyms) (n % D .numSiteSym * D .numAtom + a)
+pub row-sources-of-three : (D : Deltas) (n i first : ℕ) → Ready D 3 → n < total D → 0 < D .numAtom → first ≡ source D n 1 i
+    → (first * D .numAtom + D .numAtom) * D .numAtom * 27 ≤ length (D .deltas)
+row-sources-of-three D n i first R h z e =
+    let a = D .numAtom in
+    let l : first < D .numDisp * a ^ 1 = rw e (source-below D n h 3 1 i R z) in
+    let b : suc first * a ≤ D .numDisp * a ^ 2 = subst (λ (x : ℕ). suc first * a ≤ x) (next-power (D .numDisp) a 1) (mul-le-mul-right a l) in
+    let c : suc first * a * a ≤ D .numDisp * a ^ 3 = subst (λ (x : ℕ). suc first * a * a ≤ x) (next-power (D .numDisp) a 2) (mul-le-mul-right a b) in
+    let f : suc first * a ≡ first * a + a = omega arith in
+    subst (λ (x : ℕ). x * a * 27 ≤ length (D .deltas)) f (subst (λ (x : ℕ). suc first * a * a * 27 ≤ x) (sym (R .deltas-length)) (mul-le-mul-right 27 c))
 
-  pub source-of-one : (i : ℕ) → i < D .numAtom → n / D .numSiteSym * D .numAtom + imageOf i ≡ source D n 1 i
-  unfolding source
-  source-of-one i h = ap (λ a. n / D .numSiteSym * D .numAtom + imageOf a) (sym (mod-eq-of-lt h))
+-- line i of such a row, and what it reads: first is the number of the source's first atom, times a, and image is the second atom
+module _ (a first size : ℕ) (l : (first + a) * a * 27 ≤ size) where
+  pub first-small : 0 < a → first + a ≤ size
+  first-small z = omega (arith, mul-le-mul-left (first + a) z)
 
-  pub source-of-two : (i : ℕ) → i / D .numAtom < D .numAtom
-      → (n / D .numSiteSym * D .numAtom + imageOf (i / D .numAtom)) * D .numAtom + imageOf (i % D .numAtom) ≡ source D n 2 i
-  unfolding source
-  source-of-two i h = ap (λ b. b * D .numAtom + imageOf (i % D .numAtom)) (source-of-one (i / D .numAtom) h)
+  pub line-sources : {image : ℕ} → image < a → ((first + image) * a + a) * 27 ≤ size
+  line-sources {image} h =
+      let s : suc (first + image) * a ≤ (first + a) * a = mul-le-mul-right a (omega arith) in
+      let t : (first + image) * a + a ≤ (first + a) * a = omega arith in
+      omega (arith, mul-le-mul-right 27 t)
+
+pub line-fits : (a i size : ℕ) → i < a → a * a * 81 ≡ size → (i * a + a) * 81 ≤ size
+line-fits a i size h e =
+    let s : suc i * a ≤ a * a = mul-le-mul-right a h in
+    let t : i * a + a ≤ a * a = omega arith in
+    omega (arith, mul-le-mul-right 81 t)

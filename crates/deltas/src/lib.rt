@@ -1,16 +1,16 @@
-// rotate_delta_fc2s (fc3.rs) and rotate_delta_fc3s (fc4.rs). The result is made row after row: a row is the blocks that differ in the last atom only.
+// rotate_delta_fc2s (fc3.rs) and rotate_delta_fc3s (fc4.rs). The result is made row after row: a row is the blocks that have the same first atom.
 // Each pair of a displacement and a site symmetry adds its share to all blocks of the row, with coefficients that are worked out once, so every number
 // is summed pair after pair as in the Rust. The work slice, which has the turned blocks of all pairs there, is only cleared here.
 use tables::Answer;
 ghost use mathlib.Core.Path.{_≡_};
-ghost use Prim.Native.Nat.{ℕ, _+_, _*_, _<_, _≤_};
+ghost use Prim.Native.Nat.{ℕ, _+_, _*_, _/_, _%_, _<_, _≤_};
 ghost use lib.ListN.{length};
 ghost use Rattle.blocks.specs.Block.{block};
 ghost use Rattle.tables.specs.Conditions.{anyWrong, indexAt};
 ghost use Rattle.tables.specs.Limits.{limit3, limit4};
 ghost use Rattle.rotations.specs.Rotation.{sums};
 ghost use Rattle.deltas.specs.RotateDelta.{rotatedDeltas, countsAbove, lengths, judged, rotateDeltaFc2s, rotateDeltaFc3s};
-ghost use Rattle.deltas.specs.Rows.{axpy, lead, leads, addShares, column as columnOf, turnRow, rowOf};
+ghost use Rattle.deltas.specs.Rows.{axpy, lead, leads, addShares, addLine, column as columnOf, turnRow, rowOf};
 ghost use Rattle.deltas.specs.Guard.{Ready, Lengths, Images};
 
 // Column n of inv_u, which has three rows of total numbers.
@@ -103,8 +103,7 @@ fn leads9(row: &mut [f64], j: usize, deltas: &[f64], source: usize, c: &[f64; 81
     requires { ⌜ (j * 27 + 27 ≤ length (now row)) × (source * 9 + 9 ≤ length (now deltas)) ⌝ }
     ensures { λ _. ⌜ now (row .exit) ≡ leads 9 j u (sums 9 9 9 0 (now (c .entry)) (block 9 source (now (deltas .entry)))) (now (row .entry)) ⌝ }
 {
-    let t = blocks::read9(deltas, source);
-    let x = rotations::rotated9(c, t);
+    let x = rotations::rotated9(c, deltas, source);
     let g = j * 3;
     lead9(row, g, x, u[0]);
     lead9(row, g + 1, x, u[1]);
@@ -147,7 +146,7 @@ fn turn_row_fc2s(
 )
     requires { ⌜ Ready (record { deltas = now («delta_fc2s»); invU = now («inv_u»); siteSymCart = now («site_sym_cart»); rotMapSyms = now («rot_map_syms»); numAtom = «num_atom»; numSiteSym = «num_site_sym»; numDisp = «num_disp» }) 2 ⌝ }
     requires { ⌜ (i < «num_atom») × (n < «num_disp» * «num_site_sym») × («num_atom» * 27 ≡ length (now row)) ⌝ }
-    ensures { λ _. ⌜ now (row .exit) ≡ turnRow (record { deltas = now («delta_fc2s» .entry); invU = now («inv_u» .entry); siteSymCart = now («site_sym_cart» .entry); rotMapSyms = now («rot_map_syms» .entry); numAtom = «num_atom»; numSiteSym = «num_site_sym»; numDisp = «num_disp» }) 2 i n (now (row .entry)) ⌝ }
+    ensures { λ _. ⌜ now (row .exit) ≡ turnRow (record { deltas = now («delta_fc2s» .entry); invU = now («inv_u» .entry); siteSymCart = now («site_sym_cart» .entry); rotMapSyms = now («rot_map_syms» .entry); numAtom = «num_atom»; numSiteSym = «num_site_sym»; numDisp = «num_disp» }) 2 «num_atom» i n (now (row .entry)) ⌝ }
 {
     let s = n % num_site_sym;
     let at = s * num_atom;
@@ -181,7 +180,7 @@ fn rotate_row_fc2s(
 )
     requires { ⌜ Ready (record { deltas = now («delta_fc2s»); invU = now («inv_u»); siteSymCart = now («site_sym_cart»); rotMapSyms = now («rot_map_syms»); numAtom = «num_atom»; numSiteSym = «num_site_sym»; numDisp = «num_disp» }) 2 ⌝ }
     requires { ⌜ (i < «num_atom») × («num_atom» * 27 ≡ length (now row)) ⌝ }
-    ensures { λ _. ⌜ now (row .exit) ≡ rowOf (record { deltas = now («delta_fc2s» .entry); invU = now («inv_u» .entry); siteSymCart = now («site_sym_cart» .entry); rotMapSyms = now («rot_map_syms» .entry); numAtom = «num_atom»; numSiteSym = «num_site_sym»; numDisp = «num_disp» }) 2 i ⌝ }
+    ensures { λ _. ⌜ now (row .exit) ≡ rowOf (record { deltas = now («delta_fc2s» .entry); invU = now («inv_u» .entry); siteSymCart = now («site_sym_cart» .entry); rotMapSyms = now («rot_map_syms» .entry); numAtom = «num_atom»; numSiteSym = «num_site_sym»; numDisp = «num_disp» }) 2 «num_atom» i ⌝ }
 {
     lists::clear_floats(row);
     for n in 0..num_disp * num_site_sym {
@@ -341,15 +340,38 @@ fn leads27(row: &mut [f64], j: usize, deltas: &[f64], source: usize, c: &[f64; 7
     requires { ⌜ (j * 81 + 81 ≤ length (now row)) × (source * 27 + 27 ≤ length (now deltas)) ⌝ }
     ensures { λ _. ⌜ now (row .exit) ≡ leads 27 j u (sums 27 27 27 0 (now (c .entry)) (block 27 source (now (deltas .entry)))) (now (row .entry)) ⌝ }
 {
-    let t = blocks::read27(deltas, source);
-    let x = rotations::rotated27(c, t);
+    let x = rotations::rotated27(c, deltas, source);
     let g = j * 3;
     lead27(row, g, x, u[0]);
     lead27(row, g + 1, x, u[1]);
     lead27(row, g + 2, x, u[2]);
 }
 
-// The blocks of a row: block j has the image of atom j, which is entry at + j of the table, as its source's last atom; first is the source for image 0.
+// The blocks of a row that have the same second atom, from block base on: the last atom of the source of block base + j is the image of atom j, which is
+// entry at + j of the table; first is the source for image 0. No division is needed so to find the source of a block.
+fn add_line27(
+    row: &mut [f64],
+    deltas: &[f64],
+    rot_map_syms: &[i64],
+    c: &[f64; 729],
+    u: [f64; 3],
+    at: usize,
+    base: usize,
+    first: usize,
+    num_atom: usize,
+)
+    requires { ⌜ Images (now «rot_map_syms») at «num_atom» ⌝ }
+    requires { ⌜ ((base + «num_atom») * 81 ≤ length (now row)) × ((first + «num_atom») * 27 ≤ length (now deltas)) ⌝ }
+    ensures { λ _. ⌜ now (row .exit) ≡ addLine 27 base «num_atom» u (λ j. sums 27 27 27 0 (now (c .entry)) (block 27 (first + indexAt (now («rot_map_syms» .entry)) (at + j)) (now (deltas .entry)))) (now (row .entry)) ⌝ }
+{
+    for j in 0..num_atom {
+        let image = tables::index::entry(rot_map_syms, at + j);
+        leads27(row, base + j, deltas, first + image, c, u);
+    }
+}
+
+// The blocks of a row: block b has the images of atoms b / num_atom and b % num_atom as its source's second and third atom; first is the number of the
+// source's first atom, times num_atom.
 fn add_shares27(
     row: &mut [f64],
     deltas: &[f64],
@@ -361,12 +383,22 @@ fn add_shares27(
     num_atom: usize,
 )
     requires { ⌜ Images (now «rot_map_syms») at «num_atom» ⌝ }
-    requires { ⌜ («num_atom» * 81 ≡ length (now row)) × ((first + «num_atom») * 27 ≤ length (now deltas)) ⌝ }
-    ensures { λ _. ⌜ now (row .exit) ≡ addShares 27 «num_atom» u (λ j. sums 27 27 27 0 (now (c .entry)) (block 27 (first + indexAt (now («rot_map_syms» .entry)) (at + j)) (now (deltas .entry)))) (now (row .entry)) ⌝ }
+    requires { ⌜ («num_atom» * «num_atom» * 81 ≡ length (now row)) × ((first + «num_atom») * «num_atom» * 27 ≤ length (now deltas)) ⌝ }
+    ensures { λ _. ⌜ now (row .exit) ≡ addShares 27 («num_atom» * «num_atom») u (λ b. sums 27 27 27 0 (now (c .entry)) (block 27 ((first + indexAt (now («rot_map_syms» .entry)) (at + b / «num_atom»)) * «num_atom» + indexAt (now («rot_map_syms» .entry)) (at + b % «num_atom»)) (now (deltas .entry)))) (now (row .entry)) ⌝ }
 {
-    for j in 0..num_atom {
-        let image = tables::index::entry(rot_map_syms, at + j);
-        leads27(row, j, deltas, first + image, c, u);
+    for i in 0..num_atom {
+        let image = tables::index::entry(rot_map_syms, at + i);
+        add_line27(
+            row,
+            deltas,
+            rot_map_syms,
+            c,
+            u,
+            at,
+            i * num_atom,
+            (first + image) * num_atom,
+            num_atom,
+        );
     }
 }
 
@@ -384,17 +416,15 @@ fn turn_row_fc3s(
     num_disp: usize,
 )
     requires { ⌜ Ready (record { deltas = now («delta_fc3s»); invU = now («inv_u»); siteSymCart = now («site_sym_cart»); rotMapSyms = now («rot_map_syms»); numAtom = «num_atom»; numSiteSym = «num_site_sym»; numDisp = «num_disp» }) 3 ⌝ }
-    requires { ⌜ (i < «num_atom» * «num_atom») × (n < «num_disp» * «num_site_sym») × («num_atom» * 81 ≡ length (now row)) ⌝ }
-    ensures { λ _. ⌜ now (row .exit) ≡ turnRow (record { deltas = now («delta_fc3s» .entry); invU = now («inv_u» .entry); siteSymCart = now («site_sym_cart» .entry); rotMapSyms = now («rot_map_syms» .entry); numAtom = «num_atom»; numSiteSym = «num_site_sym»; numDisp = «num_disp» }) 3 i n (now (row .entry)) ⌝ }
+    requires { ⌜ (i < «num_atom») × (n < «num_disp» * «num_site_sym») × («num_atom» * «num_atom» * 81 ≡ length (now row)) ⌝ }
+    ensures { λ _. ⌜ now (row .exit) ≡ turnRow (record { deltas = now («delta_fc3s» .entry); invU = now («inv_u» .entry); siteSymCart = now («site_sym_cart» .entry); rotMapSyms = now («rot_map_syms» .entry); numAtom = «num_atom»; numSiteSym = «num_site_sym»; numDisp = «num_disp» }) 3 («num_atom» * «num_atom») i n (now (row .entry)) ⌝ }
 {
     let s = n % num_site_sym;
     let at = s * num_atom;
     let r = blocks::read9(site_sym_cart, s);
     let c = rotations::coefficients3(r);
     let u = column(inv_u, n, num_disp * num_site_sym);
-    let image = tables::index::entry(rot_map_syms, at + i / num_atom);
-    let before = n / num_site_sym * num_atom + image;
-    let first = before * num_atom + tables::index::entry(rot_map_syms, at + i % num_atom);
+    let first = n / num_site_sym * num_atom + tables::index::entry(rot_map_syms, at + i);
     add_shares27(
         row,
         delta_fc3s,
@@ -420,8 +450,8 @@ fn rotate_row_fc3s(
     num_disp: usize,
 )
     requires { ⌜ Ready (record { deltas = now («delta_fc3s»); invU = now («inv_u»); siteSymCart = now («site_sym_cart»); rotMapSyms = now («rot_map_syms»); numAtom = «num_atom»; numSiteSym = «num_site_sym»; numDisp = «num_disp» }) 3 ⌝ }
-    requires { ⌜ (i < «num_atom» * «num_atom») × («num_atom» * 81 ≡ length (now row)) ⌝ }
-    ensures { λ _. ⌜ now (row .exit) ≡ rowOf (record { deltas = now («delta_fc3s» .entry); invU = now («inv_u» .entry); siteSymCart = now («site_sym_cart» .entry); rotMapSyms = now («rot_map_syms» .entry); numAtom = «num_atom»; numSiteSym = «num_site_sym»; numDisp = «num_disp» }) 3 i ⌝ }
+    requires { ⌜ (i < «num_atom») × («num_atom» * «num_atom» * 81 ≡ length (now row)) ⌝ }
+    ensures { λ _. ⌜ now (row .exit) ≡ rowOf (record { deltas = now («delta_fc3s» .entry); invU = now («inv_u» .entry); siteSymCart = now («site_sym_cart» .entry); rotMapSyms = now («rot_map_syms» .entry); numAtom = «num_atom»; numSiteSym = «num_site_sym»; numDisp = «num_disp» }) 3 («num_atom» * «num_atom») i ⌝ }
 {
     lists::clear_floats(row);
     for n in 0..num_disp * num_site_sym {
@@ -452,11 +482,11 @@ fn rotate_rows_fc3s(
     num_disp: usize,
 )
     requires { ⌜ Ready (record { deltas = now («delta_fc3s»); invU = now («inv_u»); siteSymCart = now («site_sym_cart»); rotMapSyms = now («rot_map_syms»); numAtom = «num_atom»; numSiteSym = «num_site_sym»; numDisp = «num_disp» }) 3 ⌝ }
-    requires { ⌜ «num_atom» * «num_atom» * («num_atom» * 81) ≡ length (now fc4) ⌝ }
+    requires { ⌜ «num_atom» * («num_atom» * «num_atom» * 81) ≡ length (now fc4) ⌝ }
     ensures { λ _. ⌜ now (fc4 .exit) ≡ rotatedDeltas (record { deltas = now («delta_fc3s» .entry); invU = now («inv_u» .entry); siteSymCart = now («site_sym_cart» .entry); rotMapSyms = now («rot_map_syms» .entry); numAtom = «num_atom»; numSiteSym = «num_site_sym»; numDisp = «num_disp» }) 3 ⌝ }
 {
-    let size = num_atom * 81;
-    for i in 0..num_atom * num_atom {
+    let size = num_atom * num_atom * 81;
+    for i in 0..num_atom {
         let at = i * size;
         rotate_row_fc3s(
             &mut fc4[at..at + size],

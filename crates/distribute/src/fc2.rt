@@ -14,8 +14,7 @@ fn add_block(fc2: &mut [f64], c: &[f64; 81], target: usize, source: usize)
     requires { ⌜ (target * 9 + 9 ≤ length (now fc2)) × (source * 9 + 9 ≤ length (now fc2)) ⌝ }
     ensures { λ _. ⌜ now (fc2 .exit) ≡ addBlock (sums 9 9 9 0 (now (c .entry))) target source (now (fc2 .entry)) ⌝ }
 {
-    let t = blocks::read9(fc2, source);
-    let a = rotations::rotated9(c, t);
+    let a = rotations::rotated9(c, fc2, source);
     let old = blocks::read9(fc2, target);
     blocks::write9(fc2, target, added(old, a));
 }

@@ -15,8 +15,8 @@ fn fill_block(fc3: &mut [f64], c: &[f64; 729], target: usize, source: usize)
     requires { ⌜ (target * 27 + 27 ≤ length (now fc3)) × (source * 27 + 27 ≤ length (now fc3)) ⌝ }
     ensures { λ _. ⌜ now (fc3 .exit) ≡ moveBlock 27 (sums 27 27 27 0 (now (c .entry))) target source (now (fc3 .entry)) ⌝ }
 {
-    let t = blocks::read27(fc3, source);
-    blocks::write27(fc3, target, rotations::rotated27(c, t));
+    let r = rotations::rotated27(c, fc3, source);
+    blocks::write27(fc3, target, r);
 }
 
 // The blocks of one atom more: target and source number the slab and the atoms before.

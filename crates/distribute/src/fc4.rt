@@ -15,8 +15,8 @@ fn fill_block(fc4: &mut [f64], c: &[f64; 6561], target: usize, source: usize)
     requires { ⌜ (target * 81 + 81 ≤ length (now fc4)) × (source * 81 + 81 ≤ length (now fc4)) ⌝ }
     ensures { λ _. ⌜ now (fc4 .exit) ≡ moveBlock 81 (sums 81 81 81 0 (now (c .entry))) target source (now (fc4 .entry)) ⌝ }
 {
-    let t = blocks::read81(fc4, source);
-    blocks::write81(fc4, target, rotations::rotated81(c, t));
+    let r = rotations::rotated81(c, fc4, source);
+    blocks::write81(fc4, target, r);
 }
 
 // The blocks of one atom more: target and source number the slab and the atoms before.

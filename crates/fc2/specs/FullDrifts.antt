@@ -15,7 +15,7 @@ use Rattle.lines.specs.Drifts.{Lines, lines-make, sumRow, rows-make}
 use Rattle.fc2.specs.Full.{fill, entry, columnSum, rowSum, columnDrift, rowDrift}
 use Rattle.fc2.specs.FullLoops.{columns}
 
-by-columns : (n : ℕ) → Lines n n n (λ j. j) (λ b. b % n) (λ b. b / n)
+pub by-columns : (n : ℕ) → Lines n n n (λ j. j) (λ b. b % n) (λ b. b / n)
 by-columns n =
     record {
       step = λ h. h;

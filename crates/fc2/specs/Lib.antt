@@ -2,6 +2,7 @@ pub mod Full
 pub mod FullLoops
 pub mod FullLaws
 pub mod FullDrifts
+pub mod Columns
 pub mod FullPairs
 pub mod FullWork
 pub mod FullSheets

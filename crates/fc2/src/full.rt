@@ -1,4 +1,5 @@
 // The full symmetrizer of second order (fc2.rs, perm_trans_symmetrize_fc).
+use crate::columns::column_drift;
 use lines::nine::balance;
 use tables::Answer;
 ghost use mathlib.Core.Path.{_≡_};
@@ -16,16 +17,6 @@ fn evened(b: [f64; 9]) -> [f64; 9]
     let y = (b[2] + b[6]) / 2.0;
     let z = (b[5] + b[7]) / 2.0;
     [b[0], x, y, x, b[4], z, y, z, b[8]]
-}
-
-// Takes its drift from each column.
-fn column_drift(fc: &mut [f64], n: usize, inv_n: f64)
-    requires { ⌜ Sized n n (length (now fc)) ⌝ }
-    ensures { λ _. ⌜ now (fc .exit) ≡ loops.columns n «inv_n» (now (fc .entry)) ⌝ }
-{
-    for j in 0..n {
-        lines::line_drift(fc, j, n, n, inv_n);
-    }
 }
 
 // Atom i with the atoms before it.

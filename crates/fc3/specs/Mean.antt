@@ -32,6 +32,13 @@ mean6 (x ∷ xs) = div binary64 (sumFrom x xs) (ofBits binary64 0x4018_0000_0000
 unfoldable pub means : List Float → List Float → List Float → List Float → List Float → List Float → List Float
 means a b c d e f = tab 27 (λ k. mean6 (getD a k nan ∷ getD b k nan ∷ getD c k nan ∷ getD d k nan ∷ getD e k nan ∷ getD f k nan ∷ []))
 
+-- the sums of two blocks, and a sixth of a block, position by position
+unfoldable pub plus : List Float → List Float → List Float
+plus v w = tab 27 (λ k. add binary64 (getD v k nan) (getD w k nan))
+
+unfoldable pub sixths : List Float → List Float
+sixths v = tab 27 (λ k. div binary64 (getD v k nan) (ofBits binary64 0x4018_0000_0000_0000))
+
 -- a block turned by an order
 unfoldable pub turnedBlock : List ℕ → List Float → List Float
 turnedBlock σ v = tab 27 (λ k. getD v (turned 2 σ k) nan)
@@ -51,8 +58,25 @@ pub record Blocks6 (n b0 b1 b2 b3 b4 b5 : ℕ) : Type 0 where
 
 -- ---- the means of a group
 
-pub means-same : {a b c d e f a′ b′ c′ d′ e′ f′ : List Float} → a ≡ a′ → b ≡ b′ → c ≡ c′ → d ≡ d′ → e ≡ e′ → f ≡ f′ → means a b c d e f ≡ means a′ b′ c′ d′ e′ f′
-means-same p q r s t u = cc
+at-plus : (v w : List Float) (k : ℕ) → k < 27 → getD (plus v w) k nan ≡ add binary64 (getD v k nan) (getD w k nan)
+unfolding plus
+at-plus v w k h = getD-tab 27 (λ k. add binary64 (getD v k nan) (getD w k nan)) k nan h
+
+-- blocks added one after the other, and a sixth of the sums
+pub sums-are : (a b c d e f : List Float) → sixths (plus (plus (plus (plus (plus a b) c) d) e) f) ≡ means a b c d e f
+unfolding sixths means
+sums-are a b c d e f = tab-ext nan 27 _ _ (λ k h.
+    ap (λ x. div binary64 x (ofBits binary64 0x4018_0000_0000_0000))
+    (at-plus (plus (plus (plus (plus a b) c) d) e) f k h
+    ∙ ap (λ x. add binary64 x (getD f k nan)) (at-plus (plus (plus (plus a b) c) d) e k h
+    ∙ ap (λ x. add binary64 x (getD e k nan)) (at-plus (plus (plus a b) c) d k h
+    ∙ ap (λ x. add binary64 x (getD d k nan)) (at-plus (plus a b) c k h
+    ∙ ap (λ x. add binary64 x (getD c k nan)) (at-plus a b k h))))))
+
+-- six sums in the program's order
+pub six-sums : {s0 s1 s2 s3 s4 s5 t1 t2 t3 t4 t5 r a b c d e f : List Float} → r ≡ sixths s5 → s5 ≡ plus s4 t5 → s4 ≡ plus s3 t4 → s3 ≡ plus s2 t3 → s2 ≡ plus s1 t2 → s1 ≡ plus s0 t1
+    → s0 ≡ a → t1 ≡ b → t2 ≡ c → t3 ≡ d → t4 ≡ e → t5 ≡ f → r ≡ means a b c d e f
+six-sums {a = a} {b = b} {c = c} {d = d} {e = e} {f = f} p5 p4 p3 p2 p1 p0 q0 q1 q2 q3 q4 q5 = cc (sums-are a b c d e f)
 
 -- what the literal of `orbits::turn` is: the block turned
 pub lnm-turned : {r v w : List Float} → r ≡ gathered v lnm → v ≡ w → r ≡ turnedBlock (0 ∷ 2 ∷ 1 ∷ []) w

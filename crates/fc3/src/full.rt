@@ -1,17 +1,27 @@
 // The symmetrizer of a full set. Its groups are those of atoms a <= b <= c: the block of the sorted atoms is the first of a group in loop order.
 // The groups of four first atoms are taken together, because their blocks lie side by side; no two groups share a number, so that their order makes no difference.
 ghost use mathlib.Core.Path.{_≡_};
+ghost use mathlib.Core.Bool.{true};
 ghost use Prim.Native.Nat.{_+_, _<_, _≤_, min};
 ghost use lib.ListN.{length};
 ghost use Rattle.fc3.specs.Symmetrize.{judgedFull3, setPermutationSymmetryFc3};
 ghost use Rattle.fc3.specs.FullLoops.{FullReady, Sorted, groupAt, bunchOf, rowOf, tileOf, slabsOf};
-use crate::spread::work_apart;
-use crate::spread::work_group;
+use crate::spread::work_known;
 use places::full3;
 use tables::Answer;
 use tables::atoms::SuperAtom;
 use tables::is_refusal;
 use tables::limits::LIMIT3;
+
+// Whether three atoms rise: then no two of them are the same.
+fn rising(a: SuperAtom, b: SuperAtom, c: SuperAtom) -> bool
+    ensures { λ r. ⌜ (r ≡ true → (a .0 < b .0) × (b .0 < c .0)) ⌝ }
+{
+    if a.0 < b.0 {
+        return b.0 < c.0;
+    }
+    false
+}
 
 // The group of atoms a <= b <= c: all six orders of them. Three different atoms have six different blocks.
 fn full_group(fc3: &mut [f64], num_atom: usize, a: SuperAtom, b: SuperAtom, c: SuperAtom)
@@ -24,13 +34,8 @@ fn full_group(fc3: &mut [f64], num_atom: usize, a: SuperAtom, b: SuperAtom, c: S
     let bca = full3(b, c, a, num_atom);
     let cab = full3(c, a, b, num_atom);
     let cba = full3(c, b, a, num_atom);
-    if a.0 < b.0 {
-        if b.0 < c.0 {
-            work_apart(fc3, abc, acb, bac, bca, cab, cba);
-            return;
-        }
-    }
-    work_group(fc3, abc, acb, bac, bca, cab, cba);
+    let differ = rising(a, b, c);
+    work_known(fc3, abc, acb, bac, bca, cab, cba, differ);
 }
 
 // The groups of b and c with the atoms from, .., to - 1. Their blocks (b, c, a) and (c, b, a) lie side by side.

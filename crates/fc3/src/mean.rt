@@ -5,30 +5,37 @@ ghost use Prim.Native.Nat.{_+_, _*_, _≤_};
 ghost use lib.ListN.{length};
 ghost use Rattle.places.specs.Orders.{six};
 ghost use Rattle.orbits.specs.Groups.{meanBlock};
-ghost use Rattle.fc3.specs.Mean.{mean6 as meanOf, means as meansOf, Blocks6};
+ghost use Rattle.fc3.specs.Mean.{mean6 as meanOf, plus as plusOf, sixths as sixthsOf, Blocks6};
 use orbits::turn;
 
-// Position by position the mean of six blocks, which are turned to the same directions.
-fn means(
-    a: [f64; 27],
-    b: [f64; 27],
-    c: [f64; 27],
-    d: [f64; 27],
-    e: [f64; 27],
-    f: [f64; 27],
-) -> [f64; 27]
-    ensures { λ r. ⌜ r ≡ meansOf a b c d e f ⌝ }
+// Position by position the sums of two blocks.
+fn plus(v: [f64; 27], w: [f64; 27]) -> [f64; 27]
+    ensures { λ r. ⌜ r ≡ plusOf v w ⌝ }
 {
     let mut r = [0.0f64; 27];
     let mut k = 0;
     while k < 27 {
-        r[k] = (a[k] + b[k] + c[k] + d[k] + e[k] + f[k]) / 6.0;
+        r[k] = v[k] + w[k];
         k += 1;
     }
     r
 }
 
-// The means of a group whose blocks are given in the order ijk, ikj, jik, jki, kij, kji.
+// Position by position a sixth of a block.
+fn sixths(v: [f64; 27]) -> [f64; 27]
+    ensures { λ r. ⌜ r ≡ sixthsOf v ⌝ }
+{
+    let mut r = [0.0f64; 27];
+    let mut k = 0;
+    while k < 27 {
+        r[k] = v[k] / 6.0;
+        k += 1;
+    }
+    r
+}
+
+// The means of a group whose blocks are given in the order ijk, ikj, jik, jki, kij, kji. One block after the other is turned to the
+// directions of the first and added, so that the 27 sums stay in registers.
 pub fn group_means(
     fc3: &[f64],
     b0: usize,
@@ -42,10 +49,10 @@ pub fn group_means(
     ensures { λ r. ⌜ r ≡ meanBlock meanOf 2 six (b0 ∷ b1 ∷ b2 ∷ b3 ∷ b4 ∷ b5 ∷ []) (now (fc3 .entry)) ⌝ }
 {
     let ijk = blocks::read27(fc3, b0);
-    let ikj = turn::turn_lnm(blocks::read27(fc3, b1));
-    let jik = turn::turn_mln(blocks::read27(fc3, b2));
-    let jki = turn::turn_mnl(blocks::read27(fc3, b3));
-    let kij = turn::turn_nlm(blocks::read27(fc3, b4));
-    let kji = turn::turn_nml(blocks::read27(fc3, b5));
-    means(ijk, ikj, jik, jki, kij, kji)
+    let ikj = plus(ijk, turn::turn_lnm(blocks::read27(fc3, b1)));
+    let jik = plus(ikj, turn::turn_mln(blocks::read27(fc3, b2)));
+    let jki = plus(jik, turn::turn_mnl(blocks::read27(fc3, b3)));
+    let kij = plus(jki, turn::turn_nlm(blocks::read27(fc3, b4)));
+    let kji = plus(kij, turn::turn_nml(blocks::read27(fc3, b5)));
+    sixths(kji)
 }

@@ -171,23 +171,34 @@ fn distinct(b0: usize, b1: usize, b2: usize, b3: usize, b4: usize, b5: usize) ->
 }
 
 // A group worked out and written: all six places of each mean are read, and the mean is written to all six.
+// Blocks that are known to differ are written whole.
+pub fn work_known(
+    fc3: &mut [f64],
+    b0: usize,
+    b1: usize,
+    b2: usize,
+    b3: usize,
+    b4: usize,
+    b5: usize,
+    differ: bool,
+)
+    requires { ⌜ Blocks6 (length (now fc3)) b0 b1 b2 b3 b4 b5 ⌝ }
+    requires { ⌜ (differ ≡ true → Distinct (b0 ∷ b1 ∷ b2 ∷ b3 ∷ b4 ∷ b5 ∷ [])) ⌝ }
+    ensures { λ _. ⌜ now (fc3 .exit) ≡ spreadBlock 2 six (b0 ∷ b1 ∷ b2 ∷ b3 ∷ b4 ∷ b5 ∷ []) (meanBlock mean6 2 six (b0 ∷ b1 ∷ b2 ∷ b3 ∷ b4 ∷ b5 ∷ []) (now (fc3 .entry))) (now (fc3 .entry)) ⌝ }
+{
+    let mean = group_means(fc3, b0, b1, b2, b3, b4, b5);
+    if differ {
+        put_blocks(fc3, b0, b1, b2, b3, b4, b5, mean);
+    } else {
+        put_positions(fc3, b0, b1, b2, b3, b4, b5, mean);
+    }
+}
+
+// The same where it is yet to be seen whether the blocks differ.
 pub fn work_group(fc3: &mut [f64], b0: usize, b1: usize, b2: usize, b3: usize, b4: usize, b5: usize)
     requires { ⌜ Blocks6 (length (now fc3)) b0 b1 b2 b3 b4 b5 ⌝ }
     ensures { λ _. ⌜ now (fc3 .exit) ≡ spreadBlock 2 six (b0 ∷ b1 ∷ b2 ∷ b3 ∷ b4 ∷ b5 ∷ []) (meanBlock mean6 2 six (b0 ∷ b1 ∷ b2 ∷ b3 ∷ b4 ∷ b5 ∷ []) (now (fc3 .entry))) (now (fc3 .entry)) ⌝ }
 {
-    let v = group_means(fc3, b0, b1, b2, b3, b4, b5);
-    if distinct(b0, b1, b2, b3, b4, b5) {
-        put_blocks(fc3, b0, b1, b2, b3, b4, b5, v);
-    } else {
-        put_positions(fc3, b0, b1, b2, b3, b4, b5, v);
-    }
-}
-
-// The same for six different blocks.
-pub fn work_apart(fc3: &mut [f64], b0: usize, b1: usize, b2: usize, b3: usize, b4: usize, b5: usize)
-    requires { ⌜ Blocks6 (length (now fc3)) b0 b1 b2 b3 b4 b5 × Distinct (b0 ∷ b1 ∷ b2 ∷ b3 ∷ b4 ∷ b5 ∷ []) ⌝ }
-    ensures { λ _. ⌜ now (fc3 .exit) ≡ spreadBlock 2 six (b0 ∷ b1 ∷ b2 ∷ b3 ∷ b4 ∷ b5 ∷ []) (meanBlock mean6 2 six (b0 ∷ b1 ∷ b2 ∷ b3 ∷ b4 ∷ b5 ∷ []) (now (fc3 .entry))) (now (fc3 .entry)) ⌝ }
-{
-    let mean = group_means(fc3, b0, b1, b2, b3, b4, b5);
-    put_blocks(fc3, b0, b1, b2, b3, b4, b5, mean);
+    let differ = distinct(b0, b1, b2, b3, b4, b5);
+    work_known(fc3, b0, b1, b2, b3, b4, b5, differ);
 }

@@ -8,7 +8,7 @@ use mathlib.Core.List.{List, [], _∷_}
 use lib.Dec.{eqb}
 use lib.ListN.{length, getD, replicate, length-replicate, getD-replicate}
 use lib.Ieee.{Float, nan}
-use borrow.Author.Tests.{eq-eqb, ne-eqb}
+use borrow.Author.Tests.{eq-eqb, ne-eqb, lt-ltb}
 use Rattle.lists.specs.Tab.{times}
 use Rattle.lists.specs.Digits.{room}
 use Rattle.tables.specs.Shifts.{Shifts, Laws}
@@ -139,6 +139,11 @@ small n h =
     let h3 : n * n * n ≤ 64 * 64 * 64 = mul-le-mul h2 h in
     let h4 : n * n * n * n ≤ 64 * 64 * 64 * 64 = mul-le-mul h3 h in
     (omega arith, omega arith, omega arith)
+
+-- the guard's first test
+pub judged-above : (lenSet lenWork n : ℕ) → limit4 < n → CountAboveLimit ≡ judgedFull4 lenSet lenWork n
+unfolding judgedFull4
+judged-above lenSet lenWork n h = simp (lt-ltb _ _ h)
 
 module _ (set : List Float) (work : List ℕ) (n : ℕ) (a : Answer) (e : a ≡ judgedFull4 (length set) (length work) n) where
   pub full-refused : isRefusal a ≡ true → _≡_ {A = Answer × List Float × List ℕ} (a, set, work) (setPermutationSymmetryFc4 set work n)

@@ -1,19 +1,22 @@
 -- The mean of 24 numbers (document 01: summed in the Rust's order and divided once), and the means of a group of blocks of fourth order.
 -- Assumes nothing.
 use mathlib.Core.Path.{_≡_, refl, sym, ap, ap₂, _∙_}
-use Prim.Native.Nat.{ℕ, zero, suc, _+_, _*_, _≤_, _<_}
-use native.Mathlib.Nat.{le-of-suc-le-suc, not-suc-le-zero, suc-inj, suc-ne-zero}
+use Prim.Native.Nat.{ℕ, zero, suc, _+_, _*_, _/_, _%_, _≤_, _<_}
+use native.Mathlib.Nat.{le-of-suc-le-suc, not-suc-le-zero, suc-inj, suc-ne-zero, div-add-mod', mod-lt}
 use native.Mathlib.Omega.{arith}
 use mathlib.Core.List.{List, [], _∷_, map}
-use lib.ListN.{length, getD, replicate, length-map, getD-replicate}
+use lib.Dec.{lit<}
+use lib.ListN.{length, getD, replicate, length-map, length-replicate, getD-replicate}
 use lib.Ieee.{Float, nan, binary64, add, div, ofBits}
-use Rattle.lists.specs.Tab.{tab, length-tab, getD-tab, tab-ext, times}
+use Rattle.lists.specs.Tab.{tab, length-tab, getD-tab, is-tab, times}
+use Rattle.lists.specs.Stages.{Stage, next, stages}
 use Rattle.lists.specs.Elements.{getD-map}
+use Rattle.blocks.specs.Block.{block, putBlock, getD-block, length-putBlock, put-inside, put-outside}
 use Rattle.places.specs.Orders.{twentyFour}
 use Rattle.orbits.specs.Blockwise.{inBlock}
-use Rattle.orbits.specs.Transposed.{turned}
+use Rattle.orbits.specs.Transposed.{turned, turned-is-below}
 use Rattle.orbits.specs.Groups.{spots, meanBlock}
-use Rattle.fc4.specs.Positions.{orderAt, in81}
+use Rattle.fc4.specs.Positions.{orderAt, in81, is-order}
 
 -- a sum from the left, from a start
 abbrev pub sumFrom : Float → List Float → Float
@@ -29,20 +32,25 @@ pub record Blocks24 (n : ℕ) (bs : List ℕ) : Type 0 where
   pub count : length bs ≡ 24
   pub inside : (s : ℕ) → s < 24 → getD bs s 0 * 81 + 81 ≤ n
 
--- what the loops make: running sums with the numbers of block b added, in the order s; and sums divided
-unfoldable pub addedBlock : List Float → ℕ → ℕ → List Float → List Float
-addedBlock xs s b sums = tab 81 (λ k. add binary64 (getD sums k nan) (getD xs (b * 81 + turned 3 (orderAt s) k) nan))
+-- what the loops make: the running sums of positions 9 h to 9 h + 8 with the numbers of a block added, in the order s; and sums divided
+unfoldable pub addedNine : ℕ → ℕ → List Float → List Float → List Float
+addedNine s h ys sums = tab 9 (λ k. add binary64 (getD sums k nan) (getD ys (turned 3 (orderAt s) (h * 9 + k)) nan))
 
-unfoldable pub groupSums : List Float → List ℕ → List Float
-unfolding addedBlock
-groupSums xs bs = times 24 (λ s. addedBlock xs s (getD bs s 0)) (replicate 81 (ofBits binary64 0))
+unfoldable pub nineSums : List Float → List ℕ → ℕ → List Float
+unfolding addedNine
+nineSums xs bs h = times 24 (λ s. addedNine s h (block 81 (getD bs s 0) xs)) (replicate 9 (ofBits binary64 0))
 
 unfoldable pub divided : List Float → List Float
-divided sums = tab 81 (λ k. div binary64 (getD sums k nan) (ofBits binary64 0x4038_0000_0000_0000))
+divided sums = tab 9 (λ k. div binary64 (getD sums k nan) (ofBits binary64 0x4038_0000_0000_0000))
 
-pub length-added : (xs : List Float) (s b : ℕ) (sums : List Float) → length (addedBlock xs s b sums) ≡ 81
-unfolding addedBlock
-length-added xs s b sums = length-tab 81 _
+-- nine means after the other
+unfoldable pub meansTo : List Float → List ℕ → ℕ → List Float
+unfolding divided nineSums
+meansTo xs bs n = times n (λ h. putBlock 9 h (divided (nineSums xs bs h))) (replicate 81 (ofBits binary64 0))
+
+pub length-added : (s h : ℕ) (ys sums : List Float) → length (addedNine s h ys sums) ≡ 9
+unfolding addedNine
+length-added s h ys sums = length-tab 9 _
 
 -- ---- a list taken from the front, as a loop
 
@@ -85,29 +93,59 @@ module _ (bs : List ℕ) (e : length bs ≡ 24) (k : ℕ) where
 
 -- ---- the means of a group
 
+turned-in : (s k : ℕ) → s < 24 → k < 81 → turned 3 (orderAt s) k < 81
+turned-in s k hs hk = rw in81 at (turned-is-below 3 (orderAt s) k (is-order s hs) (rw in81 hk))
+
 module _ (xs : List Float) (bs : List ℕ) (e : length bs ≡ 24) where
-  -- each of the 81 running sums by itself
-  sums-to : (n k : ℕ) → n ≤ 24 → k < 81
-      → getD (times n (λ s. addedBlock xs s (getD bs s 0)) (replicate 81 (ofBits binary64 0))) k nan
-      ≡ times n (λ s a. add binary64 a (getD (map (λ r. getD xs r nan) (spots 3 twentyFour bs k)) s nan)) (ofBits binary64 0)
-  unfolding times addedBlock
-  sums-to zero k h hk = getD-replicate 81 k (ofBits binary64 0) nan hk
-  sums-to (suc n) k h hk =
-      let l = times n (λ s. addedBlock xs s (getD bs s 0)) (replicate 81 (ofBits binary64 0)) in
-      getD-tab 81 (λ k. add binary64 (getD l k nan) (getD xs (getD bs n 0 * 81 + turned 3 (orderAt n) k) nan)) k nan hk
-      ∙ ap₂ (add binary64) (sums-to n k (omega arith) hk)
-      (ap (λ r. getD xs r nan) (sym (spot-is bs e k n h))
-      ∙ sym (getD-map (λ r. getD xs r nan) (spots 3 twentyFour bs k) n 0 nan (rw (spots-count bs e k) h)))
+  -- each of the running sums by itself
+  sums-to : (h n k : ℕ) → h < 9 → n ≤ 24 → k < 9
+      → getD (times n (λ s. addedNine s h (block 81 (getD bs s 0) xs)) (replicate 9 (ofBits binary64 0))) k nan
+      ≡ times n (λ s a. add binary64 a (getD (map (λ r. getD xs r nan) (spots 3 twentyFour bs (h * 9 + k))) s nan)) (ofBits binary64 0)
+  unfolding times addedNine
+  sums-to h zero k hh hn hk = getD-replicate 9 k (ofBits binary64 0) nan hk
+  sums-to h (suc n) k hh hn hk =
+      let l = times n (λ s. addedNine s h (block 81 (getD bs s 0) xs)) (replicate 9 (ofBits binary64 0)) in
+      let q = h * 9 + k in
+      getD-tab 9 (λ k. add binary64 (getD l k nan) (getD (block 81 (getD bs n 0) xs) (turned 3 (orderAt n) (h * 9 + k)) nan)) k nan hk
+      ∙ ap₂ (add binary64) (sums-to h n k hh (omega arith) hk)
+      (getD-block 81 (getD bs n 0) xs (turned 3 (orderAt n) q) (turned-in n q hn (omega arith))
+      ∙ ap (λ r. getD xs r nan) (sym (spot-is bs e q n hn))
+      ∙ sym (getD-map (λ r. getD xs r nan) (spots 3 twentyFour bs q) n 0 nan (rw (spots-count bs e q) hn)))
 
-  sum-is : (k : ℕ) → k < 81 → getD (groupSums xs bs) k nan ≡ sumFrom (ofBits binary64 0) (map (λ r. getD xs r nan) (spots 3 twentyFour bs k))
-  unfolding groupSums
-  sum-is k h =
-      let l = map (λ r. getD xs r nan) (spots 3 twentyFour bs k) in
-      let n : length l ≡ 24 = length-map (spots 3 twentyFour bs k) _ ∙ spots-count bs e k in
-      sums-to 24 k (omega arith) h ∙ sym (sum-times (ofBits binary64 0) l ∙ ap (λ n. times n (λ s a. add binary64 a (getD l s nan)) (ofBits binary64 0)) n)
+  sum-is : (h k : ℕ) → h < 9 → k < 9 → getD (nineSums xs bs h) k nan ≡ sumFrom (ofBits binary64 0) (map (λ r. getD xs r nan) (spots 3 twentyFour bs (h * 9 + k)))
+  unfolding nineSums
+  sum-is h k hh hk =
+      let l = map (λ r. getD xs r nan) (spots 3 twentyFour bs (h * 9 + k)) in
+      let n : length l ≡ 24 = length-map (spots 3 twentyFour bs (h * 9 + k)) _ ∙ spots-count bs e (h * 9 + k) in
+      sums-to h 24 k hh (omega arith) hk ∙ sym (sum-times (ofBits binary64 0) l ∙ ap (λ n. times n (λ s a. add binary64 a (getD l s nan)) (ofBits binary64 0)) n)
 
-  pub means-are : divided (groupSums xs bs) ≡ meanBlock mean24 3 twentyFour bs xs
-  unfolding divided meanBlock
+  mean-is : (h k : ℕ) → h < 9 → k < 9 → getD (divided (nineSums xs bs h)) k nan ≡ mean24 (map (λ r. getD xs r nan) (spots 3 twentyFour bs (h * 9 + k)))
+  unfolding divided
+  mean-is h k hh hk =
+      getD-tab 9 (λ k. div binary64 (getD (nineSums xs bs h) k nan) (ofBits binary64 0x4038_0000_0000_0000)) k nan hk
+      ∙ ap (λ x. div binary64 x (ofBits binary64 0x4038_0000_0000_0000)) (sum-is h k hh hk)
+
+  -- nine after nine
+  abbrev meanAt : ℕ → Float
+  meanAt q = mean24 (map (λ r. getD xs r nan) (spots 3 twentyFour bs q))
+
+  abbrev old : List Float
+  old = replicate 81 (ofBits binary64 0)
+
+  turn : (h : ℕ) → h < 9 → (ys : List Float) → Stage nan old (λ q. q / 9) meanAt h ys → Stage nan old (λ q. q / 9) meanAt (suc h) (putBlock 9 h (divided (nineSums xs bs h)) ys)
+  turn h hh ys S =
+      let w = divided (nineSums xs bs h) in
+      next nan old (λ q. q / 9) meanAt h ys (putBlock 9 h w ys) S (length-putBlock 9 h w ys)
+      (λ q hq k.
+      let p : h * 9 + q % 9 ≡ q = ap (λ n. n * 9 + q % 9) (sym k) ∙ div-add-mod' q 9 in
+      put-inside 9 h w ys q (rw (S .long) hq) k ∙ mean-is h (q % 9) hh (mod-lt q (lit< tt)) ∙ ap meanAt p)
+      (λ q hq k. put-outside 9 h w ys q (rw (S .long) hq) k)
+
+  pub means-are : meansTo xs bs 9 ≡ meanBlock mean24 3 twentyFour bs xs
+  unfolding meansTo meanBlock
   means-are =
-      ap (λ n. tab n (λ k. div binary64 (getD (groupSums xs bs) k nan) (ofBits binary64 0x4038_0000_0000_0000))) (sym in81)
-      ∙ tab-ext nan (inBlock 3) _ _ (λ k h. ap (λ x. div binary64 x (ofBits binary64 0x4038_0000_0000_0000)) (sum-is k (rw in81 at h)))
+      let S = stages nan old (λ q. q / 9) meanAt 9 (λ h. putBlock 9 h (divided (nineSums xs bs h))) turn in
+      let l = length-replicate 81 (ofBits binary64 0) in
+      is-tab nan (inBlock 3) meanAt _ (S .long ∙ l ∙ sym in81) (λ q hq.
+      let g : q < 81 = rw in81 at hq in
+      S .made q (rw l g) (omega arith))

@@ -47,3 +47,14 @@ module _ (t : List ℕ) (e : t ≡ placeTable) (s k : ℕ) (hs : s < 24) (hk : k
 
   pub below-entry : getD t (s * 81 + k) 0 < 81
   below-entry = rw at-entry (rw in81 at (turned-is-below 3 (orderAt s) k (is-order s hs) (rw in81 hk)))
+
+-- the same at position 9 h + k
+module _ (t : List ℕ) (e : t ≡ placeTable) (s h k : ℕ) (hs : s < 24) (hh : h < 9) (hk : k < 9) where
+  at-row : s * 81 + h * 9 + k ≡ s * 81 + (h * 9 + k)
+  at-row = omega arith
+
+  pub at-nine : getD t (s * 81 + h * 9 + k) 0 ≡ turned 3 (orderAt s) (h * 9 + k)
+  at-nine = ap (λ i. getD t i 0) at-row ∙ at-entry t e s (h * 9 + k) hs (omega arith)
+
+  pub below-nine : getD t (s * 81 + h * 9 + k) 0 < 81
+  below-nine = rw at-row (below-entry t e s (h * 9 + k) hs (omega arith))

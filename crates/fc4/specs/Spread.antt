@@ -9,7 +9,7 @@ use mathlib.Core.List.{List, [], _∷_, map}
 use lib.ListN.{length, getD, set, length-map}
 use lib.Ieee.{Float, nan}
 use Rattle.lists.specs.Tests.{every, every-at, and-fst, and-snd}
-use Rattle.lists.specs.Tab.{tab, tabFrom, length-tab, times}
+use Rattle.lists.specs.Tab.{tab, tabFrom, length-tab, getD-tab, times, times-same}
 use Rattle.lists.specs.Elements.{pick, straight, all-at, getD-map}
 use Rattle.lists.specs.Members.{alike, alike-true, of-getD}
 use Rattle.blocks.specs.Block.{putBlock}
@@ -20,7 +20,7 @@ use Rattle.orbits.specs.Groups.{spots, meanBlock, spreadBlock}
 use Rattle.orbits.specs.Spread.{setAll}
 use Rattle.orbits.specs.Scatter.{Undoes, Inverses, Distinct, putAll, wholes-are}
 use Rattle.fc4.specs.Positions.{orderAt, in81, is-order}
-use Rattle.fc4.specs.Mean.{times-front, count24, spots-count}
+use Rattle.fc4.specs.Mean.{Blocks24, times-front, count24, spots-count, spot-is}
 
 -- a block turned by an order
 unfoldable pub turnedBlock : List ℕ → List Float → List Float
@@ -33,9 +33,28 @@ inverses = 0 ∷ 1 ∷ 2 ∷ 4 ∷ 3 ∷ 5 ∷ 6 ∷ 7 ∷ 12 ∷ 18 ∷ 13 ∷ 
 unfoldable pub inverseOf : ℕ → ℕ
 inverseOf s = getD inverses s 0
 
+pub inverse-at : {l : List ℕ} → l ≡ inverses → (s : ℕ) → getD l s 0 ≡ inverseOf s
+unfolding inverseOf
+inverse-at e s = ap (λ l. getD l s 0) e
+
+pub length-turned : (σ : List ℕ) (v : List Float) → length (turnedBlock σ v) ≡ 81
+unfolding turnedBlock
+length-turned σ v = length-tab 81 _
+
 -- 24 whole blocks written, each with the means turned back by its order
 unfoldable pub putBlocks : List ℕ → List Float → List Float → List Float
 putBlocks bs v xs = times 24 (λ s. putBlock 81 (getD bs s 0) (turnedBlock (orderAt (inverseOf s)) v)) xs
+
+-- where the 24 blocks begin; and a number written to position k's places in blocks that begin at given places
+unfoldable pub startsOf : List ℕ → List ℕ
+startsOf bs = tab 24 (λ s. getD bs s 0 * 81)
+
+pub record Starts24 (n : ℕ) (at : List ℕ) : Type 0 where
+  pub count : length at ≡ 24
+  pub inside : (s : ℕ) → s < 24 → getD at s 0 + 81 ≤ n
+
+unfoldable pub putSpots : List ℕ → ℕ → Float → List Float → List Float
+putSpots at k x xs = times 24 (λ s l. set l (getD at s 0 + turned 3 (orderAt s) k) x) xs
 
 pub length-means : (mean : List Float → Float) (os : List (List ℕ)) (bs : List ℕ) (xs : List Float) → length (meanBlock mean 3 os bs xs) ≡ 81
 unfolding meanBlock
@@ -52,9 +71,23 @@ stores24 : {A : Type 0} (rs : List ℕ) (v : A) (l : List A) → length rs ≡ 2
 stores24 rs v l e = ap (λ n. times n (λ s l. set l (getD rs s 0) v) l) (sym e) ∙ sym (setAll-times rs v l)
 
 -- the places of position k, and the marks of a group
-pub stored-spots : (bs : List ℕ) (k : ℕ) (x : Float) (xs : List Float) → length bs ≡ 24
+stored-spots : (bs : List ℕ) (k : ℕ) (x : Float) (xs : List Float) → length bs ≡ 24
     → times 24 (λ s l. set l (getD (spots 3 twentyFour bs k) s 0) x) xs ≡ setAll (spots 3 twentyFour bs k) x xs
 stored-spots bs k x xs e = stores24 (spots 3 twentyFour bs k) x xs (spots-count bs e k)
+
+pub starts-in : (n : ℕ) (bs : List ℕ) → Blocks24 n bs → Starts24 n (startsOf bs)
+unfolding startsOf
+starts-in n bs B = record {
+  count = length-tab 24 _;
+  inside = λ s h. rw (getD-tab 24 (λ s. getD bs s 0 * 81) s 0 h) (B .inside s h);
+}
+
+pub spots-set : (bs : List ℕ) (k : ℕ) (x : Float) (xs : List Float) → length bs ≡ 24 → putSpots (startsOf bs) k x xs ≡ setAll (spots 3 twentyFour bs k) x xs
+unfolding putSpots startsOf
+spots-set bs k x xs e =
+    times-same 24 _ (λ s l. set l (getD (spots 3 twentyFour bs k) s 0) x) xs
+    (λ s h l. ap (λ r. set l r x) (ap (λ a. a + turned 3 (orderAt s) k) (getD-tab 24 (λ s. getD bs s 0 * 81) s 0 h) ∙ sym (spot-is bs e k s h)))
+    ∙ stored-spots bs k x xs e
 
 pub stored-marks : (bs done : List ℕ) → length bs ≡ 24 → times 24 (λ s l. set l (getD bs s 0) 1) done ≡ setAll bs 1 done
 stored-marks bs done e = stores24 bs 1 done e
@@ -124,11 +157,6 @@ put-times m (τ ∷ ts) [] v xs e = absurd (suc-ne-zero _ (sym e))
 put-times m (τ ∷ ts) (b ∷ bs) v xs e =
     put-times m ts bs v (putBlock (inBlock m) b (tab (inBlock m) (λ k. getD v (turned m τ k) nan)) xs) (suc-inj e)
     ∙ sym (times-front (length ts) (λ s. putBlock (inBlock m) (getD (b ∷ bs) s 0) (tab (inBlock m) (λ k. getD v (turned m (getD (τ ∷ ts) s []) k) nan))) xs)
-
-times-same : {A : Type 0} (n : ℕ) (f g : ℕ → A → A) (x : A) → ((s : ℕ) → s < n → (y : A) → f s y ≡ g s y) → times n f x ≡ times n g x
-unfolding times
-times-same zero f g x h = refl
-times-same (suc n) f g x h = h n (omega arith) (times n f x) ∙ ap (g n) (times-same n f g x (λ s l. h s (omega arith)))
 
 -- where the 24 blocks differ, that is the means written to their spots
 pub blocks-are : (bs : List ℕ) (v xs : List Float) → length bs ≡ 24 → Distinct bs → putBlocks bs v xs ≡ spreadBlock 3 twentyFour bs v xs

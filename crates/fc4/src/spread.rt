@@ -1,28 +1,41 @@
 // The means of a group written back to its 24 blocks.
 ghost use mathlib.Core.Path.{_≡_};
 ghost use mathlib.Core.Bool.{true};
-ghost use Prim.Native.Nat.{ℕ, _<_};
+ghost use Prim.Native.Nat.{ℕ, _+_, _*_, _<_, _≤_};
 ghost use lib.ListN.{length, getD};
 ghost use Rattle.places.specs.Orders.{twentyFour};
-ghost use Rattle.orbits.specs.Groups.{spots, meanBlock, spreadBlock};
-ghost use Rattle.orbits.specs.Spread.{setAll};
+ghost use Rattle.blocks.specs.Block.{putBlock};
+ghost use Rattle.orbits.specs.Groups.{meanBlock, spreadBlock};
 ghost use Rattle.orbits.specs.Scatter.{Distinct};
 ghost use Rattle.fc4.specs.Positions.{orderAt, placeTable};
 ghost use Rattle.fc4.specs.Mean.{mean24, Blocks24};
-ghost use Rattle.fc4.specs.Spread.{turnedBlock, inverseOf, putBlocks};
+ghost use Rattle.fc4.specs.Spread.{turnedBlock, inverses, putBlocks, Starts24, startsOf, putSpots};
 use crate::mean::group_means;
 use crate::mean::wide;
 
-// The mean x of position k written to its 24 places.
-fn put_spots(fc4: &mut [f64], bs: &[usize; 24], t: &[u8; 1944], k: usize, x: f64)
-    requires { ⌜ Blocks24 (length (now fc4)) (now bs) × (now t ≡ placeTable) × (k < 81) ⌝ }
-    ensures { λ _. ⌜ now (fc4 .exit) ≡ setAll (spots 3 twentyFour (now (bs .entry)) k) x (now (fc4 .entry)) ⌝ }
+// Where the blocks begin in a set of n numbers.
+fn starts(bs: &[usize; 24], n: usize) -> [usize; 24]
+    requires { ⌜ Blocks24 n (now bs) ⌝ }
+    ensures { λ r. ⌜ r ≡ startsOf (now (bs .entry)) ⌝ }
+{
+    let mut r = [0usize; 24];
+    let mut s = 0;
+    while s < 24 {
+        r[s] = bs[s] * 81;
+        s += 1;
+    }
+    r
+}
+
+// The mean x of position k written to its 24 places, in the blocks that begin at the given places.
+fn put_spots(fc4: &mut [f64], at: &[usize; 24], t: &[u8; 1944], k: usize, x: f64)
+    requires { ⌜ Starts24 (length (now fc4)) (now at) × (now t ≡ placeTable) × (k < 81) ⌝ }
+    ensures { λ _. ⌜ now (fc4 .exit) ≡ putSpots (now (at .entry)) k x (now (fc4 .entry)) ⌝ }
 {
     let mut s = 0;
     while s < 24 {
-        let b = bs[s];
         let q = wide(t[s * 81 + k]);
-        fc4[b * 81 + q] = x;
+        fc4[at[s] + q] = x;
         s += 1;
     }
 }
@@ -32,28 +45,36 @@ fn put_positions(fc4: &mut [f64], bs: &[usize; 24], t: &[u8; 1944], v: &[f64; 81
     requires { ⌜ Blocks24 (length (now fc4)) (now bs) × (now t ≡ placeTable) ⌝ }
     ensures { λ _. ⌜ now (fc4 .exit) ≡ spreadBlock 3 twentyFour (now (bs .entry)) (now (v .entry)) (now (fc4 .entry)) ⌝ }
 {
+    let at = starts(bs, fc4.len());
     let mut k = 0;
     while k < 81 {
         let x = v[k];
-        put_spots(fc4, bs, t, k, x);
+        put_spots(fc4, &at, t, k, x);
         k += 1;
     }
 }
 
-// The block v with its directions in order s.
-pub fn turned_by(v: &[f64; 81], t: &[u8; 1944], s: usize) -> [f64; 81]
-    requires { ⌜ (now t ≡ placeTable) × (s < 24) ⌝ }
-    ensures { λ r. ⌜ r ≡ turnedBlock (orderAt s) (now (v .entry)) ⌝ }
+// A block becomes v with its directions in order s.
+fn turn_into(block: &mut [f64], v: &[f64; 81], t: &[u8; 1944], s: usize)
+    requires { ⌜ (length (now block) ≡ 81) × (now t ≡ placeTable) × (s < 24) ⌝ }
+    ensures { λ _. ⌜ now (block .exit) ≡ turnedBlock (orderAt s) (now (v .entry)) ⌝ }
 {
     let row = s * 81;
-    let mut r = [0.0f64; 81];
     let mut k = 0;
     while k < 81 {
         let q = wide(t[row + k]);
-        r[k] = v[q];
+        block[k] = v[q];
         k += 1;
     }
-    r
+}
+
+// Block b becomes v with its directions in order s.
+fn put_turned(fc4: &mut [f64], b: usize, v: &[f64; 81], t: &[u8; 1944], s: usize)
+    requires { ⌜ (b * 81 + 81 ≤ length (now fc4)) × (now t ≡ placeTable) × (s < 24) ⌝ }
+    ensures { λ _. ⌜ now (fc4 .exit) ≡ putBlock 81 b (turnedBlock (orderAt s) (now (v .entry))) (now (fc4 .entry)) ⌝ }
+{
+    let at = b * 81;
+    turn_into(&mut fc4[at..at + 81], v, t, s);
 }
 
 // The orders that undo the 24, by their numbers.
@@ -84,11 +105,10 @@ const INVERSES: [usize; 24] = [
     23,
 ];
 
-fn inverse(s: usize) -> usize
-    requires { ⌜ s < 24 ⌝ }
-    ensures { λ r. ⌜ r ≡ inverseOf s ⌝ }
+fn inverse_orders() -> [usize; 24]
+    ensures { λ r. ⌜ r ≡ inverses ⌝ }
 {
-    INVERSES[s]
+    INVERSES
 }
 
 // 24 whole blocks, each with the means turned back to its own directions.
@@ -96,11 +116,10 @@ fn put_blocks(fc4: &mut [f64], bs: &[usize; 24], t: &[u8; 1944], v: &[f64; 81])
     requires { ⌜ Blocks24 (length (now fc4)) (now bs) × (now t ≡ placeTable) ⌝ }
     ensures { λ _. ⌜ now (fc4 .exit) ≡ putBlocks (now (bs .entry)) (now (v .entry)) (now (fc4 .entry)) ⌝ }
 {
+    let inverse = inverse_orders();
     let mut s = 0;
     while s < 24 {
-        let b = bs[s];
-        let w = turned_by(v, t, inverse(s));
-        blocks::write81(fc4, b, w);
+        put_turned(fc4, bs[s], v, t, inverse[s]);
         s += 1;
     }
 }

@@ -103,7 +103,8 @@ module _ (m n d : ℕ) (first line index : ℕ → ℕ) (L : Lines m n d first l
   block-below : (q : ℕ) → q < length xs → q / 9 < m * n
   block-below q h = div-lt-iff-lt-mul (lit< tt) .1 (rw e at h)
 
-  turn-of : (j : ℕ) → j < m → (ys : List Float) → Stage nan xs key new j ys → Stage nan xs key new (suc j) (lineDrift (first j) d n x ys)
+  -- line j less its drift, when the lines before it are done
+  pub turn-of : (j : ℕ) → j < m → (ys : List Float) → Stage nan xs key new j ys → Stage nan xs key new (suc j) (lineDrift (first j) d n x ys)
   unfolding lineDrift
   turn-of j hj ys s =
       let v = scaled (lineSums (first j) d n ys zeros) x in

@@ -25,6 +25,10 @@ recordsIn s = cond (ltb (wordOf s 0) (length s / 8)) (wordOf s 0) 0
 unfoldable pub endOf : List ℕ → ℕ → ℕ
 endOf s at = cond (ltb (wordAt s at) ((length s - at) / 8)) (at + 8 + 8 * wordAt s at) at
 
+-- where a table ends that begins at `from` among `most` entries, with n of its own or as many as there are
+unfoldable pub endWithin : ℕ → ℕ → ℕ → ℕ
+endWithin from n most = cond (ltb n (most - from)) (from + n) most
+
 -- The checksum h after one word more. The modulus is a prime, so another bit of the word gives another
 -- checksum, and another checksum stays another one.
 abbrev pub mixed : ℕ → ℕ → ℕ

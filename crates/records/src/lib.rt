@@ -14,7 +14,7 @@ pub mod steps;
 pub mod values;
 
 // A byte as a wide number.
-fn wide(x: u8) -> u64
+pub fn wide(x: u8) -> u64
     ensures { λ r. ⌜ (r ≡ x) × (r < 256) ⌝ }
 {
     x as u64

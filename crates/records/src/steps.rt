@@ -4,7 +4,7 @@ ghost use mathlib.Core.Bool.{cond};
 ghost use Prim.Native.Nat.{_+_, _%_, _^_, _≤_};
 ghost use lib.Dec.{eqb, ltb};
 ghost use lib.ListN.{length};
-ghost use Rattle.records.specs.Words.{wordOf};
+ghost use Rattle.records.specs.Words.{wordOf, endWithin};
 
 // A count with b more.
 pub fn plus(a: u64, b: u64) -> u64
@@ -50,6 +50,17 @@ pub fn size(w: u64, most: usize) -> usize
         return most;
     }
     n
+}
+
+// Where a table ends that begins at `from` among `most` entries, with n of its own or as many as there are.
+pub fn ends(from: usize, n: usize, most: usize) -> usize
+    requires { ⌜ from ≤ most ⌝ }
+    ensures { λ r. ⌜ (r ≡ endWithin from n most) × (from ≤ r) × (r ≤ most) ⌝ }
+{
+    if n < most - from {
+        return from + n;
+    }
+    most
 }
 
 // Where the records of a page begin.

@@ -8,22 +8,15 @@ use records::steps::first;
 use records::steps::is;
 use records::steps::plus;
 use records::steps::size;
-use records::steps::some;
 use records::values::mix_integers;
+use records::wide;
+use replays::Tally;
 
-// What was compared so far: records, differences, each answer, checksum.
-struct Tally {
-    seen: u64,
-    differ: u64,
+// What was compared so far, and how many answers were true and false.
+struct Counts {
+    all: Tally,
     matched: u64,
     not_matched: u64,
-    above: u64,
-    wrong: u64,
-    sum: u64,
-}
-
-fn wide(x: u8) -> u64 {
-    x as u64
 }
 
 fn number(r: &[u8], k: usize) -> f64 {
@@ -36,15 +29,6 @@ fn floats(r: &[u8], from: usize, out: &mut [f64]) {
     while i < out.len() {
         let x = number(r, after(from, i));
         out[i] = x;
-        i += 1;
-    }
-}
-
-// What the slots hold before a call: 7.
-fn sevens(slots: &mut [i64]) {
-    let mut i = 0;
-    while i < slots.len() {
-        slots[i] = 7;
         i += 1;
     }
 }
@@ -72,7 +56,6 @@ fn answer(r: &[u8], slots: &mut [i64], pos: &mut [f64], rot_pos: &mut [f64]) -> 
     let a = after(17, pos.len());
     floats(r, 17, pos);
     floats(r, a, rot_pos);
-    sevens(slots);
     let n = records::word_of(r, 3) as usize;
     let m = cells::compute_permutation(slots, cell(r), pos, rot_pos, n);
     wide(cells::matching_number(m))
@@ -102,37 +85,39 @@ fn tallied(t: Tally, r: &[u8], at: usize, m: u64, slots: &[i64]) -> Tally {
     let c = slot_differences(r, at, slots);
     let head = records::mix(records::mix(t.sum, records::word_of(r, 0)), refusal(m));
     let inputs = records::mix_words(r, 3, at, records::mix(head, is(m, 0)));
-    Tally {
-        seen: plus(t.seen, 1),
-        differ: plus(t.differ, some(plus(plus(a, b), c))),
-        matched: plus(t.matched, is(m, 0)),
-        not_matched: plus(t.not_matched, is(m, 64)),
-        above: plus(t.above, is(m, 1)),
-        wrong: plus(t.wrong, is(m, 2)),
-        sum: mix_integers(slots, inputs),
-    }
+    replays::tallied(
+        t,
+        refusal(m),
+        plus(plus(a, b), c),
+        mix_integers(slots, inputs),
+    )
 }
 
 // The record r, with room for its slots and positions.
-fn compare(t: Tally, r: &[u8], slots: &mut [i64], pos: &mut [f64], rot_pos: &mut [f64]) -> Tally {
+fn compare(t: Counts, r: &[u8], slots: &mut [i64], pos: &mut [f64], rot_pos: &mut [f64]) -> Counts {
     let at = after(after(17, pos.len()), rot_pos.len());
     let m = answer(r, slots, pos, rot_pos);
-    tallied(t, r, at, m, slots)
+    let before = t.all;
+    Counts {
+        all: tallied(before, r, at, m, slots),
+        matched: plus(t.matched, is(m, 0)),
+        not_matched: plus(t.not_matched, is(m, 64)),
+    }
 }
 
-// The record r.
-fn step(t: Tally, r: &[u8]) -> Tally {
-    let mut slots = [0i64; 64];
+// The record r. The slots hold 7 before the call.
+fn step(t: Counts, r: &[u8]) -> Counts {
+    let mut slots = [7i64; 64];
     let mut pos = [0.0f64; 192];
     let mut rot_pos = [0.0f64; 192];
     let a = size(records::word_of(r, 4), 64);
     let b = size(records::word_of(r, 5), 192);
     let c = size(records::word_of(r, 6), 192);
-    compare(t, r, &mut slots[..a], &mut pos[..b], &mut rot_pos[..c])
+    compare(t, r, &mut slots[0..a], &mut pos[0..b], &mut rot_pos[0..c])
 }
 
 // The records of a page, after those of the pages before.
-fn replay(s: &[u8], so_far: Tally) -> Tally {
+fn replay(s: &[u8], so_far: Counts) -> Counts {
     let mut t = so_far;
     let n = records::count(s);
     let mut at = first(s);
@@ -147,45 +132,29 @@ fn replay(s: &[u8], so_far: Tally) -> Tally {
     t
 }
 
-fn read_page(so_far: Tally) -> Tally {
+fn read_page(so_far: Counts) -> Counts {
     let mut page = io::large_buffer();
     let n = io::read_full(0, &mut page);
     replay(&page[..n], so_far)
 }
 
-// A line of the report.
-fn line(name: &[u8], n: u64) {
-    io::write_all(1, name);
-    io::print_decimal(1, n);
-    io::write_all(1, b"\n");
-}
-
-fn report(t: Tally) {
-    io::write_all(1, b"matching: ");
-    io::print_decimal(1, t.seen);
-    io::write_all(1, b" compared, ");
-    io::print_decimal(1, t.differ);
-    io::write_all(1, b" differ\n");
-    line(b"true: ", t.matched);
-    line(b"false: ", t.not_matched);
-    line(b"refused, 1: ", t.above);
-    line(b"refused, 2: ", t.wrong);
-    line(b"checksum ", t.sum);
-}
-
 // No file has more than four pages: the report would not have the records of a fifth.
-fn main() {
-    let none = Tally {
-        seen: 0,
-        differ: 0,
+fn pages() -> Counts {
+    let none = Counts {
+        all: replays::none(),
         matched: 0,
         not_matched: 0,
-        above: 0,
-        wrong: 0,
-        sum: 0,
     };
     let a = read_page(none);
     let b = read_page(a);
     let c = read_page(b);
-    report(read_page(c));
+    read_page(c)
+}
+
+fn main() {
+    let t = pages();
+    let all = t.all;
+    replays::report(b"matching", all);
+    replays::line(b"true: ", t.matched);
+    replays::line(b"false: ", t.not_matched);
 }

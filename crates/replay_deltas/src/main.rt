@@ -4,32 +4,10 @@
 // out from them.
 use records::steps::count_of;
 use records::steps::first;
-use records::steps::is;
 use records::steps::plus;
 use records::steps::size;
-use records::steps::some;
-
-// What was compared so far: records, differences, each answer, checksum.
-struct Tally {
-    seen: u64,
-    differ: u64,
-    done: u64,
-    above: u64,
-    wrong: u64,
-    out: u64,
-    sum: u64,
-}
-
-// What a call gave: the number of its answer, and the checksum of each slice that it may write.
-struct Outcome {
-    answer: u64,
-    set: u64,
-    work: u64,
-}
-
-fn wide(x: u8) -> u64 {
-    x as u64
-}
+use records::wide;
+use replays::Tally;
 
 fn fc2s(
     r: &[u8],
@@ -138,48 +116,27 @@ fn work_out(r: &[u8], set: &mut [f64], rot_delta: &mut [f64]) -> u64 {
         r,
         set,
         rot_delta,
-        &mut delta[..a],
-        &mut inv_u[..b],
-        &mut site_sym_cart[..c],
-        &mut rot_map_syms[..d],
+        &mut delta[0..a],
+        &mut inv_u[0..b],
+        &mut site_sym_cart[0..c],
+        &mut rot_map_syms[0..d],
     )
 }
 
-fn run(r: &[u8], set: &mut [f64], rot_delta: &mut [f64]) -> Outcome {
-    let m = work_out(r, set, rot_delta);
-    let sum = records::values::mix_floats(set, 0);
-    let work = records::values::mix_floats(rot_delta, 0);
-    Outcome {
-        answer: m,
-        set: sum,
-        work: work,
-    }
-}
-
-// The record r, whose call gave o.
-fn compare(t: Tally, r: &[u8], o: Outcome) -> Tally {
-    let a = records::differs(o.answer, records::word_of(r, 1));
-    let b = records::differs(o.set, records::word_of(r, 2));
-    let c = records::differs(o.work, records::word_of(r, 3));
-    let head = records::mix(records::mix(t.sum, records::word_of(r, 0)), o.answer);
-    let answers = records::mix(records::mix(head, o.set), o.work);
-    Tally {
-        seen: plus(t.seen, 1),
-        differ: plus(t.differ, some(plus(plus(a, b), c))),
-        done: plus(t.done, is(o.answer, 0)),
-        above: plus(t.above, is(o.answer, 1)),
-        wrong: plus(t.wrong, is(o.answer, 2)),
-        out: plus(t.out, is(o.answer, 3)),
-        sum: records::mix_words(r, 4, r.len() / 8, answers),
-    }
+// What the call of the record gave: the number of its answer, and the checksums of the set and of the work slice.
+fn run(r: &[u8], set: &mut [f64], rot_delta: &mut [f64]) -> [u64; 3] {
+    let a = work_out(r, set, rot_delta);
+    let s = records::values::mix_floats(set, 0);
+    let w = records::values::mix_floats(rot_delta, 0);
+    [a, s, w]
 }
 
 // The record r, with room for its set and its work slice.
 fn step(t: Tally, r: &[u8], set: &mut [f64], work: &mut [f64]) -> Tally {
     let n = size(records::word_of(r, 8), set.len());
     let m = size(records::word_of(r, 13), work.len());
-    let o = run(r, &mut set[..n], &mut work[..m]);
-    compare(t, r, o)
+    let got = run(r, &mut set[0..n], &mut work[0..m]);
+    replays::compared(t, r, got[0], &got)
 }
 
 // The records of a page, after those of the pages before.
@@ -210,42 +167,9 @@ fn two_pages(so_far: Tally, set: &mut [f64], work: &mut [f64]) -> Tally {
 }
 
 // No file has more than four pages: the report would not have the records of a fifth.
-fn pages(set: &mut [f64], work: &mut [f64]) -> Tally {
-    let none = Tally {
-        seen: 0,
-        differ: 0,
-        done: 0,
-        above: 0,
-        wrong: 0,
-        out: 0,
-        sum: 0,
-    };
-    let t = two_pages(none, set, work);
-    two_pages(t, set, work)
-}
-
-// A line of the report.
-fn line(name: &[u8], n: u64) {
-    io::write_all(1, name);
-    io::print_decimal(1, n);
-    io::write_all(1, b"\n");
-}
-
-fn report(t: Tally) {
-    io::write_all(1, b"rotated: ");
-    io::print_decimal(1, t.seen);
-    io::write_all(1, b" compared, ");
-    io::print_decimal(1, t.differ);
-    io::write_all(1, b" differ\n");
-    line(b"ended well: ", t.done);
-    line(b"refused, 1: ", t.above);
-    line(b"refused, 2: ", t.wrong);
-    line(b"refused, 3: ", t.out);
-    line(b"checksum ", t.sum);
-}
-
 fn main() {
     let mut set = [0.0f64; 6144];
     let mut work = [0.0f64; 1024];
-    report(pages(&mut set, &mut work));
+    let t = two_pages(replays::none(), &mut set, &mut work);
+    replays::report(b"rotated", two_pages(t, &mut set, &mut work));
 }

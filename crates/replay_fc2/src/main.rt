@@ -7,47 +7,23 @@ ghost use Prim.Native.Nat.{_≤_};
 use fc2::drift::DriftAnswer;
 use fc2::drift::DriftReport;
 use records::steps::count_of;
+use records::steps::ends;
 use records::steps::first;
-use records::steps::is;
 use records::steps::plus;
 use records::steps::size;
-use records::steps::some;
 use records::values;
+use records::wide;
+use replays::Tally;
 use tables::Answer;
 
 // What came of a call: its answer, and three words. The checksums of the set and of the work slice, and 0; of the drift
 // report its case, its value and its place.
-struct Outcome {
-    answer: u64,
-    a: u64,
-    b: u64,
-    c: u64,
-}
+type Outcome = [u64; 4];
 
-// How many there were of each call.
-struct Calls {
-    full: u64,
-    compact: u64,
-    index: u64,
-    distribute: u64,
-    drift: u64,
-}
-
-// How many there were of each answer.
-struct Answers {
-    done: u64,
-    above: u64,
-    wrong: u64,
-    out: u64,
-    represented: u64,
-    broken: u64,
-}
-
-struct Tally {
-    calls: Calls,
-    answers: Answers,
-    differ: u64,
-    sum: u64,
+// What was compared so far, and how many there were of each call's number.
+struct Counts {
+    all: Tally,
+    calls: [u64; 7],
 }
 
 // The seed of the set is that of the record; those of the work slice and of the rotations are the next ones.
@@ -55,34 +31,14 @@ fn seed(r: &[u8], k: u64) -> u64 {
     plus(records::word_of(r, 6), k)
 }
 
-fn wide(x: u8) -> u64 {
-    x as u64
-}
-
 fn told(a: Answer) -> u64 {
     wide(tables::number(a))
-}
-
-// Where a table ends that begins at `from`, with as many entries as the record says, within `most`.
-fn ends(from: usize, n: usize, most: usize) -> usize
-    requires { ⌜ from ≤ most ⌝ }
-    ensures { λ r. ⌜ (from ≤ r) × (r ≤ most) ⌝ }
-{
-    if n < most - from {
-        return from + n;
-    }
-    most
 }
 
 // perm_trans_symmetrize_fc.
 fn full(r: &[u8], set: &mut [f64]) -> Outcome {
     let a = fc2::full::perm_trans_symmetrize_fc(set, count_of(r, 10), count_of(r, 13));
-    Outcome {
-        answer: told(a),
-        a: values::mix_floats(set, 0),
-        b: 0,
-        c: 0,
-    }
+    [told(a), values::mix_floats(set, 0), 0, 0]
 }
 
 // The number at a place of a set, 0.0 past its end.
@@ -138,21 +94,13 @@ fn place_word(set: &[f64], n: usize, q: DriftReport) -> u64 {
 
 fn reported(set: &[f64], n: usize, q: DriftReport) -> Outcome {
     let d = q.drift;
-    Outcome {
-        answer: 0,
-        a: wide(fc2::drift::number(d)),
-        b: records::float_word(fc2::drift::value(d)),
-        c: place_word(set, n, q),
-    }
-}
-
-fn refused(a: Answer) -> Outcome {
-    Outcome {
-        answer: told(a),
-        a: 0,
-        b: 0,
-        c: 0,
-    }
+    let case = wide(fc2::drift::number(d));
+    [
+        0,
+        case,
+        records::float_word(fc2::drift::value(d)),
+        place_word(set, n, q),
+    ]
 }
 
 // drift_report.
@@ -160,7 +108,7 @@ fn drift(r: &[u8], set: &[f64]) -> Outcome {
     let n = count_of(r, 10);
     match fc2::drift::drift_report(set, n) {
         DriftAnswer::Report(q) => reported(set, n, q),
-        DriftAnswer::Refused(a) => refused(a),
+        DriftAnswer::Refused(a) => [told(a), 0, 0, 0],
     }
 }
 
@@ -215,19 +163,15 @@ fn compact(r: &[u8], set: &mut [f64], done: &mut [u8], all: &[i64]) -> Answer {
     call_compact(r, set, done, &all[a..b], &all[b..c], &all[c..d], &all[0..a])
 }
 
-fn compact_outcome(a: Answer, set: &[f64], done: &[u8]) -> Outcome {
-    Outcome {
-        answer: told(a),
-        a: values::mix_floats(set, 0),
-        b: values::mix_bytes(done, 0),
-        c: 0,
-    }
-}
-
 fn compact_work(r: &[u8], set: &mut [f64], done: &mut [u8], all: &[i64]) -> Outcome {
     values::fill_bytes(done, seed(r, 1));
     let a = compact(r, set, done, all);
-    compact_outcome(a, set, done)
+    [
+        told(a),
+        values::mix_floats(set, 0),
+        values::mix_bytes(done, 0),
+        0,
+    ]
 }
 
 // Takes the tables apart: atom_list, fc_indices_of_atom_list, permutations, map_atoms, map_syms.
@@ -258,15 +202,6 @@ fn call_distribute(
     )
 }
 
-fn distribute_outcome(a: Answer, set: &[f64], reverse: &[i64]) -> Outcome {
-    Outcome {
-        answer: told(a),
-        a: values::mix_floats(set, 0),
-        b: values::mix_integers(reverse, 0),
-        c: 0,
-    }
-}
-
 fn distribute_work(
     r: &[u8],
     set: &mut [f64],
@@ -277,13 +212,18 @@ fn distribute_work(
     values::fill_integers(reverse, seed(r, 1));
     values::fill(r_carts, seed(r, 2), records::word_of(r, 7) / 8);
     let a = call_distribute(r, set, reverse, r_carts, all);
-    distribute_outcome(a, set, reverse)
+    [
+        told(a),
+        values::mix_floats(set, 0),
+        values::mix_integers(reverse, 0),
+        0,
+    ]
 }
 
 fn with_compact_work(r: &[u8], set: &mut [f64], all: &[i64]) -> Outcome {
     let mut done = [0u8; 256];
     let n = size(records::word_of(r, 9), 256);
-    compact_work(r, set, &mut done[..n], all)
+    compact_work(r, set, &mut done[0..n], all)
 }
 
 fn with_distribute_work(r: &[u8], set: &mut [f64], all: &[i64]) -> Outcome {
@@ -291,7 +231,7 @@ fn with_distribute_work(r: &[u8], set: &mut [f64], all: &[i64]) -> Outcome {
     let mut r_carts = [0.0f64; 64];
     let n = size(records::word_of(r, 9), 64);
     let m = size(records::word_of(r, 19), 64);
-    distribute_work(r, set, &mut reverse[..n], &mut r_carts[..m], all)
+    distribute_work(r, set, &mut reverse[0..n], &mut r_carts[0..m], all)
 }
 
 fn with_tables(r: &[u8], set: &mut [f64]) -> Outcome {
@@ -317,60 +257,24 @@ fn with_set(r: &[u8], set: &mut [f64]) -> Outcome {
 fn came_of(r: &[u8]) -> Outcome {
     let mut set = [0.0f64; 2048];
     let n = size(records::word_of(r, 8), 2048);
-    with_set(r, &mut set[..n])
-}
-
-fn counted(c: Calls, call: u64) -> Calls {
-    Calls {
-        full: plus(c.full, is(call, 1)),
-        compact: plus(c.compact, is(call, 2)),
-        index: plus(c.index, is(call, 3)),
-        distribute: plus(c.distribute, is(call, 4)),
-        drift: plus(c.drift, is(call, 5)),
-    }
-}
-
-fn answered(a: Answers, n: u64) -> Answers {
-    Answers {
-        done: plus(a.done, is(n, 0)),
-        above: plus(a.above, is(n, 1)),
-        wrong: plus(a.wrong, is(n, 2)),
-        out: plus(a.out, is(n, 3)),
-        represented: plus(a.represented, is(n, 5)),
-        broken: plus(a.broken, is(n, 6)),
-    }
-}
-
-// 1 where the outcome is another than the recorded one, else 0.
-fn differs(r: &[u8], o: Outcome) -> u64 {
-    let a = records::differs(o.answer, records::word_of(r, 2));
-    let b = records::differs(o.a, records::word_of(r, 3));
-    let c = records::differs(o.b, records::word_of(r, 4));
-    let d = records::differs(o.c, records::word_of(r, 5));
-    some(plus(plus(a, b), plus(c, d)))
-}
-
-// The checksum h after the record's words, with the outcome in place of the recorded one.
-fn mixed(r: &[u8], o: Outcome, h: u64) -> u64 {
-    let head = records::mix_words(r, 0, 2, h);
-    let a = records::mix(records::mix(head, o.answer), o.a);
-    let b = records::mix(records::mix(a, o.b), o.c);
-    records::mix_words(r, 6, r.len() / 8, b)
+    with_set(r, &mut set[0..n])
 }
 
 // The record r.
-fn step(t: Tally, r: &[u8]) -> Tally {
+fn step(t: Counts, r: &[u8]) -> Counts {
+    let call = records::word_of(r, 1);
     let o = came_of(r);
-    Tally {
-        calls: counted(t.calls, records::word_of(r, 1)),
-        answers: answered(t.answers, o.answer),
-        differ: plus(t.differ, differs(r, o)),
-        sum: mixed(r, o, t.sum),
+    let got = [call, o[0], o[1], o[2], o[3]];
+    let all = t.all;
+    let calls = t.calls;
+    Counts {
+        all: replays::compared(all, r, o[0], &got),
+        calls: replays::counted(calls, call),
     }
 }
 
 // The records of a page, after those of the pages before.
-fn replay(s: &[u8], so_far: Tally) -> Tally {
+fn replay(s: &[u8], so_far: Counts) -> Counts {
     let mut t = so_far;
     let n = records::count(s);
     let mut at = first(s);
@@ -385,66 +289,36 @@ fn replay(s: &[u8], so_far: Tally) -> Tally {
     t
 }
 
-fn read_page(so_far: Tally) -> Tally {
+fn read_page(so_far: Counts) -> Counts {
     let mut page = io::large_buffer();
     let n = io::read_full(0, &mut page);
     replay(&page[..n], so_far)
 }
 
-// A line of the report.
-fn line(name: &[u8], n: u64) {
-    io::write_all(1, name);
-    io::print_decimal(1, n);
-    io::write_all(1, b"\n");
-}
-
-fn report_calls(c: Calls) {
-    line(b"perm_trans_symmetrize_fc: ", c.full);
-    line(b"perm_trans_symmetrize_compact_fc: ", c.compact);
-    line(b"set_index_permutation_symmetry_compact_fc: ", c.index);
-    line(b"distribute_fc2: ", c.distribute);
-    line(b"drift_report: ", c.drift);
-}
-
-fn report_answers(a: Answers) {
-    line(b"not refused: ", a.done);
-    line(b"refused, 1: ", a.above);
-    line(b"refused, 2: ", a.wrong);
-    line(b"refused, 3: ", a.out);
-    line(b"refused, 5: ", a.represented);
-    line(b"refused, 6: ", a.broken);
-}
-
-fn report(t: Tally) {
-    report_calls(t.calls);
-    report_answers(t.answers);
-    line(b"differ: ", t.differ);
-    line(b"checksum ", t.sum);
+fn report_calls(c: [u64; 7]) {
+    replays::line(b"perm_trans_symmetrize_fc: ", c[1]);
+    replays::line(b"perm_trans_symmetrize_compact_fc: ", c[2]);
+    replays::line(b"set_index_permutation_symmetry_compact_fc: ", c[3]);
+    replays::line(b"distribute_fc2: ", c[4]);
+    replays::line(b"drift_report: ", c[5]);
 }
 
 // No file has more than four pages: the report would not have the records of a fifth.
-fn main() {
-    let none = Tally {
-        calls: Calls {
-            full: 0,
-            compact: 0,
-            index: 0,
-            distribute: 0,
-            drift: 0,
-        },
-        answers: Answers {
-            done: 0,
-            above: 0,
-            wrong: 0,
-            out: 0,
-            represented: 0,
-            broken: 0,
-        },
-        differ: 0,
-        sum: 0,
+fn pages() -> Counts {
+    let none = Counts {
+        all: replays::none(),
+        calls: [0u64; 7],
     };
     let a = read_page(none);
     let b = read_page(a);
     let c = read_page(b);
-    report(read_page(c));
+    read_page(c)
+}
+
+fn main() {
+    let t = pages();
+    let all = t.all;
+    let calls = t.calls;
+    replays::report(b"second order", all);
+    report_calls(calls);
 }

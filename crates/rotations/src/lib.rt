@@ -1,9 +1,11 @@
 // A block turned by one 3 by 3 matrix on each leg: the coefficients are worked out once and serve every block of a call, and the sums of
-// all places go side by side. Each sum has the same terms in the same order as if it stood alone.
+// all places go side by side. Each sum has the same terms in the same order as if it stood alone. A block is read where it stands in its set:
+// with a copy of it first, distribute_fc3 takes a quarter more time.
 ghost use mathlib.Core.Path.{_≡_};
 ghost use Prim.Native.Nat.{ℕ, _+_, _*_, _<_, _≤_};
 ghost use lib.ListN.{length, getD};
 ghost use lib.Ieee.{nan};
+ghost use Rattle.blocks.specs.Block.{block};
 ghost use Rattle.rotations.specs.Rotation.{transposed as transposedOf, coefficients, widenedAt, widened, shared, sums};
 ghost use Rattle.rotations.specs.Laws.{Put, Sizes, Filled};
 
@@ -82,10 +84,20 @@ fn sums9(c: &[f64], t: &[f64], first: usize) -> [f64; 9]
 }
 
 // A block of two legs, turned on each: c has the coefficients.
-pub fn rotated9(c: &[f64; 81], t: [f64; 9]) -> [f64; 9]
-    ensures { λ r. ⌜ r ≡ sums 9 9 9 0 (now (c .entry)) t ⌝ }
+fn turned9(c: &[f64; 81], t: &[f64]) -> [f64; 9]
+    requires { ⌜ length (now t) ≡ 9 ⌝ }
+    ensures { λ r. ⌜ r ≡ sums 9 9 9 0 (now (c .entry)) (now (t .entry)) ⌝ }
 {
-    sums9(c, &t, 0)
+    sums9(c, t, 0)
+}
+
+// Block b of a set of second order, turned on each leg.
+pub fn rotated9(c: &[f64; 81], fc: &[f64], b: usize) -> [f64; 9]
+    requires { ⌜ b * 9 + 9 ≤ length (now fc) ⌝ }
+    ensures { λ r. ⌜ r ≡ sums 9 9 9 0 (now (c .entry)) (block 9 b (now (fc .entry))) ⌝ }
+{
+    let at = b * 9;
+    turned9(c, &fc[at..at + 9])
 }
 
 // The coefficients of a block of three legs.
@@ -167,24 +179,44 @@ fn fill9(out: &mut [f64], c: &[f64], t: &[f64], first: usize)
 }
 
 // A block of three legs, turned on each: c has the coefficients.
-pub fn rotated27(c: &[f64; 729], t: [f64; 27]) -> [f64; 27]
-    ensures { λ r. ⌜ r ≡ sums 27 27 27 0 (now (c .entry)) t ⌝ }
+fn turned27(c: &[f64; 729], t: &[f64]) -> [f64; 27]
+    requires { ⌜ length (now t) ≡ 27 ⌝ }
+    ensures { λ r. ⌜ r ≡ sums 27 27 27 0 (now (c .entry)) (now (t .entry)) ⌝ }
 {
     let mut r = [0.0f64; 27];
-    fill18(&mut r, c, &t, 0);
-    fill9(&mut r, c, &t, 18);
+    fill18(&mut r, c, t, 0);
+    fill9(&mut r, c, t, 18);
     r
 }
 
+// Block b of a set of third order, turned on each leg.
+pub fn rotated27(c: &[f64; 729], fc: &[f64], b: usize) -> [f64; 27]
+    requires { ⌜ b * 27 + 27 ≤ length (now fc) ⌝ }
+    ensures { λ r. ⌜ r ≡ sums 27 27 27 0 (now (c .entry)) (block 27 b (now (fc .entry))) ⌝ }
+{
+    let at = b * 27;
+    turned27(c, &fc[at..at + 27])
+}
+
 // A block of four legs, turned on each: c has the coefficients.
-pub fn rotated81(c: &[f64; 6561], t: [f64; 81]) -> [f64; 81]
-    ensures { λ r. ⌜ r ≡ sums 81 81 81 0 (now (c .entry)) t ⌝ }
+fn turned81(c: &[f64; 6561], t: &[f64]) -> [f64; 81]
+    requires { ⌜ length (now t) ≡ 81 ⌝ }
+    ensures { λ r. ⌜ r ≡ sums 81 81 81 0 (now (c .entry)) (now (t .entry)) ⌝ }
 {
     let mut r = [0.0f64; 81];
-    fill18(&mut r, c, &t, 0);
-    fill18(&mut r, c, &t, 18);
-    fill18(&mut r, c, &t, 36);
-    fill18(&mut r, c, &t, 54);
-    fill9(&mut r, c, &t, 72);
+    fill18(&mut r, c, t, 0);
+    fill18(&mut r, c, t, 18);
+    fill18(&mut r, c, t, 36);
+    fill18(&mut r, c, t, 54);
+    fill9(&mut r, c, t, 72);
     r
+}
+
+// Block b of a set of fourth order, turned on each leg.
+pub fn rotated81(c: &[f64; 6561], fc: &[f64], b: usize) -> [f64; 81]
+    requires { ⌜ b * 81 + 81 ≤ length (now fc) ⌝ }
+    ensures { λ r. ⌜ r ≡ sums 81 81 81 0 (now (c .entry)) (block 81 b (now (fc .entry))) ⌝ }
+{
+    let at = b * 81;
+    turned81(c, &fc[at..at + 81])
 }

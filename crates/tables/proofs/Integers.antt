@@ -1,10 +1,11 @@
 -- The program holds an i64 by its bits; `toZ-ofZ` says that what it reads back is the number itself.
 -- Assumes nothing.
 use mathlib.Core.Path.{_≡_, refl, sym, ap, subst}
-use mathlib.Core.Bool.{true, false, true≢false}
+use mathlib.Core.Bool.{true, false, not, _&&_, true≢false}
 use mathlib.Core.List.{List}
 use Prim.Native.Nat.{ℕ, _<_, _^_}
 use native.Mathlib.Nat.{not-suc-le-zero}
+use native.Mathlib.Omega.{arith}
 use lib.Dec.{T, ltb}
 use lib.IntN.{ℤ, pos, negsuc, natAbs}
 use lib.ListN.{getD}
@@ -12,7 +13,7 @@ use lib.Signed.{ltZ, nonNeg, mag}
 use mir.Syntax.{w64}
 use mir.Val.{Fits, SFits, toZ, ofZ}
 use mir.ValLaws.{toZ-ofZ, half-full}
-use borrow.Author.Tests.{ltb-true}
+use borrow.Author.Tests.{ltb-true, le-ltb}
 use Rattle.tables.specs.Conditions.{below, nat}
 
 negative : (n : ℕ) (x : ℤ) → ltZ x (pos 0) ≡ true → false ≡ below n x
@@ -27,6 +28,10 @@ as-index : (x : ℤ) → SFits w64 x → x ≡ pos (nat x) → (T (nonNeg x) × 
 as-index (pos k) f h = ((tt, record { fits = half-full w64 (f .sfits) }), refl)
 as-index (negsuc k) f h = absurd (subst T (ap nonNeg (sym h)) tt)
 
+between : (n : ℕ) (x : ℤ) → (not (ltZ x (pos 0)) && ltZ x (pos n)) ≡ below n x
+between n (pos k) = rw (le-ltb k 0 (omega arith))
+between n (negsuc k) = refl
+
 -- the same of the number that is read back
 module _ (n : ℕ) (x : ℤ) (f : SFits w64 x) where
   pub is-negative : ltZ (toZ w64 (ofZ w64 x)) (pos 0) ≡ true → false ≡ below n x
@@ -37,6 +42,10 @@ module _ (n : ℕ) (x : ℤ) (f : SFits w64 x) where
   is-index h =
       subst (λ (y : ℤ). ltZ y (pos 0) ≡ false → (T (nonNeg y) × Fits w64 (natAbs y)) × (ltb (natAbs y) n ≡ below n x))
       (sym (toZ-ofZ w64 x f)) (not-negative n x f) h
+
+pub is-between : (n : ℕ) (x m : ℤ) → SFits w64 x → SFits w64 m → m ≡ pos n
+    → (not (ltZ (toZ w64 (ofZ w64 x)) (pos 0)) && ltZ (toZ w64 (ofZ w64 x)) (toZ w64 (ofZ w64 m))) ≡ below n x
+is-between n x m f g e = rw (toZ-ofZ w64 x f, toZ-ofZ w64 m g, e) (between n x)
 
 pub read-index : (x : ℤ) → SFits w64 x → x ≡ pos (nat x)
     → (T (nonNeg (toZ w64 (ofZ w64 x))) × Fits w64 (natAbs (toZ w64 (ofZ w64 x)))) × (natAbs (toZ w64 (ofZ w64 x)) ≡ nat x)

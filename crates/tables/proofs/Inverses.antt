@@ -2,14 +2,16 @@
 -- Assumes nothing.
 use mathlib.Core.Path.{_≡_, sym, ap, _∙_}
 use mathlib.Core.Bool.{Bool, true}
+use mathlib.Core.List.{List}
 use Prim.Native.Nat.{ℕ, _+_, _*_, _<_}
+use native.Mathlib.Omega.{arith}
 use lib.Dec.{eqb}
+use lib.ListN.{getD}
 use Rattle.lists.specs.Tests.{every, says}
-use Rattle.tables.specs.Conditions.{indexAt}
-use Rattle.tables.specs.Marks.{lineAt}
-use Rattle.tables.specs.Rows.{column-distinct}
+use Rattle.tables.specs.Conditions.{indexAt, read}
+use Rattle.tables.specs.Generators.{image, Closed, Spread, Placed, Sent}
 use Rattle.tables.specs.Shifts.{Shifts, row, p2sAt, s2ppAt, nsymAt, distinct, distinct-says, isNull, isAfter, follows, countsAgree, hasNull, rowsClosed, nsymLands, ruled, Within, Laws, laws, passes}
-use Rattle.tables.specs.Compact.{ShiftTables, shiftsOf, perms-is, p2s-is, s2pp-is}
+use Rattle.tables.specs.Compact.{ShiftTables, Fit, fit-within, shiftsOf, perms-is, p2s-is, s2pp-is}
 
 -- s2pp is p for p2s[p] and its images
 unfoldable pub p2sKept : Shifts → Bool
@@ -95,17 +97,21 @@ module _ (S : Shifts) (R : Tested S) where
       }
 
 module _ (S : Shifts) (W : Within S) where
-  pub ruled-kept : ruled S ≡ true → p2sKept S ≡ true
-  unfolding p2sKept
-  ruled-kept e =
+  -- every atom is sent from its representative
+  pub ruled-reached : ruled S ≡ true → (a : ℕ) → a < S .nSatom → (i : ℕ) × (i < S .numTrans) × (row S i (p2sAt S (s2ppAt S a)) ≡ a)
+  ruled-reached e a ha =
       let L = laws S W e in
-      simp says (λ p hp t ht. L .s2pp-row t (p2sAt S p) ht (W .p2s-below p hp) ∙ L .s2pp-p2s p hp)
-
-  pub ruled-free : ruled S ≡ true → p2sFree S ≡ true
-  unfolding p2sFree
-  ruled-free e =
-      let L = laws S W e in
-      simp (says, distinct-says) (λ p hp t ht u hu. L .free t u (p2sAt S p) ht hu (W .p2s-below p hp))
+      let R : Tested S =
+      record {
+        within = W;
+        null = L .null;
+        after = L .after;
+        lands = L .nsym-lands;
+        kept = λ p hp t ht. L .s2pp-row t (p2sAt S p) ht (W .p2s-below p hp) ∙ L .s2pp-p2s p hp;
+        free = λ p hp t ht u hu. L .free t u (p2sAt S p) ht hu (W .p2s-below p hp);
+      } in
+      let (i, hi, q, _) = reached S R a ha in
+      (i, hi, q)
 
   pub all-ruled : countsAgree S ≡ true → hasNull S ≡ true → nsymLands S ≡ true → p2sKept S ≡ true → p2sFree S ≡ true → rowsClosed S ≡ true → ruled S ≡ true
   unfolding countsAgree hasNull isNull nsymLands p2sKept p2sFree rowsClosed follows isAfter
@@ -118,12 +124,71 @@ module _ (S : Shifts) (W : Within S) where
       let a′ = simp says at a in
       passes S (all-laws S (record { within = W; null = n′; after = λ t u ht hu. a′ u hu t ht; lands = l′; kept = k′; free = f′ }) c′)
 
--- the same tests as the code makes them
-module _ (T : ShiftTables) where
-  pub same-p2s-kept : every (T .nPatom) (λ p. every (T .numTrans) (λ t. eqb (indexAt (T .s2pp) (indexAt (T .perms) (t * T .nSatom + indexAt (T .p2s) p))) p)) ≡ p2sKept (shiftsOf T)
-  unfolding p2sKept
-  same-p2s-kept = simp (perms-is T, p2s-is T, s2pp-is T)
+-- the same of the tables as the code reads them
+module _ (T : ShiftTables) (F : Fit 1024 T) where
+  at-rep : (t p : ℕ) → image (T .perms) (T .nSatom) t (indexAt (T .p2s) p) ≡ row (shiftsOf T) t (p2sAt (shiftsOf T) p)
+  at-rep t p = perms-is T t _ ∙ ap (row (shiftsOf T) t) (p2s-is T p)
 
-  pub same-p2s-free : every (T .nPatom) (λ p. distinct (T .numTrans) (lineAt (T .perms) (indexAt (T .p2s) p) (T .nSatom))) ≡ p2sFree (shiftsOf T)
-  unfolding p2sFree row
-  same-p2s-free = simp (column-distinct (T .nSatom) (T .numTrans) (T .perms), p2s-is T)
+  pub ruled-spread : ruled (shiftsOf T) ≡ true → (p : ℕ) → p < T .nPatom → Spread (T .nSatom) (T .numTrans) (T .perms) (T .s2pp) (indexAt (T .p2s) p) p
+  ruled-spread e p hp =
+      let L = laws (shiftsOf T) (fit-within T F) e in
+      let hr = L .p2s-below p hp in (
+        λ t ht. s2pp-is T _ ∙ ap (s2ppAt (shiftsOf T)) (at-rep t p) ∙ L .s2pp-row t _ ht hr ∙ L .s2pp-p2s p hp,
+        λ t u ht hu q. L .free t u _ ht hu hr (sym (at-rep t p) ∙ q ∙ at-rep u p),
+      )
+
+  pub closed-rows : Closed (T .nSatom) (T .numTrans) (T .perms) → rowsClosed (shiftsOf T) ≡ true
+  unfolding rowsClosed follows isAfter
+  closed-rows C =
+      simp says (λ u hu t ht.
+      let (v, hv, e) = C t u ht hu in
+      (v, hv, λ a ha. sym (perms-is T u _ ∙ ap (row (shiftsOf T) u) (perms-is T t a)) ∙ e a ha ∙ perms-is T v a))
+
+  pub ruled-closed : ruled (shiftsOf T) ≡ true → Closed (T .nSatom) (T .numTrans) (T .perms)
+  ruled-closed e t u ht hu =
+      let (v, hv, q) = laws (shiftsOf T) (fit-within T F) e .after t u ht hu in
+      (v, hv, λ a ha. perms-is T u _ ∙ ap (row (shiftsOf T) u) (perms-is T t a) ∙ q a ha ∙ sym (perms-is T v a))
+
+  pub closed-none : T .nSatom ≡ 0 → Closed (T .nSatom) (T .numTrans) (T .perms)
+  closed-none z t u ht hu = (t, ht, λ a ha. absurd (omega arith))
+
+  module _ (sent : List ℕ) (L : Placed (T .nSatom) (T .numTrans) (T .nPatom) (T .perms) (T .p2s) (T .s2pp) sent) where
+    pub placed-kept : p2sKept (shiftsOf T) ≡ true
+    unfolding p2sKept
+    placed-kept = simp says (λ p hp t ht. sym (s2pp-is T _ ∙ ap (s2ppAt (shiftsOf T)) (at-rep t p)) ∙ L .kept p t hp ht)
+
+    pub placed-free : p2sFree (shiftsOf T) ≡ true
+    unfolding p2sFree
+    placed-free =
+        simp (says, distinct-says) (λ p hp t ht u hu q.
+        let e : getD sent (image (T .perms) (T .nSatom) t (indexAt (T .p2s) p)) 0 ≡ getD sent (image (T .perms) (T .nSatom) u (indexAt (T .p2s) p)) 0 =
+        ap (λ x. getD sent x 0) (at-rep t p ∙ q ∙ sym (at-rep u p)) in
+        omega (arith, L .names p t hp ht, L .names p u hp hu))
+
+    pub ruled-placed : ruled (shiftsOf T) ≡ true → (a : ℕ) → a < T .nSatom → getD sent a 0 ≡ 0 → ⊥
+    ruled-placed e a ha z =
+        let (i, hi, q) = ruled-reached (shiftsOf T) (fit-within T F) e a ha in
+        let p = indexAt (T .s2pp) a in
+        let hp = read (F .s2pp-fit) a ha .1 in
+        let r : image (T .perms) (T .nSatom) i (indexAt (T .p2s) p) ≡ a = at-rep i p ∙ ap (λ x. row (shiftsOf T) i (p2sAt (shiftsOf T) x)) (s2pp-is T a) ∙ q in
+        let f : getD sent a 0 ≡ i + 1 = ap (λ x. getD sent x 0) (sym r) ∙ L .names p i hp hi in
+        omega arith
+
+    pub sent-of : hasNull (shiftsOf T) ≡ true → ((a : ℕ) → a < T .nSatom → getD sent a 0 ≡ 0 → ⊥) → 0 < T .nPatom
+        → Sent (T .nSatom) (T .numTrans) (T .nPatom) (T .perms) (T .p2s) (T .s2pp) sent
+    unfolding hasNull isNull
+    sent-of n c h =
+        let (z, hz, e) = simp says at n in
+        record {
+          rows = record { atoms = F .satoms; shifts = F .shifts; table = F .perms-fit };
+          reps = F .p2s-fit;
+          orbs = F .s2pp-fit;
+          rep = h;
+          null = (z, hz, λ a ha. perms-is T z a ∙ e a ha);
+          kept = L .kept;
+          names = L .names;
+          named = λ a ha.
+              let (p, hp, t, ht, q) = L .named a (c a ha) in
+              let o : indexAt (T .s2pp) a ≡ p = ap (indexAt (T .s2pp)) (sym q) ∙ L .kept p t hp ht in
+              (t, ht, ap (λ x. image (T .perms) (T .nSatom) t (indexAt (T .p2s) x)) o ∙ q, ap (λ x. getD sent x 0) (sym q) ∙ L .names p t hp ht);
+        }

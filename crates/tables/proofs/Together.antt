@@ -13,7 +13,7 @@ use Rattle.lists.specs.Tests.{and-says}
 use Rattle.tables.specs.declared.Answer.the-variants.{CountAboveLimit, WrongLength}
 use Rattle.tables.specs.Answers.{refused, not-refused}
 use Rattle.tables.specs.Conditions.{anyAbove, anyWrong}
-use Rattle.tables.specs.Shifts.{Shifts, row, isNull, isAfter, follows, countsAgree, rowsInjective, hasNull, rowsClosed, rowsFree, p2sBack, s2ppKept, nsymLands, ruled}
+use Rattle.tables.specs.Shifts.{Shifts, row, isNull, countsAgree, rowsInjective, hasNull, rowsClosed, rowsFree, p2sBack, s2ppKept, nsymLands, ruled}
 use Rattle.tables.specs.Compact.{ShiftTables, shiftsOf, tableLengths, judgedEntries, judgedTables, judgedCompact}
 use Rattle.tables.specs.Rows.{rowsOf}
 
@@ -30,14 +30,6 @@ module _ (T : ShiftTables) where
   pub same-null : hasNull (rowsOf (T .nSatom) (T .numTrans) (T .perms)) ≡ hasNull (shiftsOf T)
   unfolding hasNull isNull row
   same-null = refl
-
-  pub same-free : rowsFree (rowsOf (T .nSatom) (T .numTrans) (T .perms)) ≡ rowsFree (shiftsOf T)
-  unfolding rowsFree row
-  same-free = refl
-
-  pub same-closed : rowsClosed (rowsOf (T .nSatom) (T .numTrans) (T .perms)) ≡ rowsClosed (shiftsOf T)
-  unfolding rowsClosed follows isAfter row
-  same-closed = refl
 
 -- ---- the guard of compact calls, return by return
 

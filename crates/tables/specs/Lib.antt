@@ -3,6 +3,6 @@ pub mod Limits
 pub mod Conditions
 pub mod Shifts
 pub mod Compact
-pub mod Marks
 pub mod Rows
+pub mod Generators
 pub mod Samples

@@ -3,6 +3,7 @@ ghost use mathlib.Core.Path.{_≡_};
 ghost use Rattle.tables.specs.Answers.{numberOf, isRefusal};
 
 pub mod atoms;
+mod closed;
 pub mod guard;
 pub mod index;
 pub mod limits;

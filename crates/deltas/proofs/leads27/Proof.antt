@@ -1,12 +1,7 @@
-use mathlib.Core.Path.{ap, _∙_}
-use Rattle.rotations.specs.Rotation.{sums}
 use Rattle.deltas.specs.Rows.{leads-of}
 use borrow.Author.Needs.{needs}
 use Rattle.deltas.proofs.leads27.Statement.{statement}
 use Rattle.deltas.proofs.leads27.Tie as tie
-
-read27-requires : tie.Need-read27-requires
-read27-requires c κs = search needs
 
 rotated27-requires : tie.Need-rotated27-requires
 rotated27-requires c κs = search needs
@@ -44,15 +39,14 @@ same-length c = search needs
 returns : tie.Need-returns
 returns c =
     let r = c .before .before .before .before .before .before .before .before .before .before .before .before in
-    let a = c .before .before .before .before .before .before .before .before .before .before .before .before .before .before .before .before .args in
-    leads-of 27 (a .j) (a .t6) (a .row .now) (r .rotated27 .ensures ∙ ap (sums 27 27 27 0 (a .c .now)) (r .before .read27 .ensures))
+    let a = c .before .before .before .before .before .before .before .before .before .before .before .before .before .before .before .args in
+    leads-of 27 (a .j) (a .t6) (a .row .now) (r .rotated27 .ensures)
     (c .before .before .before .before .before .before .before .before .before .before .lead27 .ensures) (c .before .before .before .before .before .before .lead272 .ensures) (c .before .before .lead273 .ensures)
 
 pub leads27-spec : {M : Type 1} → statement M
 leads27-spec =
     tie.close
     (tie.spec
-    read27-requires
     rotated27-requires
     mul-g
     array-read-lead27

@@ -1,12 +1,7 @@
-use mathlib.Core.Path.{ap, _∙_}
-use Rattle.rotations.specs.Rotation.{sums}
 use Rattle.deltas.specs.Rows.{leads-of}
 use borrow.Author.Needs.{needs}
 use Rattle.deltas.proofs.leads9.Statement.{statement}
 use Rattle.deltas.proofs.leads9.Tie as tie
-
-read9-requires : tie.Need-read9-requires
-read9-requires c κs = search needs
 
 rotated9-requires : tie.Need-rotated9-requires
 rotated9-requires c κs = search needs
@@ -44,15 +39,14 @@ same-length c = search needs
 returns : tie.Need-returns
 returns c =
     let r = c .before .before .before .before .before .before .before .before .before .before .before .before in
-    let a = c .before .before .before .before .before .before .before .before .before .before .before .before .before .before .before .before .args in
-    leads-of 9 (a .j) (a .t6) (a .row .now) (r .rotated9 .ensures ∙ ap (sums 9 9 9 0 (a .c .now)) (r .before .read9 .ensures))
+    let a = c .before .before .before .before .before .before .before .before .before .before .before .before .before .before .before .args in
+    leads-of 9 (a .j) (a .t6) (a .row .now) (r .rotated9 .ensures)
     (c .before .before .before .before .before .before .before .before .before .before .lead9 .ensures) (c .before .before .before .before .before .before .lead92 .ensures) (c .before .before .lead93 .ensures)
 
 pub leads9-spec : {M : Type 1} → statement M
 leads9-spec =
     tie.close
     (tie.spec
-    read9-requires
     rotated9-requires
     mul-g
     array-read-lead9

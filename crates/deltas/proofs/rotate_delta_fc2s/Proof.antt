@@ -28,7 +28,7 @@ rotate-rows-fc2s-requires c κs =
     let d = is-done (j .result) (sym (c .before .before .is-refusal .ensures) ∙ c .before .if1 .left) in
     let (R, l) = ready _ 2 _ _ _ (le-refl 256) (sym (j .ensures) ∙ d) in
     let n = c .before .before .before .before .before .before .before .before .before .before .before .args .num-atom in
-    (R, rows-fit l n (square n))
+    (R, rows-fit l n n (square n))
 
 clear-floats-requires : tie.Need-clear-floats-requires
 clear-floats-requires c κs = search needs

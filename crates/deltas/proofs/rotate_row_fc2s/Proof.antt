@@ -15,7 +15,7 @@ use Rattle.deltas.proofs.rotate_row_fc2s.Tie as tie
 abbrev Inv-loop : tie.InvT-loop
 Inv-loop row₀ delta-fc2s inv-u site-sym-cart rot-map-syms i num-atom num-site-sym num-disp n₀ n-end row n =
     (n ≤ num-disp * num-site-sym) × (length row ≡ length row₀)
-    × (row ≡ times n (turnRow (record { deltas = delta-fc2s; invU = inv-u; siteSymCart = site-sym-cart; rotMapSyms = rot-map-syms; numAtom = num-atom; numSiteSym = num-site-sym; numDisp = num-disp }) 2 i) row₀)
+    × (row ≡ times n (turnRow (record { deltas = delta-fc2s; invU = inv-u; siteSymCart = site-sym-cart; rotMapSyms = rot-map-syms; numAtom = num-atom; numSiteSym = num-site-sym; numDisp = num-disp }) 2 num-atom i) row₀)
 
 abbrev μ-loop : tie.MeasureT-loop
 μ-loop row₀ delta-fc2s inv-u site-sym-cart rot-map-syms i num-atom num-site-sym num-disp n₀ n-end row n = num-disp * num-site-sym - n
@@ -57,8 +57,8 @@ returns c =
     let a = s .args in
     let D : Deltas = record { deltas = a .delta-fc2s .now; invU = a .inv-u .now; siteSymCart = a .site-sym-cart .now; rotMapSyms = a .rot-map-syms .now; numAtom = a .num-atom; numSiteSym = a .num-site-sym; numDisp = a .num-disp } in
     let i : l .n ≡ a .num-disp * a .num-site-sym = omega arith in
-    l .inv .2 ∙ ap₂ (λ k x. times k (turnRow D 2 (a .i)) x) i (c .before .before .before .before .clear-floats .ensures ∙ ap (λ k. replicate k plusZero) (sym (s .pre .1 .1)))
-    ∙ row-turns D 2 (a .i) (lit< tt)
+    l .inv .2 ∙ ap₂ (λ k x. times k (turnRow D 2 (a .num-atom) (a .i)) x) i (c .before .before .before .before .clear-floats .ensures ∙ ap (λ k. replicate k plusZero) (sym (s .pre .1 .1)))
+    ∙ row-turns D 2 (a .num-atom) (a .i) (lit< tt)
 
 pub rotate-row-fc2s-spec : {M : Type 1} → statement M
 rotate-row-fc2s-spec =

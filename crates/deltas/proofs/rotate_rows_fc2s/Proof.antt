@@ -104,11 +104,11 @@ loop-again c =
     let k : l .i * (a .num-atom * 27) + a .num-atom * 27 ≤ length (l .fc3) = subst (λ (x : ℕ). l .i * (a .num-atom * 27) + a .num-atom * 27 ≤ x) (s .pre .1 ∙ sym (l .inv .1)) (fits (a .num-atom * 27) (l .i) (a .num-atom) h) in
     let D : Deltas = record { deltas = a .delta-fc2s .now; invU = a .inv-u .now; siteSymCart = a .site-sym-cart .now; rotMapSyms = a .rot-map-syms .now; numAtom = a .num-atom; numSiteSym = a .num-site-sym; numDisp = a .num-disp } in
     let z : 0 < a .num-atom * 27 = omega arith in
-    let e = back-put (a .num-atom * 27) (l .i) (l .fc3) z k (c .before .before .rotate-row-fc2s .ensures) (length-row D 2 (l .i)) in (
+    let e = back-put (a .num-atom * 27) (l .i) (l .fc3) z k (c .before .before .rotate-row-fc2s .ensures) (length-row D 2 (a .num-atom) (l .i)) in (
       omega arith,
-      ap length e ∙ length-putBlock (a .num-atom * 27) (l .i) (rowOf D 2 (l .i)) (l .fc3) ∙ l .inv .1,
+      ap length e ∙ length-putBlock (a .num-atom * 27) (l .i) (rowOf D 2 (a .num-atom) (l .i)) (l .fc3) ∙ l .inv .1,
       λ q b. ap (λ x. getD x q nan) e
-          ∙ put-more (number D 2) (a .num-atom * 27) (l .i) (rowOf D 2 (l .i)) (l .fc3) z k (row-number D 2 (l .i) (lit< tt)) (l .inv .2) q b,
+          ∙ put-more (number D 2) (a .num-atom * 27) (l .i) (rowOf D 2 (a .num-atom) (l .i)) (l .fc3) z k (row-number D 2 (a .num-atom) (l .i) (lit< tt)) (l .inv .2) q b,
     )
 
 same-length : tie.Need-same-length Inv-loop μ-loop
@@ -121,7 +121,7 @@ returns c =
     let a = s .args in
     let D : Deltas = record { deltas = a .delta-fc2s .now; invU = a .inv-u .now; siteSymCart = a .site-sym-cart .now; rotMapSyms = a .rot-map-syms .now; numAtom = a .num-atom; numSiteSym = a .num-site-sym; numDisp = a .num-disp } in
     let i : l .i ≡ a .num-atom = omega arith in
-    rows-all D 2 (a .num-atom) (l .fc3) (square (a .num-atom)) (l .inv .1 ∙ sym (s .pre .1)) (λ q h. l .inv .2 q (rw i h))
+    rows-all D 2 (a .num-atom) (a .num-atom) (l .fc3) (square (a .num-atom)) (l .inv .1 ∙ sym (s .pre .1)) (λ q h. l .inv .2 q (rw i h))
 
 pub rotate-rows-fc2s-spec : {M : Type 1} → statement M
 rotate-rows-fc2s-spec =

@@ -3,8 +3,8 @@ use Prim.Native.Nat.{_+_, _*_, _/_, _<_}
 use native.Mathlib.Omega.{arith}
 use Rattle.rotations.specs.Rotation.{coefficients}
 use Rattle.deltas.specs.RotateDelta.{Deltas, source}
-use Rattle.deltas.specs.Rows.{shares-turned}
-use Rattle.deltas.specs.Guard.{turn, row-sources, source-of-one}
+use Rattle.deltas.specs.Rows.{imageOf, source-of-one, source-of-two, shares-turned}
+use Rattle.deltas.specs.Guard.{turn, row-sources}
 use borrow.Author.Needs.{needs}
 use Rattle.deltas.proofs.turn_row_fc2s.Statement.{statement}
 use Rattle.deltas.proofs.turn_row_fc2s.Tie as tie
@@ -115,15 +115,13 @@ returns : tie.Need-returns
 returns c =
     let s = c .before .before .before .before .before .before .before .before .before .before .before .before .before in
     let a = s .args in
-    let t = turn (s .pre .0) (a .n) (s .pre .1 .1) in
     let e = c .before .before .before .before .before .entry in
     let D : Deltas = record { deltas = a .delta-fc2s .now; invU = a .inv-u .now; siteSymCart = a .site-sym-cart .now; rotMapSyms = a .rot-map-syms .now; numAtom = a .num-atom; numSiteSym = a .num-site-sym; numDisp = a .num-disp } in
-    let z : 0 < a .num-atom = omega (arith, s .pre .1 .0) in
     let f : a .n / a .num-site-sym * a .num-atom + e .result ≡ source D (a .n) 1 (a .i) =
     ap (λ x. a .n / a .num-site-sym * a .num-atom + x) (e .ensures) ∙ source-of-one D (a .n) (a .i) (s .pre .1 .0) in
-    let l = row-sources D 1 (a .n) (a .i) _ (s .pre .0) (s .pre .1 .1) z f in
     c .before .before .add-shares9 .ensures
-    ∙ shares-turned D 1 (a .i) (a .n) (a .n / a .num-site-sym * a .num-atom + e .result) (c .before .before .before .before .before .before .before .coefficients2 .result) (c .before .before .before .before .before .before .column .result) (a .row .now) f
+    ∙ shares-turned D 2 (a .num-atom) (a .i) (a .n) (λ j. (a .n / a .num-site-sym * a .num-atom + e .result) * a .num-atom + imageOf D (a .n) j) (c .before .before .before .before .before .before .before .coefficients2 .result) (c .before .before .before .before .before .before .column .result) (a .row .now)
+    (λ j h. ap (λ x. x * a .num-atom + imageOf D (a .n) j) f ∙ source-of-two D (a .n) (a .i) j h)
     (c .before .before .before .before .before .before .before .coefficients2 .ensures ∙ ap (λ r. coefficients r 2 9) (c .before .before .before .before .before .before .before .before .read9 .ensures)) (c .before .before .before .before .before .before .column .ensures)
 
 pub turn-row-fc2s-spec : {M : Type 1} → statement M

@@ -1,27 +1,48 @@
-use mathlib.Core.Path.{_≡_, sym, ap, _∙_}
+use mathlib.Core.Path.{ap, _∙_}
+use Rattle.blocks.specs.Block.{part-block, length-block}
 use lib.ListN.{length}
-use Prim.Native.Nat.{_*_}
-use native.Mathlib.Omega.{arith}
 use Rattle.rotations.specs.Rotation.{sums}
 use borrow.Author.Needs.{needs}
 use Rattle.rotations.proofs.rotated9.Statement.{statement}
 use Rattle.rotations.proofs.rotated9.Tie as tie
 
-slice-aggregate-sums9 : tie.Need-slice-aggregate-sums9
-slice-aggregate-sums9 c = search needs
+mul-at : tie.Need-mul-at
+mul-at c = search needs
 
-sums9-requires : tie.Need-sums9-requires
-sums9-requires c κs =
-    let a = c .before .before .args in
-    let e : length (a .t2) ≡ 9 = search needs in
-    let f : length (a .c .now) ≡ 81 = search needs in
-    (omega arith, omega arith, f ∙ sym (ap (λ n. n * n) e))
+add-turned9 : tie.Need-add-turned9
+add-turned9 c = search needs
+
+mul-turned9 : tie.Need-mul-turned9
+mul-turned9 c = search needs
+
+sub-turned9 : tie.Need-sub-turned9
+sub-turned9 c = search needs
+
+part-turned9-start : tie.Need-part-turned9-start
+part-turned9-start c = search needs
+
+part-turned9-end : tie.Need-part-turned9-end
+part-turned9-end c = search needs
+
+turned9-requires : tie.Need-turned9-requires
+turned9-requires c κs =
+    let s = c .before .before in
+    ap length (part-block 9 (s .args .b) (s .args .fc .now) (s .pre)) ∙ length-block 9 (s .args .b) (s .args .fc .now)
 
 returns : tie.Need-returns
 returns c =
-    let a = c .before .before .before .args in
-    let e : length (a .t2) ≡ 9 = search needs in
-    c .sums9 .ensures ∙ ap (λ n. sums 9 n n 0 (a .c .now) (a .t2)) e
+    let s = c .before .before .before in
+    c .turned9 .ensures ∙ ap (sums 9 9 9 0 (s .args .c .now)) (part-block 9 (s .args .b) (s .args .fc .now) (s .pre))
 
 pub rotated9-spec : {M : Type 1} → statement M
-rotated9-spec = tie.close (tie.spec slice-aggregate-sums9 sums9-requires returns)
+rotated9-spec =
+    tie.close
+    (tie.spec
+    mul-at
+    add-turned9
+    mul-turned9
+    sub-turned9
+    part-turned9-start
+    part-turned9-end
+    turned9-requires
+    returns)

@@ -3,9 +3,6 @@ use Rattle.slabs.specs.Slab.{moveBlock}
 use Rattle.distribute.proofs.fc3.fill_block.Statement.{statement}
 use Rattle.distribute.proofs.fc3.fill_block.Tie as tie
 
-read27-requires : tie.Need-read27-requires
-read27-requires c κs = search needs
-
 rotated27-requires : tie.Need-rotated27-requires
 rotated27-requires c κs = search needs
 
@@ -20,4 +17,4 @@ unfolding moveBlock
 returns c = cc
 
 pub fill-block-spec : {M : Type 1} → statement M
-fill-block-spec = tie.close (tie.spec read27-requires rotated27-requires write27-requires same-length returns)
+fill-block-spec = tie.close (tie.spec rotated27-requires write27-requires same-length returns)

@@ -3,9 +3,6 @@ use Rattle.slabs.specs.Slab.{moveBlock}
 use Rattle.distribute.proofs.fc4.fill_block.Statement.{statement}
 use Rattle.distribute.proofs.fc4.fill_block.Tie as tie
 
-read81-requires : tie.Need-read81-requires
-read81-requires c κs = search needs
-
 rotated81-requires : tie.Need-rotated81-requires
 rotated81-requires c κs = search needs
 
@@ -20,4 +17,4 @@ unfolding moveBlock
 returns c = cc
 
 pub fill-block-spec : {M : Type 1} → statement M
-fill-block-spec = tie.close (tie.spec read81-requires rotated81-requires write81-requires same-length returns)
+fill-block-spec = tie.close (tie.spec rotated81-requires write81-requires same-length returns)

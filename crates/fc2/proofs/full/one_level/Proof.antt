@@ -2,11 +2,6 @@ use Rattle.fc2.specs.FullLoops.{swept}
 use borrow.Author.Needs.{needs}
 use Rattle.fc2.proofs.full.one_level.Statement.{statement}
 use Rattle.fc2.proofs.full.one_level.Tie as tie
-use Rattle.fc2.proofs.full.one_level.Reads as reads
-use Rattle.fc2.proofs.full.one_level.Lts as lts
-use Rattle.fc2.proofs.full.column_drift.Reads as column-drift-reads
-use Rattle.lines.proofs.row_drift.Reads as row-drift-reads
-use Rattle.fc2.proofs.full.set_index_permutation_symmetry_fc.Reads as set-index-permutation-symmetry-fc-reads
 
 column-drift-requires : tie.Need-column-drift-requires
 column-drift-requires c κs = search needs

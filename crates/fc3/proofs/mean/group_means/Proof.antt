@@ -1,79 +1,101 @@
 use mathlib.Core.Path.{_∙_}
+use Rattle.fc3.specs.Mean.{six-sums, lnm-turned, mln-turned, mnl-turned, nlm-turned, nml-turned, means-are}
 use borrow.Author.Needs.{needs}
-use Rattle.fc3.specs.Mean.{means-same, lnm-turned, mln-turned, mnl-turned, nlm-turned, nml-turned, means-are}
 use Rattle.fc3.proofs.mean.group_means.Statement.{statement}
 use Rattle.fc3.proofs.mean.group_means.Tie as tie
 use Rattle.fc3.proofs.mean.group_means.Reads as reads
 use Rattle.fc3.proofs.mean.group_means.Lts as lts
 use Rattle.blocks.proofs.read27.Reads as read27-reads
-use Rattle.fc3.proofs.mean.means.Reads as means-reads
+use Rattle.fc3.proofs.mean.plus.Reads as plus-reads
+use Rattle.fc3.proofs.mean.sixths.Reads as sixths-reads
 use Rattle.orbits.proofs.turn.turn_lnm.Reads as turn-lnm-reads
 use Rattle.orbits.proofs.turn.turn_mln.Reads as turn-mln-reads
 use Rattle.orbits.proofs.turn.turn_mnl.Reads as turn-mnl-reads
 use Rattle.orbits.proofs.turn.turn_nlm.Reads as turn-nlm-reads
 use Rattle.orbits.proofs.turn.turn_nml.Reads as turn-nml-reads
 
--- src/mean.rt:30:9
+-- src/mean.rt:51:9
 read27-requires : tie.Need-read27-requires
 read27-requires c κs = search needs
 
--- src/mean.rt:31:30
+-- src/mean.rt:52:40
 read27-requires-2 : tie.Need-read27-requires-2
 read27-requires-2 c κs = search needs
 
--- src/mean.rt:31:9
+-- src/mean.rt:52:25
 turn-lnm-requires : tie.Need-turn-lnm-requires
 turn-lnm-requires c κs = search needs
 
--- src/mean.rt:32:30
+-- src/mean.rt:52:9
+plus-requires : tie.Need-plus-requires
+plus-requires c κs = search needs
+
+-- src/mean.rt:53:40
 read27-requires-3 : tie.Need-read27-requires-3
 read27-requires-3 c κs = search needs
 
--- src/mean.rt:32:9
+-- src/mean.rt:53:25
 turn-mln-requires : tie.Need-turn-mln-requires
 turn-mln-requires c κs = search needs
 
--- src/mean.rt:33:30
+-- src/mean.rt:53:9
+plus-requires-2 : tie.Need-plus-requires-2
+plus-requires-2 c κs = search needs
+
+-- src/mean.rt:54:40
 read27-requires-4 : tie.Need-read27-requires-4
 read27-requires-4 c κs = search needs
 
--- src/mean.rt:33:9
+-- src/mean.rt:54:25
 turn-mnl-requires : tie.Need-turn-mnl-requires
 turn-mnl-requires c κs = search needs
 
--- src/mean.rt:34:30
+-- src/mean.rt:54:9
+plus-requires-3 : tie.Need-plus-requires-3
+plus-requires-3 c κs = search needs
+
+-- src/mean.rt:55:40
 read27-requires-5 : tie.Need-read27-requires-5
 read27-requires-5 c κs = search needs
 
--- src/mean.rt:34:9
+-- src/mean.rt:55:25
 turn-nlm-requires : tie.Need-turn-nlm-requires
 turn-nlm-requires c κs = search needs
 
--- src/mean.rt:35:30
+-- src/mean.rt:55:9
+plus-requires-4 : tie.Need-plus-requires-4
+plus-requires-4 c κs = search needs
+
+-- src/mean.rt:56:40
 read27-requires-6 : tie.Need-read27-requires-6
 read27-requires-6 c κs = search needs
 
--- src/mean.rt:35:9
+-- src/mean.rt:56:25
 turn-nml-requires : tie.Need-turn-nml-requires
 turn-nml-requires c κs = search needs
 
--- src/mean.rt:36:5
-means-requires : tie.Need-means-requires
-means-requires c κs = search needs
+-- src/mean.rt:56:9
+plus-requires-5 : tie.Need-plus-requires-5
+plus-requires-5 c κs = search needs
 
--- src/mean.rt:26:1
+-- src/mean.rt:57:5
+sixths-requires : tie.Need-sixths-requires
+sixths-requires c κs = search needs
+
+-- src/mean.rt:39:1
 returns : tie.Need-returns
 returns c =
     let f = c .before in
-    let e = f .before .before in
-    let d = e .before .before in
-    let m = d .before .before in
-    let l = m .before .before in
-    let a = l .before .before in
+    let e = f .before .before .before in
+    let d = e .before .before .before in
+    let m = d .before .before .before in
+    let l = m .before .before .before in
+    let a = l .before .before .before in
     let s = a .before .before .args in
-    c .means .ensures
-    ∙ means-same (a .read27 .ensures) (lnm-turned (l .turn-lnm .ensures) (l .before .read272 .ensures)) (mln-turned (m .turn-mln .ensures) (m .before .read273 .ensures))
-    (mnl-turned (d .turn-mnl .ensures) (d .before .read274 .ensures)) (nlm-turned (e .turn-nlm .ensures) (e .before .read275 .ensures)) (nml-turned (f .turn-nml .ensures) (f .before .read276 .ensures))
+    six-sums (c .sixths .ensures) (f .plus5 .ensures) (e .plus4 .ensures) (d .plus3 .ensures) (m .plus2 .ensures) (l .plus .ensures)
+    (a .read27 .ensures) (lnm-turned (l .before .turn-lnm .ensures) (l .before .before .read272 .ensures)) (mln-turned (m .before .turn-mln .ensures) (m .before .before .read273 .ensures))
+    (mnl-turned (d .before .turn-mnl .ensures) (d .before .before .read274 .ensures)) (nlm-turned (e .before .turn-nlm .ensures) (e .before .before .read275 .ensures))
+    (nml-turned (f .before .turn-nml .ensures) (f .before .before .read276 .ensures))
     ∙ means-are (s .fc3 .now) (s .b0) (s .b1) (s .b2) (s .b3) (s .b4) (s .b5)
 
 pub group-means-spec : {M : Type 1} → statement M
@@ -83,13 +105,18 @@ group-means-spec =
     read27-requires
     read27-requires-2
     turn-lnm-requires
+    plus-requires
     read27-requires-3
     turn-mln-requires
+    plus-requires-2
     read27-requires-4
     turn-mnl-requires
+    plus-requires-3
     read27-requires-5
     turn-nlm-requires
+    plus-requires-4
     read27-requires-6
     turn-nml-requires
-    means-requires
+    plus-requires-5
+    sixths-requires
     returns)

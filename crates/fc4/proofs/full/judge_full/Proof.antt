@@ -1,13 +1,14 @@
 use native.Mathlib.Omega.{arith}
-use borrow.Author.Tests.{lt-ltb, le-ltb, eq-eqb, ne-eqb}
+use borrow.Author.Tests.{le-ltb, eq-eqb, ne-eqb}
 use Rattle.fc4.specs.Symmetrize.{judgedFull4}
-use Rattle.fc4.specs.Loops.{small}
+use Rattle.fc4.specs.Loops.{small, judged-above}
 use Rattle.fc4.proofs.full.judge_full.Statement.{statement}
 use Rattle.fc4.proofs.full.judge_full.Tie as tie
 
 returns : tie.Need-returns
-unfolding judgedFull4
-returns c = simp (lt-ltb _ _ (c .if1 .taken))
+returns c =
+    let a = c .before .args in
+    judged-above (a .set-len) (a .work-len) (a .num-atom) (omega arith)
 
 mul-blocks : tie.Need-mul-blocks
 mul-blocks c =

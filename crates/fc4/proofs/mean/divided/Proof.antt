@@ -13,10 +13,10 @@ use Rattle.fc4.proofs.mean.divided.Tie as tie
 
 abbrev Inv-loop : tie.InvT-loop
 Inv-loop sums r₀ k₀ r k =
-    (k ≤ 81) × (length r ≡ 81) × ((j : ℕ) → j < k → getD r j nan ≡ div binary64 (getD sums j nan) (ofBits binary64 0x4038_0000_0000_0000))
+    (k ≤ 9) × (length r ≡ 9) × ((j : ℕ) → j < k → getD r j nan ≡ div binary64 (getD sums j nan) (ofBits binary64 0x4038_0000_0000_0000))
 
 abbrev μ-loop : tie.MeasureT-loop
-μ-loop sums r₀ k₀ r k = 81 - k
+μ-loop sums r₀ k₀ r k = 9 - k
 
 loop-holds : tie.Need-loop-holds Inv-loop μ-loop
 loop-holds c = (search needs, refl, below-none _)
@@ -48,7 +48,7 @@ returns : tie.Need-returns Inv-loop μ-loop
 unfolding divided
 returns c =
     let l = c .before .loop in
-    is-tab nan 81 _ (l .r) (l .inv .1) (λ j h. l .inv .2 j (omega arith))
+    is-tab nan 9 _ (l .r) (l .inv .1) (λ j h. l .inv .2 j (omega arith))
 
 pub divided-spec : {M : Type 1} → statement M
 divided-spec =

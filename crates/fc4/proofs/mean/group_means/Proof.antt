@@ -1,24 +1,76 @@
-use mathlib.Core.Path.{ap, _∙_}
-use Rattle.fc4.specs.Mean.{divided, means-are}
+-- Nine after nine. Assumes nothing.
+use Prim.Native.Nat.{ℕ, _+_, _*_, _≤_, _<_, _-_}
+use native.Mathlib.Omega.{arith}
+use mathlib.Core.Path.{_≡_, refl, sym, ap, ap₂, _∙_}
+use lib.ListN.{length, replicate}
+use lib.Ieee.{binary64, ofBits}
+use Rattle.lists.specs.Tab.{times, times-none, times-more}
+use Rattle.blocks.specs.Block.{putBlock}
+use Rattle.fc4.specs.Mean.{nineSums, divided, meansTo, means-are}
 use borrow.Author.Needs.{needs}
 use Rattle.fc4.proofs.mean.group_means.Statement.{statement}
 use Rattle.fc4.proofs.mean.group_means.Tie as tie
 
-group-sums-requires : tie.Need-group-sums-requires
-group-sums-requires c κs = search needs
+abbrev Inv-loop : tie.InvT-loop
+Inv-loop fc4 bs t v₀ h₀ v h =
+    (h ≤ 9) × (length v ≡ 81) × (v ≡ times h (λ h. putBlock 9 h (divided (nineSums fc4 bs h))) (replicate 81 (ofBits binary64 0)))
 
-divided-requires : tie.Need-divided-requires
+abbrev μ-loop : tie.MeasureT-loop
+μ-loop fc4 bs t v₀ h₀ v h = 9 - h
+
+loop-holds : tie.Need-loop-holds Inv-loop μ-loop
+loop-holds c = (omega arith, refl, times-none _ _)
+
+nine-sums-requires : tie.Need-nine-sums-requires Inv-loop μ-loop
+nine-sums-requires c κs = search needs
+
+divided-requires : tie.Need-divided-requires Inv-loop μ-loop
 divided-requires c κs = search needs
 
-returns : tie.Need-returns
+slice-aggregate-write9 : tie.Need-slice-aggregate-write9 Inv-loop μ-loop
+slice-aggregate-write9 c = search needs
+
+write9-requires : tie.Need-write9-requires Inv-loop μ-loop
+write9-requires c κs = search needs
+
+add-h : tie.Need-add-h Inv-loop μ-loop
+add-h c = search needs
+
+loop-less : tie.Need-loop-less Inv-loop μ-loop
+loop-less c = search needs
+
+loop-again : tie.Need-loop-again Inv-loop μ-loop
+loop-again c =
+    let a = c .before .before .before .before .before .before .before .before in
+    let l = c .before .before .before .before .before .before .loop in
+    let w = c .before .write9 in
+    let n = c .before .before .before .before .nine-sums in
+    let d = c .before .before .before .divided in (
+      omega arith,
+      w .kept .0 ∙ l .inv .1,
+      times-more (l .h) _ _ (l .inv .2) (w .ensures ∙ ap (λ m. putBlock 9 (l .h) m (l .v)) (d .ensures ∙ ap divided (n .ensures))),
+    )
+
+returns : tie.Need-returns Inv-loop μ-loop
+unfolding meansTo
 returns c =
-    let s = c .before .before .before in
-    c .divided .ensures ∙ ap divided (c .before .group-sums .ensures) ∙ means-are (s .args .fc4 .now) (s .args .bs .now) (s .pre .0 .count)
+    let a = c .before .before .before in
+    let l = c .before .loop in
+    let e : l .h ≡ 9 = omega arith in
+    (rw e at (l .inv .2)) ∙ means-are (a .args .fc4 .now) (a .args .bs .now) (a .pre .0 .count)
 
 pub group-means-spec : {M : Type 1} → statement M
 group-means-spec =
     tie.close
     (tie.spec
-    group-sums-requires
+    Inv-loop
+    μ-loop
+    loop-holds
+    nine-sums-requires
     divided-requires
+    slice-aggregate-write9
+    write9-requires
+    add-h
+    loop-less
+    loop-again
     returns)

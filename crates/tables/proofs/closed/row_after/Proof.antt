@@ -1,0 +1,62 @@
+-- `tables::closed::row_after` meets its contract. Assumes nothing.
+use mathlib.Core.Path.{ap, _∙_}
+use native.Mathlib.Omega.{arith}
+use lib.ListN.{getD}
+use Rattle.tables.specs.Generators.{image, image-below, image-read}
+use Rattle.tables.proofs.closed.row_after.Statement.{statement}
+use Rattle.tables.proofs.closed.row_after.Tie as tie
+
+perms-at-requires : tie.Need-perms-at-requires
+perms-at-requires c κs = image-read (c .pre .0 .rows) (c .args .r) (c .args .base) (c .pre .1) (c .pre .0 .below)
+
+perms-at-requires-2 : tie.Need-perms-at-requires-2
+perms-at-requires-2 c κs =
+    let s = c .before in
+    let R = s .pre .0 .rows in
+    image-read R (s .args .u) (c .perms-at .result .0) (s .pre .2) (omega (arith, c .perms-at .ensures, image-below R (s .args .r) (s .args .base) (s .pre .1) (s .pre .0 .below)))
+
+mul-result : tie.Need-mul-result
+mul-result c =
+    let s = c .before .before in
+    let a = s .args in
+    let M = s .pre .0 in
+    let e = c .perms-at2 .ensures ∙ ap (image (a .perms .now) (a .n-satom) (a .u)) (c .before .perms-at .ensures) in
+    omega (arith, e, M .rows .atoms, image-below (M .rows) (a .u) _ (s .pre .2) (image-below (M .rows) (a .r) (a .base) (s .pre .1) (M .below)))
+
+element-copy-out-result : tie.Need-element-copy-out-result
+element-copy-out-result c =
+    let s = c .before .before in
+    let a = s .args in
+    let M = s .pre .0 in
+    let e = c .perms-at2 .ensures ∙ ap (image (a .perms .now) (a .n-satom) (a .u)) (c .before .perms-at .ensures) in
+    omega (arith, e, M .rows .atoms, image-below (M .rows) (a .u) _ (s .pre .2) (image-below (M .rows) (a .r) (a .base) (s .pre .1) (M .below)))
+
+sub-result : tie.Need-sub-result
+sub-result c =
+    let s = c .before .before .before in
+    let a = s .args in
+    let M = s .pre .0 in
+    let e = c .before .perms-at2 .ensures ∙ ap (image (a .perms .now) (a .n-satom) (a .u)) (c .before .before .perms-at .ensures) in
+    let f = ap (λ x. getD (a .sent .now) x 0) e in
+    omega (arith, f, M .named _ (image-below (M .rows) (a .u) _ (s .pre .2) (image-below (M .rows) (a .r) (a .base) (s .pre .1) (M .below))) .0)
+
+returns : tie.Need-returns
+returns c =
+    let s = c .before .before .before in
+    let a = s .args in
+    let M = s .pre .0 in
+    let e = c .before .perms-at2 .ensures ∙ ap (image (a .perms .now) (a .n-satom) (a .u)) (c .before .before .perms-at .ensures) in
+    let f = ap (λ x. getD (a .sent .now) x 0) e in
+    let h = M .named _ (image-below (M .rows) (a .u) _ (s .pre .2) (image-below (M .rows) (a .r) (a .base) (s .pre .1) (M .below))) in
+    (omega (arith, f, h .0, h .1), omega (arith, f, h .0))
+
+pub row-after-spec : {M : Type 1} → statement M
+row-after-spec =
+    tie.close
+    (tie.spec
+    perms-at-requires
+    perms-at-requires-2
+    mul-result
+    element-copy-out-result
+    sub-result
+    returns)
