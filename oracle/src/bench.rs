@@ -76,7 +76,7 @@ impl Bench {
         let mut least = Times { port: f64::MAX, one: f64::MAX, two: f64::MAX, copy: f64::MAX, guard: f64::MAX };
         let start = Instant::now();
         let mut runs = 0;
-        while runs < 3 || (runs < 400 && start.elapsed().as_secs_f64() < self.patience) {
+        while runs < 3 || start.elapsed().as_secs_f64() < self.patience {
             least.copy = least.copy.min(copy_of_set(&mut mine, call));
             restore(&mut mine, call);
             if let Some(check) = &mut check {

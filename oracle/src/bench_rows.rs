@@ -127,13 +127,18 @@ fn deltas(b: &Bench, call: &str, order: usize, n: usize) {
     }
 }
 
+/// With many shifts the check of the tables is most of a call, with four it is little.
+const SECOND: [[usize; 2]; 2] = [[4, 512], [64, 256]];
+
 pub fn second(b: &Bench) {
     for n in [16, 64, 256] {
         full(b, "perm_trans_symmetrize_fc", 2, n);
     }
-    compact(b, "perm_trans_symmetrize_compact_fc", Name::Symmetrize2, [4, 512], 0);
-    compact(b, "set_index_permutation_symmetry_compact_fc", Name::Exchange2, [4, 512], 1);
-    compact(b, "set_index_permutation_symmetry_compact_fc", Name::Exchange2, [4, 512], 0);
+    for sizes in SECOND {
+        compact(b, "perm_trans_symmetrize_compact_fc", Name::Symmetrize2, sizes, 0);
+        compact(b, "set_index_permutation_symmetry_compact_fc", Name::Exchange2, sizes, 1);
+        compact(b, "set_index_permutation_symmetry_compact_fc", Name::Exchange2, sizes, 0);
+    }
     distribute2(b, 256);
 }
 
