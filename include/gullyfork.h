@@ -1,7 +1,7 @@
 /*
  * Gullyfork: force constants of second, third and fourth order, and the matching of atoms.
  *
- * Link with target/staticlib/libcapi.a, which `rt staticlib capi` writes (x86-64 Linux). C99 or later, and C++.
+ * Link with target/staticlib/libcapi.a, which bindings/library writes (x86-64 Linux). C99 or later, and C++.
  *
  * SLICES
  *   A slice is two arguments: a pointer, and the number of elements that it points to. The pointer is aligned for its type and never
@@ -18,8 +18,9 @@
  *   refusals, 1 to 6, are tried in the order of their numbers: all counts before any length, all lengths before any entry, and so on;
  *   the first that applies is answered. A refused call has written nothing: every slice is as it was.
  *   Limits, beyond which a count is refused: 1,024 atoms at second order and in matching, 256 at third, 64 at fourth, and the same
- *   for n_patom, num_trans and num_first; level 1,000; the length of atom_list, num_rot, num_disp and num_site_sym 1,024. 0 is within
- *   every limit.
+ *   for n_patom, num_trans and num_first; level 1,000; the length of atom_list, num_rot, num_disp and num_site_sym 1,024. So more than
+ *   1,024 operations (num_rot, num_site_sym) in one call are refused as more atoms are. 0 is within every limit; but the shift tables
+ *   need a null shift, so a compact call with all counts 0 answers 6, not 0.
  *
  * WORK SLICES
  *   done, atom_list_reverse and rot_delta are memory to work in. What they hold has no influence on the result; a call that ends well
@@ -45,6 +46,8 @@
  *   What each call leaves is proved equal to a definition, which is written to be the result of phonopy/phonors 8e92295164 bit for bit,
  *   any NaN for any NaN; docs/COMPARISON.md says how far the two were compared by running. The floating-point environment has to be the
  *   one that a program starts with: to nearest, subnormal numbers kept.
+ *   The proof's model has one NaN. So where it says that a number is unchanged or that two have the same bits, a NaN may be another
+ *   NaN. In practice a number that is only moved keeps all its bits, also a NaN's; this is tested, not proved.
  */
 #ifndef GULLYFORK_H
 #define GULLYFORK_H
@@ -99,13 +102,18 @@ uint8_t gf_check_shift_tables(
 /* ---- matching ---- */
 
 /*
- * Which rotated position each position lands on. All slots of rot_atom are set to -1; then, for i rising, the lowest free slot j
- * whose rot_pos j is near pos i takes i. Near: the difference of the coordinates less its own rounding, times the lattice rows, is
- * shorter than symprec. NaN is never near.
+ * Which position each rotated position comes from. All slots of rot_atom are set to -1; then, for i rising, the lowest free slot j
+ * whose rot_pos j is near pos i takes i: slot j holds the number of the position that rotated position j comes from. Near: the
+ * difference d of the coordinates, each less its own rounding, is shorter than symprec; component k of its length is row k of the
+ * lattice times d. NaN is never near.
+ * So the basis vectors stand in the COLUMNS of lattice. For a = (3, 0, 0), b = (1, 2, 0), c = (0, 0, 4) it is
+ *     {3, 1, 0,  0, 2, 0,  0, 0, 4}
+ * and d = (0, 0.5, 0) has the length of b / 2, the root of 1.25. With the vectors in the rows, {3, 0, 0,  1, 2, 0,  0, 0, 4}, it would
+ * get the length 1: such a lattice is not refused, and gives wrong distances wherever the cell is oblique.
  * GF_DONE: all slots are filled, and they are a bijection of near pairs. GF_NOT_MATCHED: a slot is left at -1; a match may exist all
  * the same, since a slot once taken is not given up.
  *   rot_atom  num_pos      only written
- *   lattice   9            the cell's rows
+ *   lattice   9            row after row, the basis vectors in the columns
  *   pos       3 x num_pos
  *   rot_pos   3 x num_pos
  * Refusals: 1 (num_pos above 1,024), 2.
@@ -122,16 +130,16 @@ uint8_t gf_compute_permutation(
 
 /*
  * Symmetrizes a full set. Per level: the drift of each column is taken away, the drift of each row, and each number becomes the mean
- * with its counterpart (atoms and directions exchanged). At the end the diagonal blocks are made anew from the sums of the others.
- * Level 0 rewrites the diagonal blocks only.
+ * with its counterpart (atoms and directions exchanged). At the end the on-site blocks (an atom with itself) are made anew
+ * from the sums of the others. Level 0 rewrites the on-site blocks only.
  *   fc  n_satom x n_satom x 9
  * Refusals: 1 (n_satom above 1,024, level above 1,000), 2.
  */
 uint8_t gf_perm_trans_symmetrize_fc(double *fc, size_t fc_len, size_t n_satom, size_t level);
 
 /*
- * Symmetrizes a compact set. Per level: twice the transpose and the row drift, then the averages; at the end the blocks of the atoms
- * with themselves.
+ * Symmetrizes a compact set. Per level: twice the transpose and the row drift, then the averages; at the end the on-site
+ * blocks.
  *   fc    n_patom x n_satom x 9
  *   done  n_patom x n_satom, work
  * Refusals: 1 (a count above 1,024, level above 1,000), 2, 3, 6.
@@ -165,7 +173,8 @@ uint8_t gf_set_index_permutation_symmetry_compact_fc(
     bool transpose);
 
 /*
- * How far the rows of a full set are from adding up to zero: of each atom and pair of directions the sum over the second atom.
+ * How far the rows of a full set are from the acoustic sum rule, by which they add up to zero: of each atom and pair of directions the
+ * sum over the second atom.
  *   GF_DRIFT_STILL      all sums are zero; value 0.0, place 0, 0, 0
  *   GF_DRIFT_WORST      value: the largest absolute value of a sum; place: where it stands (one of the places, if several share it)
  *   GF_DRIFT_NO_NUMBER  a sum is NaN; value NaN, place: the first such sum, by atom and then directions
@@ -185,7 +194,7 @@ uint8_t gf_drift_report(
  * Fills the rows of the listed atoms from those of their representatives. Position i of the list is atom atom_list[i], whose blocks
  * are row fc_indices_of_atom_list[i] of the set. Atom a is represented by atom map_atoms[a]; rotation map_syms[a] sends it there.
  * To block (a, j) of a listed atom a that does not represent itself, block (map_atoms[a], image of j under that rotation) is added,
- * turned by the rotation's transpose on both legs; so row a should be zero before. List entries are taken in order; an atom listed
+ * rotated by the rotation's transpose on both legs; so row a should be zero before. List entries are taken in order; an atom listed
  * twice counts twice; of repeated representatives the last holds.
  *   fc2                      num_first x num_pos x 9
  *   atom_list                up to 1,024 entries below num_pos
@@ -211,14 +220,14 @@ uint8_t gf_distribute_fc2(
 /* ---- third order ---- */
 
 /*
- * Symmetrizes a full set: the six orders of any three (atom, direction) pairs get their mean.
+ * Symmetrizes a full set: the six permutations of any three (atom, direction) pairs get their mean.
  *   fc3  num_atom x num_atom x num_atom x 27
  * Refusals: 1 (num_atom above 256), 2.
  */
 uint8_t gf_set_permutation_symmetry_fc3(double *fc3, size_t fc3_len, size_t num_atom);
 
 /*
- * Symmetrizes a compact set: read out to all atoms, the six orders of any three (atom, direction) pairs then hold the same bits.
+ * Symmetrizes a compact set: read out to all atoms, the six permutations of any three (atom, direction) pairs then hold the same bits.
  *   fc3   n_patom x n_satom x n_satom x 27
  *   done  n_patom x n_satom x n_satom, work
  * Refusals: 1 (a count above 256), 2, 3, 6.
@@ -252,7 +261,7 @@ uint8_t gf_transpose_compact_fc3(
 
 /*
  * Fills slab target from slab source, a slab being all blocks of one first atom: block (i, j) of the target is block
- * (atom_mapping[i], atom_mapping[j]) of the source, turned by rot_cart on each leg. Other slabs stay.
+ * (atom_mapping[i], atom_mapping[j]) of the source, rotated by rot_cart on each leg. Other slabs stay.
  *   fc3           num_first x num_atom x num_atom x 27
  *   atom_mapping  num_atom entries below num_atom
  *   rot_cart      9
@@ -268,7 +277,7 @@ uint8_t gf_distribute_fc3(
 
 /*
  * The blocks of third order of one displaced atom with all pairs of atoms, from the changes that num_disp displacements of that atom
- * make to a set of second order. Each change is turned by each site symmetry; inv_u makes of them one block for each direction of
+ * make to a set of second order. Each change is rotated by each site symmetry; inv_u makes of them one block for each direction of
  * the displaced atom. With num_disp or num_site_sym 0 the result is +0.0 everywhere.
  *   fc3            num_atom x num_atom x 27, only written
  *   delta_fc2s     num_disp x num_atom x num_atom x 9
@@ -290,7 +299,7 @@ uint8_t gf_rotate_delta_fc2s(
 /* ---- fourth order ---- */
 
 /*
- * Symmetrizes a full set: the 24 orders of any four (atom, direction) pairs get their mean.
+ * Symmetrizes a full set: the 24 permutations of any four (atom, direction) pairs get their mean.
  *   fc4   num_atom x num_atom x num_atom x num_atom x 81
  *   done  num_atom x num_atom x num_atom x num_atom, work
  * Refusals: 1 (num_atom above 64), 2.
@@ -301,7 +310,7 @@ uint8_t gf_set_permutation_symmetry_fc4(
     size_t num_atom);
 
 /*
- * Symmetrizes a compact set: read out to all atoms, the 24 orders of any four (atom, direction) pairs then hold the same bits.
+ * Symmetrizes a compact set: read out to all atoms, the 24 permutations of any four (atom, direction) pairs then hold the same bits.
  *   fc4   n_patom x n_satom x n_satom x n_satom x 81
  *   done  n_patom x n_satom x n_satom x n_satom, work
  * Refusals: 1 (a count above 64), 2, 3, 6.
@@ -334,7 +343,7 @@ uint8_t gf_transpose_compact_fc4(
 
 /*
  * Fills slab target from slab source: block (i, j, k) of the target is block (atom_mapping[i], atom_mapping[j], atom_mapping[k]) of
- * the source, turned by rot_cart on each leg. Other slabs stay.
+ * the source, rotated by rot_cart on each leg. Other slabs stay.
  *   fc4           num_first x num_atom x num_atom x num_atom x 81
  *   atom_mapping  num_atom entries below num_atom
  *   rot_cart      9

@@ -10,7 +10,7 @@ fn main() {
     println!("cargo:rerun-if-changed={}", library.display());
     let Ok(found) = fs::canonicalize(&library) else {
         eprintln!("The static library {} is missing.", library.display());
-        eprintln!("Run `rt staticlib capi` at the root of the repository, which proves the library and writes it to target/staticlib,");
+        eprintln!("Run bindings/library of the repository, which proves the library and writes it to target/staticlib,");
         eprintln!("or set GULLYFORK_STATICLIB to the folder that has libcapi.a.");
         process::exit(1);
     };

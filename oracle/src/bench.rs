@@ -1,4 +1,5 @@
-//! Times of the port against the unchanged Rust: both sides in one process, alternating, the least of many runs.
+//! Times of the port against the unchanged Rust: both sides in one process and on one thread, alternating, on the same
+//! slices, each restored just before, the least of many runs. A pool of two threads stands apart.
 use crate::call::{Call, Lent, Numbers};
 use crate::call_tables::Check;
 use crate::memory::most_of;
@@ -14,6 +15,9 @@ pub struct Bench {
     /// How long a row may take, in seconds.
     patience: f64,
 }
+
+/// So many runs before a pool is left: the first may find the caches as another thread left them.
+const RUNS: usize = 4;
 
 /// Least times in seconds.
 struct Times {
@@ -70,28 +74,44 @@ impl Bench {
         println!("|---|---|---|---|---|---|---|---|---|---|---|");
     }
 
+    /// Some runs of both sides, on the thread that asks. What a side finds in the caches is what `restore` left there.
+    fn runs<C: Call>(call: &mut C, lent: &mut C, check: &mut Option<Check>, least: &mut Times) {
+        for _ in 0..RUNS {
+            least.copy = least.copy.min(copy_of_set(lent, call));
+            if let Some(check) = check {
+                least.guard = least.guard.min(clock(|| assert_eq!(black_box(check).port(), 0)));
+            }
+            restore(lent, call);
+            least.port = least.port.min(clock(|| black_box(&mut *lent).port()));
+            restore(lent, call);
+            least.one = least.one.min(clock(|| black_box(&mut *lent).original()));
+        }
+    }
+
+    /// Some runs of the Rust, in the pool that asks.
+    fn original_runs<C: Call>(call: &mut C, lent: &mut C, least: &mut f64) {
+        for _ in 0..RUNS {
+            restore(lent, call);
+            *least = least.min(clock(|| black_box(&mut *lent).original()));
+        }
+    }
+
     fn times<C: Call + Send>(&self, call: &mut C, tables: Option<Tables>, threads: bool) -> Times {
-        let (mut mine, mut theirs) = (call.clone(), call.clone());
+        let (mut lent, mut mine) = (call.clone(), call.clone());
+        mine.port();
         let mut check = tables.map(Check);
         let mut least = Times { port: f64::MAX, one: f64::MAX, two: f64::MAX, copy: f64::MAX, guard: f64::MAX };
         let start = Instant::now();
-        let mut runs = 0;
-        while runs < 3 || start.elapsed().as_secs_f64() < self.patience {
-            least.copy = least.copy.min(copy_of_set(&mut mine, call));
-            restore(&mut mine, call);
-            if let Some(check) = &mut check {
-                least.guard = least.guard.min(clock(|| assert_eq!(black_box(check).port(), 0)));
-            }
-            least.port = least.port.min(clock(|| black_box(&mut mine).port()));
-            restore(&mut theirs, call);
-            least.one = least.one.min(self.one.install(|| clock(|| black_box(&mut theirs).original())));
+        loop {
+            self.one.install(|| Bench::runs(call, &mut lent, &mut check, &mut least));
             if threads {
-                restore(&mut theirs, call);
-                least.two = least.two.min(self.two.install(|| clock(|| black_box(&mut theirs).original())));
+                self.two.install(|| Bench::original_runs(call, &mut lent, &mut least.two));
             }
-            runs += 1;
+            if start.elapsed().as_secs_f64() >= self.patience {
+                break;
+            }
         }
-        assert!(agree(&mut mine, &mut theirs), "the sides differ");
+        assert!(agree(&mut mine, &mut lent), "the sides differ");
         least
     }
 

@@ -141,6 +141,12 @@ pub trait Call: Clone + Debug {
     /// The library on this call's slices, by its C name; the answer's number.
     fn port(&mut self) -> u8;
 
+    /// Whether a call that ends well makes number k of that slice by arithmetic, so that a NaN there may be any NaN.
+    /// Every other number is moved or left as it was, and its bits stay.
+    fn made(&self, slice: usize, _k: usize) -> bool {
+        slice == 0
+    }
+
     /// One change of what refusals 4, 5 and 6 look at.
     fn spoil(&mut self, _: &mut Rng) {}
 

@@ -131,6 +131,12 @@ impl Call for Compact {
         }
     }
 
+    /// Transposes move.
+    fn made(&self, slice: usize, _: usize) -> bool {
+        let moves = matches!(self.name, Name::Transpose3 | Name::Transpose4) || self.name == Name::Exchange2 && self.t_type == 1;
+        slice == 0 && !moves
+    }
+
     fn spoil(&mut self, r: &mut Rng) {
         if self.tables.sized() {
             damage(r, &mut self.tables);

@@ -66,6 +66,12 @@ impl Call for Distribute {
         }
     }
 
+    /// The rows of listed atoms that do not represent themselves.
+    fn made(&self, slice: usize, k: usize) -> bool {
+        let filled = |(a, row): (&i64, &i64)| *row as usize == k / (9 * self.num_pos) && self.map_atoms[*a as usize] != *a;
+        slice == 0 && self.atom_list.iter().zip(&self.fc_indices).any(filled)
+    }
+
     fn spoil(&mut self, r: &mut Rng) {
         let n = self.num_pos.clamp(1, 1 << 20);
         match r.below(4) {

@@ -11,9 +11,9 @@ pub struct Drift {
     pub n_satom: usize,
 }
 
-const STILL: u8 = 65;
-const WORST: u8 = 66;
-const NO_NUMBER: u8 = 67;
+pub const STILL: u8 = 65;
+pub const WORST: u8 = 66;
+pub const NO_NUMBER: u8 = 67;
 
 impl Drift {
     /// "each row sum over the second atom, from 0.0, rising", by atom and then directions.
@@ -62,6 +62,11 @@ impl Call for Drift {
                 self.place.as_mut_ptr() as *mut usize, self.place.len(), self.n_satom,
             )
         }
+    }
+
+    /// The value.
+    fn made(&self, slice: usize, _: usize) -> bool {
+        slice == 1
     }
 
     /// "If several places share the worst value, any of them may be named."

@@ -50,6 +50,12 @@ impl Call for Slabs {
         }
     }
 
+    /// The target slab.
+    fn made(&self, slice: usize, k: usize) -> bool {
+        let slab = self.num_atom.pow(self.order as u32 - 1) * 3usize.pow(self.order as u32);
+        slice == 0 && k / slab == self.target
+    }
+
     fn spoil(&mut self, r: &mut Rng) {
         let n = self.num_first;
         let slab = [n, n.wrapping_add(1), n.wrapping_sub(1), usize::MAX, self.source, self.target, 0][r.below(7)];

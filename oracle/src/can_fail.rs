@@ -12,6 +12,8 @@ use crate::spoil::perhaps_spoilt;
 use crate::tally::Tally;
 use crate::{compare, compare_common};
 
+const REFUSALS: std::ops::RangeInclusive<u8> = 1..=6;
+
 fn stand_in<C: Call>(call: &mut C) -> u8 {
     let number = refusal(call);
     if number > 0 {
@@ -22,10 +24,11 @@ fn stand_in<C: Call>(call: &mut C) -> u8 {
     number
 }
 
-/// Flips a bit of a number of the slice; a NaN is left, for any NaN equals any NaN. True if a bit was flipped.
-fn flip(lent: &mut Lent, at: usize, bit: usize) -> bool {
+/// Flips a bit of a number of the slice; a NaN that arithmetic `made` is left, for any NaN equals it. True if a bit was
+/// flipped.
+fn flip(lent: &mut Lent, at: usize, bit: usize, made: bool) -> bool {
     match &mut lent.numbers {
-        Numbers::Floats(v) if v[at].is_nan() => return false,
+        Numbers::Floats(v) if v[at].is_nan() && made => return false,
         Numbers::Floats(v) => v[at] = f64::from_bits(v[at].to_bits() ^ 1 << bit),
         Numbers::Integers(v) => v[at] ^= 1 << bit,
         Numbers::Bytes(v) => v[at] ^= 1 << (bit % 8),
@@ -50,7 +53,8 @@ fn seen_but<C: Call>(free: usize, make: impl Fn(&mut Rng) -> C) {
         let done = std::cell::Cell::new(false);
         tally.call(&mut call, &|c: &mut C| {
             let number = stand_in(c);
-            done.set(n > 0 && flip(&mut c.parts().slices[slice], at, bit));
+            let made = n > 0 && !REFUSALS.contains(&number) && c.made(slice, at);
+            done.set(n > 0 && flip(&mut c.parts().slices[slice], at, bit, made));
             number
         });
         assert_eq!(tally.differences, done.get() as u64, "slice {slice}, number {at}, bit {bit}");

@@ -86,7 +86,7 @@ fn one(name: &str, seed: u64, count: u64) -> Option<Tally> {
 }
 
 /// `count` calls of the given name, or of each name, or the calls at their limits. True if there were some and all
-/// agree, any NaN equal to any NaN.
+/// agree, NaN that arithmetic made equal to any NaN.
 pub fn compare(name: &str, seed: u64, count: u64) -> Option<bool> {
     if !["all", "limits"].contains(&name) && !CALLS.contains(&name) {
         return None;
@@ -99,10 +99,10 @@ pub fn compare(name: &str, seed: u64, count: u64) -> Option<bool> {
         _ => names().filter_map(|call| one(call, seed, count)).collect(),
     });
     let sum = |f: fn(&Tally) -> u64| tallies.iter().map(f).sum::<u64>();
-    let (numbers, nans, differences) = (sum(|t| t.numbers), sum(|t| t.nans), sum(|t| t.differences));
+    let (numbers, nans, kept, differences) = (sum(|t| t.numbers), sum(|t| t.nans), sum(|t| t.kept), sum(|t| t.differences));
     let calls = sum(|t| t.answers.values().sum());
     let absent: Vec<&&str> = names().filter(|call| !present(call)).collect();
-    println!("seed {seed}: {calls} calls, {numbers} numbers ({nans} NaN), {differences} differences");
+    println!("seed {seed}: {calls} calls, {numbers} numbers ({nans} NaN, {kept} by their bits), {differences} differences");
     if !absent.is_empty() {
         println!("left out, for the library does not have them: {absent:?}");
     }

@@ -3,7 +3,6 @@
 use crate::call::{refusal, Call};
 use crate::call_compact::{Compact, Name};
 use crate::groups::random_tables;
-use crate::record::float_word;
 use crate::rng::Rng;
 use crate::shifts::Tables;
 use crate::spoil::spoil;
@@ -117,8 +116,9 @@ fn fed(mut table: Vec<f64>, n: usize, list: &[Compact], answers: &[u8]) -> Vec<f
     table
 }
 
+/// The same bits, those of NaN too: transposes move.
 fn same(a: &[f64], b: &[f64]) -> bool {
-    a.len() == b.len() && a.iter().zip(b).all(|(x, y)| float_word(*x) == float_word(*y))
+    a.len() == b.len() && a.iter().zip(b).all(|(x, y)| x.to_bits() == y.to_bits())
 }
 
 fn describe(what: &str, tables: &Tables, list: &[Compact], answers: &[u8]) -> String {
@@ -193,7 +193,7 @@ pub fn same_order(tally: &mut Tally, r: &mut Rng, count: u64) {
             *tally.answers.entry(*answer).or_default() += 1;
         }
         tally.numbers += before.len() as u64;
-        if first.iter().map(|x| x.to_bits()).ne(second.iter().map(|x| x.to_bits())) {
+        if !same(&first, &second) {
             tally.differ(before.len(), || describe("the same order, but not the same bits", &tables, &one, &answers));
         }
     }

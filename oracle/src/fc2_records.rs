@@ -3,7 +3,7 @@
 use crate::call::{fit, refusal, Call, Lent};
 use crate::call_compact::{Compact, Name};
 use crate::call_distribute::Distribute;
-use crate::call_drift::Drift;
+use crate::call_drift::{Drift, NO_NUMBER, STILL, WORST};
 use crate::call_full::Full;
 use crate::record::{counted, float_word, report, Record, Replay};
 use crate::rng::Rng;
@@ -30,7 +30,7 @@ impl Inputs {
     /// Whether the replay program has room for them.
     fn fit(&self) -> bool {
         let work = if self.tables.len() > 4 { 64 } else { 256 };
-        self.set <= 2048 && self.work <= work && self.rotations <= 64 && self.entries() <= 2560
+        self.set <= 3072 && self.work <= work && self.rotations <= 64 && self.entries() <= 2560
     }
 }
 
@@ -132,29 +132,30 @@ impl Recorded for Drift {
     /// The C name's slices for value and place are no part of the call.
     fn fill(&mut self, seed: u64, kinds: [u64; 2]) {
         self.set = values::floats(self.set.len(), seed, kinds[0]);
-        self.value = vec![0.0];
-        self.place = vec![0; 3];
+        self.value = vec![7.0];
+        self.place = vec![7; 3];
     }
 
     fn inputs(&self) -> Inputs {
         Inputs { set: self.set.len(), work: 0, rotations: 0, counts: [self.n_satom, 0, 0], level: 0, tables: vec![] }
     }
 
-    /// The case, the value, and the place; the place of a worst drift is free, so there the value again.
+    /// The case by the C name's number, 0 of a refusal, the value, and the place, its directions not above 2; the place of
+    /// a worst drift is free, so there the value again.
     fn left(&self, done: bool) -> [u64; 3] {
         let value = float_word(self.value[0]);
-        let place = self.place.iter().fold(0, |at, k| at * 3 + *k as u64);
+        let place = 9 * self.place[0] as u64 + 3 * self.place[1].min(2) as u64 + self.place[2].min(2) as u64;
         match self.value[0] {
-            _ if !done => [0; 3],
-            0.0 => [0, value, place],
-            x if x.is_nan() => [2, value, place],
-            _ => [1, value, value],
+            _ if !done => [0, value, place],
+            0.0 => [STILL as u64, value, place],
+            x if x.is_nan() => [NO_NUMBER as u64, value, place],
+            _ => [WORST as u64, value, value],
         }
     }
 }
 
 /// The words of a record: how many follow; the call; its answer; three words that it left; seed; kinds of the numbers
-/// of the set and, times 8, of the rotations; lengths of the set and of the work slice; three counts; level; lengths of
+/// of the set and, times 16, of the rotations; lengths of the set and of the work slice; three counts; level; lengths of
 /// five tables; length of the rotations; the entries of the tables.
 fn record<C: Recorded>(mut call: C, seed: u64, kinds: [u64; 2]) -> Record {
     call.fill(seed, kinds);
@@ -166,7 +167,7 @@ fn record<C: Recorded>(mut call: C, seed: u64, kinds: [u64; 2]) -> Record {
     }
     let mut words = vec![call.number(), answer as u64];
     words.extend(call.left(answer == 0));
-    words.extend([seed, kinds[0] + 8 * kinds[1], inputs.set as u64, inputs.work as u64]);
+    words.extend([seed, kinds[0] + 16 * kinds[1], inputs.set as u64, inputs.work as u64]);
     words.extend(inputs.counts.map(|n| n as u64));
     words.push(inputs.level as u64);
     words.extend((0..5).map(|k| inputs.tables.get(k).map_or(0, |t| t.len() as u64)));
@@ -186,6 +187,13 @@ impl Recorder {
         let seed = self.r.bits() >> 1;
         let rotations = if self.r.below(3) == 0 { self.r.bits() % values::KINDS } else { 0 };
         self.records.push(record(call, seed, [kind, rotations]));
+    }
+
+    /// A call with rotations of that kind.
+    fn add_rotated<C: Recorded>(&mut self, call: C, kinds: [u64; 2]) {
+        assert!(call.inputs().fit(), "no room for {call:?}");
+        let seed = self.r.bits() >> 1;
+        self.records.push(record(call, seed, kinds));
     }
 
     /// So many calls of each refusal, with short tables: calls that are made and then changed.
@@ -209,17 +217,18 @@ impl Recorder {
 
 fn full(atoms: usize, level: usize) -> Full {
     let mut call = Full { level, ..Full::new(2, atoms) };
-    fit(&mut call, 2048);
+    fit(&mut call, 3072);
     call
 }
 
 fn drift(n_satom: usize) -> Drift {
     let mut call = Drift { set: vec![], value: vec![0.0], place: vec![0; 3], n_satom };
-    fit(&mut call, 2048);
+    fit(&mut call, 3072);
     call
 }
 
-const ATOMS: [usize; 6] = [0, 1, 2, 3, 5, 8];
+/// Columns are worked at eight at a time: fewer, as many, one more, and two times as many and one more.
+const ATOMS: [usize; 8] = [0, 1, 2, 3, 5, 8, 9, 17];
 
 fn full_sets(all: &mut Recorder) {
     for atoms in ATOMS {
@@ -228,6 +237,14 @@ fn full_sets(all: &mut Recorder) {
                 all.add(full(atoms, level), kind);
             }
             all.add(drift(atoms), kind);
+        }
+    }
+    // a drift that is tiny and not zero, sums of -0.0, and numbers whose averages overflow
+    for atoms in ATOMS {
+        for kind in [values::TINY, values::MINUS_ZEROS, values::LARGEST] {
+            all.add(drift(atoms), kind);
+            all.add(full(atoms, 0), kind);
+            all.add(full(atoms, 1), kind);
         }
     }
     for atoms in 1..=3 {
@@ -264,6 +281,15 @@ fn compact_sets(all: &mut Recorder, name: Name) {
             }
         }
     }
+    // a block's own diagonal that overflows, and sets of -0.0
+    for g in &groups::all()[..4] {
+        for (kind, type_or_level) in [(values::LARGEST, 0), (values::LARGEST, 1), (values::MINUS_ZEROS, 0), (values::TINY, 1)] {
+            let t = tables(g, 1, Some(&mut all.r));
+            let mut call = compact(&mut all.r, name, t);
+            (call.level, call.t_type) = (type_or_level, type_or_level as i64);
+            all.add(call, kind);
+        }
+    }
     for num_trans in [0, 1, 2, 1024, 1025] {
         let nothing = Tables { num_trans, ..tables(&groups::all()[0], 0, None) };
         let call = compact(&mut all.r, name, nothing);
@@ -293,6 +319,11 @@ fn distributed(all: &mut Recorder) {
         let call = small(&mut all.r);
         all.add(call, k % values::KINDS);
     }
+    // blocks of -0.0, to which +0.0 is added
+    for _ in 0..6 {
+        let call = small(&mut all.r);
+        all.add_rotated(call, [values::MINUS_ZEROS, values::POSITIVE]);
+    }
     all.refused(10, small);
     // sheet 11 and its like: one atom too many, and a list too long
     let call = small(&mut all.r);
@@ -301,9 +332,7 @@ fn distributed(all: &mut Recorder) {
 }
 
 /// Sheet 11, second order: 1,025 atoms.
-fn sheets(all: &mut Recorder) {
-    all.add(full(1025, 0), 0);
-    all.add(drift(1025), 0);
+fn compact_sheets(all: &mut Recorder) {
     for name in [Name::Symmetrize2, Name::Exchange2] {
         let mut t = tables(&groups::all()[1], 1, None);
         t.n_satom = 1025;
@@ -312,26 +341,29 @@ fn sheets(all: &mut Recorder) {
     }
 }
 
-pub fn replay() -> Replay {
+fn sheets(all: &mut Recorder) {
+    all.add(full(1025, 0), 0);
+    all.add(drift(1025), 0);
+}
+
+/// Full sets, drift reports, the distributor.
+pub fn second() -> Replay {
     let mut all = Recorder { r: Rng::new(8), records: vec![] };
     sheets(&mut all);
     full_sets(&mut all);
+    distributed(&mut all);
+    let stdout = report("second order", &all.records, 2);
+    Replay::new(all.records, stdout, 4)
+}
+
+/// Compact sets.
+pub fn compact_second() -> Replay {
+    let mut all = Recorder { r: Rng::new(9), records: vec![] };
+    compact_sheets(&mut all);
     compact_sets(&mut all, Name::Symmetrize2);
     compact_sets(&mut all, Name::Exchange2);
-    distributed(&mut all);
-    let records = all.records;
-    let names = [
-        "perm_trans_symmetrize_fc",
-        "perm_trans_symmetrize_compact_fc",
-        "set_index_permutation_symmetry_compact_fc",
-        "distribute_fc2",
-        "drift_report",
-    ];
-    let mut stdout = report("second order", &records, 2);
-    for (k, name) in names.iter().enumerate() {
-        stdout += &format!("{name}: {}\n", records.iter().filter(|r| r[1] == k as u64 + 1).count());
-    }
-    Replay::new(records, stdout, 4)
+    let stdout = report("second order, compact sets", &all.records, 2);
+    Replay::new(all.records, stdout, 4)
 }
 
 #[cfg(test)]
@@ -340,16 +372,32 @@ mod tests {
 
     #[test]
     fn every_call_and_refusal_is_recorded() {
-        let records = replay().records;
+        let records = [second().records, compact_second().records].concat();
         let all: [(u64, &[u64]); 5] = [(1, &[0, 1, 2]), (2, &[0, 1, 2, 3, 6]), (3, &[0, 1, 2, 3, 6]), (4, &[0, 1, 2, 3, 5]), (5, &[0, 1, 2])];
         for (call, answers) in all {
             for answer in answers {
                 assert!(records.iter().any(|r| r[1] == call && r[2] == *answer), "call {call}, answer {answer}");
             }
         }
-        for case in 0..3 {
-            assert!(records.iter().any(|r| r[1] == 5 && r[2] == 0 && r[3] == case), "drift {case}");
+        for case in [STILL, WORST, NO_NUMBER] {
+            assert!(records.iter().any(|r| r[1] == 5 && r[2] == 0 && r[3] == case as u64), "drift {case}");
         }
+        let tiny = |r: &&Record| r[1] == 5 && r[2] == 0 && r[3] == WORST as u64 && f64::from_bits(r[4]) < 1e-300;
+        assert!(records.iter().filter(tiny).count() > 3);
+    }
+
+    // (x + x) / 2 is infinite where x is one of the largest numbers; the full call leaves its own diagonal alone
+    #[test]
+    fn own_diagonals_overflow() {
+        let mut call = compact(&mut Rng::new(1), Name::Exchange2, tables(&groups::all()[0], 1, None));
+        call.t_type = 0;
+        call.fill(5, [values::LARGEST, 0]);
+        assert!(call.set.iter().all(|x| x.is_finite()));
+        call.original();
+        assert!([0, 4, 8].iter().all(|k| call.set[*k].is_infinite()));
+        let records = compact_second().records;
+        let one_atom = |r: &&Record| r[1] == 3 && r[2] == 0 && r[7] % 16 == values::LARGEST && r[10] == 1 && r[13] == 0;
+        assert!(records.iter().any(|r| one_atom(&r)));
     }
 
     // sheet 11: 1,025 atoms, and every slice as it was
@@ -357,10 +405,11 @@ mod tests {
     fn sheet_11() {
         let mut all = Recorder { r: Rng::new(8), records: vec![] };
         sheets(&mut all);
+        compact_sheets(&mut all);
         for r in &all.records {
             assert_eq!((r[2], r[10]), (1, 1025));
             if r[1] != 5 {
-                assert_eq!(r[3], values::sum(&values::floats(r[8] as usize, r[6], r[7] % 8)));
+                assert_eq!(r[3], values::sum(&values::floats(r[8] as usize, r[6], r[7] % 16)));
                 assert_eq!(r[4], values::byte_sum(&values::bytes(r[9] as usize, r[6] + 1)));
             }
         }

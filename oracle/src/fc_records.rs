@@ -4,7 +4,7 @@ use crate::record::{counted, report, Record, Replay};
 use crate::rng::Rng;
 use crate::shift_records::{groups, zeros};
 use crate::shifts::{cyclic, product, s3, tables, Tables};
-use crate::values::{byte_sum, bytes, fill, sum, KINDS};
+use crate::values::{byte_sum, bytes, fill, sum, KINDS, LARGEST, MINUS_ZEROS, TINY};
 use crate::{fc3, fc4};
 
 /// Document 01's limit of the counts.
@@ -128,7 +128,8 @@ impl Call {
 /// Full sets of 0 to 4 atoms, of every kind, and refused ones.
 fn full(order: u32) -> Vec<Call> {
     let call = |n: usize, kind: u64| Call::new(order, Name::Full, 0, kind, Tables { n_satom: n, ..none() });
-    let mut calls: Vec<Call> = (0..5).flat_map(|n| (0..KINDS).map(move |kind| call(n, kind))).collect();
+    let kinds = || (0..KINDS).chain([MINUS_ZEROS, TINY, LARGEST]);
+    let mut calls: Vec<Call> = (0..5).flat_map(|n| kinds().map(move |kind| call(n, kind))).collect();
     for n in [limit(order) + 1, usize::MAX] {
         let mut large = call(2, 0);
         large.tables.n_satom = n;
@@ -188,7 +189,7 @@ fn good(order: u32, r: &mut Rng) -> Vec<Call> {
     let z2 = cyclic(2);
     for g in [cyclic(1), cyclic(2), cyclic(3), product(&z2, &z2)] {
         let t = tables(&g, 1, Some(r));
-        for kind in 0..KINDS {
+        for kind in (0..KINDS).chain([MINUS_ZEROS, TINY, LARGEST]) {
             calls.push(Call::new(order, Name::Compact, 0, kind, t.clone()));
         }
         for (k, ty) in types(order).into_iter().enumerate() {
@@ -330,10 +331,10 @@ fn calls(order: u32) -> Vec<Call> {
     calls
 }
 
-/// The words of a record: see README.md. The sets of both orders are lent from one memory.
-pub fn replay() -> Replay {
-    let mut memory = vec![0.0; room(4)];
-    let records: Vec<Record> = [3, 4].into_iter().flat_map(calls).map(|call| call.record(&mut memory)).collect();
-    let stdout = report("third and fourth order", &records, 1);
-    Replay::new(records, stdout, 8)
+/// The words of a record: see README.md. All sets are lent from one memory.
+pub fn replay(order: u32) -> Replay {
+    let mut memory = vec![0.0; room(order)];
+    let records: Vec<Record> = calls(order).into_iter().map(|call| call.record(&mut memory)).collect();
+    let stdout = report(if order == 3 { "third order" } else { "fourth order" }, &records, 1);
+    Replay::new(records, stdout, 4)
 }

@@ -49,7 +49,7 @@ mod wild;
 #[global_allocator]
 static HEAP: memory::Counting = memory::Counting;
 
-const USAGE: &str = "oracle record common|shifts|matching|second|symmetry|distribute|deltas FOLDER
+const USAGE: &str = "oracle record common|shifts|matching|second|compact|third|fourth|distribute|deltas FOLDER
 oracle flip PROGRAM FOLDER COUNT
 oracle compare all|limits|CALL [SEED [COUNT]]
 oracle bench all|common|cells|fc2|fc3|fc4|tables [SECONDS]";
@@ -63,8 +63,10 @@ fn record(name: &str, folder: &Path) -> Outcome {
         "common" => floats::replay(),
         "shifts" => shift_records::replay(),
         "matching" => matching::replay(),
-        "second" => fc2_records::replay(),
-        "symmetry" => fc_records::replay(),
+        "second" => fc2_records::second(),
+        "compact" => fc2_records::compact_second(),
+        "third" => fc_records::replay(3),
+        "fourth" => fc_records::replay(4),
         "distribute" => slab_records::distribute(),
         "deltas" => slab_records::deltas(),
         _ => return None,
@@ -116,7 +118,7 @@ fn main() {
         ["record", name, folder] => record(name, Path::new(folder)),
         ["flip", program, folder, count] => count.parse().ok().map(|count| flip::flip(program, Path::new(folder), count)),
         ["compare", ..] | ["bench", ..] if !port::has("nint") => {
-            eprintln!("compare and bench need libcapi.a: run `rt staticlib capi` and build again");
+            eprintln!("compare and bench need libcapi.a: run `bindings/library` and build again");
             Some(false)
         }
         ["compare", ..] => compare(&words[1..]),

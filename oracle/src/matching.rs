@@ -196,6 +196,87 @@ fn sheets() -> Vec<Call> {
     ]
 }
 
+/// Near by document 01's sentence, and by eight others that are nearly it: what is recorded has to tell them apart.
+type Near = fn(&[f64; 9], [f64; 3], f64) -> bool;
+
+fn rows(l: &[f64; 9], d: [f64; 3]) -> [f64; 3] {
+    [0, 3, 6].map(|k| l[k] * d[0] + l[k + 1] * d[1] + l[k + 2] * d[2])
+}
+
+fn rounded(d: [f64; 3]) -> [f64; 3] {
+    d.map(|x| x - x.round())
+}
+
+fn distance(c: [f64; 3]) -> f64 {
+    (c[0] * c[0] + c[1] * c[1] + c[2] * c[2]).sqrt()
+}
+
+const RIGHT: Near = |l, d, s| distance(rows(l, rounded(d))) < s;
+
+const WRONG: [Near; 9] = [
+    // squares, and products, summed in another order
+    |l, d, s| {
+        let c = rows(l, rounded(d));
+        distance([c[1], c[2], c[0]]) < s
+    },
+    |l, d, s| {
+        let c = rows(l, rounded(d));
+        distance([c[2], c[0], c[1]]) < s
+    },
+    |l, d, s| {
+        let d = rounded(d);
+        distance(rows(&[l[1], l[2], l[0], l[4], l[5], l[3], l[7], l[8], l[6]], [d[1], d[2], d[0]])) < s
+    },
+    |l, d, s| {
+        let d = rounded(d);
+        distance(rows(&[l[2], l[0], l[1], l[5], l[3], l[4], l[8], l[6], l[7]], [d[2], d[0], d[1]])) < s
+    },
+    // halves to even, and up
+    |l, d, s| distance(rows(l, d.map(|x| x - x.round_ties_even()))) < s,
+    |l, d, s| distance(rows(l, d.map(|x| x - (x + 0.5).floor()))) < s,
+    // columns for rows
+    |l, d, s| distance(rows(&[l[0], l[3], l[6], l[1], l[4], l[7], l[2], l[5], l[8]], rounded(d))) < s,
+    // no root, and the limit itself
+    |l, d, s| {
+        let c = rows(l, rounded(d));
+        c[0] * c[0] + c[1] * c[1] + c[2] * c[2] < s * s
+    },
+    |l, d, s| distance(rows(l, rounded(d))) <= s,
+];
+
+/// So many calls tell each of those apart from document 01's.
+const TOLD: usize = 4;
+
+/// One atom in an oblique lattice, at a distance that is next to the tolerance; differences are halves of whole numbers for the most part.
+fn next_to_it(r: &mut Rng) -> Call {
+    let lattice = std::array::from_fn(|k| if k % 4 == 0 { 3.0 + 4.0 * r.unit() } else { 4.0 * r.unit() - 2.0 });
+    let rot: Vec<f64> = (0..3).map(|_| r.below(64) as f64 / 64.0).collect();
+    let difference = |r: &mut Rng| if r.below(3) > 0 { r.below(7) as f64 - 3.5 } else { r.unit() };
+    let pos: Vec<f64> = rot.iter().map(|x| x + difference(r)).collect();
+    let d = std::array::from_fn(|k| pos[k] - rot[k]);
+    let exact = distance(rows(&lattice, rounded(d)));
+    let symprec = [exact, exact.next_up(), exact.next_down()][r.below(3)];
+    Call::new(lattice, symprec, pos, rot)
+}
+
+fn tells(call: &Call, wrong: Near) -> bool {
+    let d = std::array::from_fn(|k| call.pos[k] - call.rot_pos[k]);
+    wrong(&call.lattice, d, call.symprec) != RIGHT(&call.lattice, d, call.symprec)
+}
+
+fn told_apart() -> Vec<Call> {
+    let mut r = Rng::new(5);
+    let mut calls: Vec<Call> = vec![];
+    while WRONG.iter().any(|wrong| calls.iter().filter(|call| tells(call, *wrong)).count() < TOLD) {
+        let call = next_to_it(&mut r);
+        let new = |wrong: &&Near| tells(&call, **wrong) && calls.iter().filter(|call| tells(call, **wrong)).count() < TOLD;
+        if WRONG.iter().any(|wrong| new(&wrong)) {
+            calls.push(call);
+        }
+    }
+    calls
+}
+
 fn refused() -> Vec<Call> {
     let mut r = Rng::new(4);
     let (pos, rot) = pair(&mut r, Kind::Permuted, 2);
@@ -218,6 +299,7 @@ fn refused() -> Vec<Call> {
 pub fn replay() -> Replay {
     let mut calls = sheets();
     calls.extend(matched());
+    calls.extend(told_apart());
     calls.extend(refused());
     let records: Vec<Record> = calls.iter().map(Call::record).collect();
     let answers = |matched: u64| records.iter().filter(|r| r[1] == 0 && r[2] == matched).count();
@@ -245,6 +327,17 @@ mod tests {
         assert_eq!(answers[3], (0, false, vec![0, -1]));
         assert_eq!(answers[4], (0, false, vec![-1]));
         assert_eq!(answers[5], (0, false, vec![-1]));
+    }
+
+    // what is recorded is the original's answer: its sentence is RIGHT
+    #[test]
+    fn wrong_distances_are_told_apart() {
+        let calls = told_apart();
+        assert!(calls.len() <= TOLD * WRONG.len());
+        for call in calls {
+            let d = std::array::from_fn(|k| call.pos[k] - call.rot_pos[k]);
+            assert_eq!(answer(&call).1, RIGHT(&call.lattice, d, call.symprec));
+        }
     }
 
     #[test]

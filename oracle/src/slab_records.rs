@@ -3,7 +3,7 @@ use crate::call::LIST;
 use crate::fc_records::{limit, shorten, width};
 use crate::record::{counted, report, Record, Replay};
 use crate::rng::Rng;
-use crate::values::{floats, sum, KINDS};
+use crate::values::{floats, sum, KINDS, MINUS_ZEROS, POSITIVE, TINY};
 use crate::{fc3, fc4};
 
 /// A distribute call.
@@ -62,17 +62,21 @@ impl Distribute {
         }
     }
 
-    fn record(&self) -> Record {
-        assert!(self.set <= 32768 && self.map.len() <= 16 && self.rotation <= 16, "no room");
+    /// The set after the call.
+    fn left(&self) -> Vec<f64> {
         let mut set = floats(self.set, self.seed, self.kind);
         let rotation = floats(self.rotation, self.seed + 1, self.rotation_kind);
-        let refusal = self.refusal();
-        match (refusal, self.order) {
+        match (self.refusal(), self.order) {
             (0, 3) => fc3::distribute_fc3(&mut set, self.target, self.source, &self.map, self.num_atom, &rotation),
             (0, _) => fc4::distribute_fc4(&mut set, self.target, self.source, &self.map, self.num_atom, &rotation),
             _ => {}
         }
-        let mut words = vec![refusal, sum(&set), self.order as u64, self.seed, self.kind];
+        set
+    }
+
+    fn record(&self) -> Record {
+        assert!(self.set <= 32768 && self.map.len() <= 16 && self.rotation <= 16, "no room");
+        let mut words = vec![self.refusal(), sum(&self.left()), self.order as u64, self.seed, self.kind];
         words.extend([self.set, self.target, self.source, self.num_atom, self.num_first].map(|n| n as u64));
         words.extend([self.map.len() as u64, self.rotation as u64, self.rotation_kind]);
         words.extend(self.map.iter().map(|x| *x as u64));
@@ -99,6 +103,13 @@ fn distributed(order: u32, r: &mut Rng) -> Vec<Distribute> {
                 (call.kind, call.rotation_kind) = [(0, 0), (r.bits() % KINDS, 0), (0, r.bits() % KINDS), (7, 1)][k];
                 calls.push(call);
             }
+        }
+    }
+    // each slab from each other one; blocks of -0.0, which sums from 0.0 make +0.0; numbers that are rounded to subnormal ones
+    for (target, source) in [(0, 1), (1, 0), (0, 2), (2, 0), (1, 2), (2, 1)] {
+        for (kind, rotation_kind) in [(0, 0), (MINUS_ZEROS, POSITIVE), (TINY, 0)] {
+            let map = some_map(r, 2);
+            calls.push(Distribute { target, source, kind, rotation_kind, ..Distribute::new(order, 2, 3, map) });
         }
     }
     let most = limit(order);
@@ -219,22 +230,27 @@ impl Delta {
         }
     }
 
-    fn record(&self) -> Record {
-        let room = [6144, 4096, 128, 128, 1024];
-        assert!((0..5).all(|k| self.lengths[k] <= room[k]) && self.map.len() <= 128, "no room");
+    /// The result and the work slice after the call.
+    fn left(&self) -> (Vec<f64>, Vec<f64>) {
         let [result, deltas, inv_u, site_sym_cart, work] = self.lengths;
         let deltas = floats(deltas, self.seed, self.kind);
         let inv_u = floats(inv_u, self.seed + 1, self.matrix_kind);
         let site_sym_cart = floats(site_sym_cart, self.seed + 2, self.matrix_kind);
         let mut result = floats(result, self.seed + 3, self.kind);
         let mut work = floats(work, self.seed + 4, self.kind);
-        let refusal = self.refusal();
-        if refusal == 0 {
+        if self.refusal() == 0 {
             let call = if self.order == 3 { fc3::rotate_delta_fc2s } else { fc4::rotate_delta_fc3s };
             call(&mut result, &deltas, &inv_u, &site_sym_cart, &self.map, self.num_atom, self.num_site_sym, self.num_disp);
             work.fill(0.0);
         }
-        let mut words = vec![refusal, sum(&result), sum(&work), self.order as u64 - 1, self.seed, self.kind, self.matrix_kind];
+        (result, work)
+    }
+
+    fn record(&self) -> Record {
+        let room = [6144, 4096, 128, 128, 1024];
+        assert!((0..5).all(|k| self.lengths[k] <= room[k]) && self.map.len() <= 128, "no room");
+        let (result, work) = self.left();
+        let mut words = vec![self.refusal(), sum(&result), sum(&work), self.order as u64 - 1, self.seed, self.kind, self.matrix_kind];
         let [result, deltas, inv_u, site_sym_cart, work] = self.lengths;
         words.extend([result, deltas, inv_u, site_sym_cart, self.map.len(), work].map(|n| n as u64));
         words.extend([self.num_atom, self.num_site_sym, self.num_disp].map(|n| n as u64));
@@ -259,6 +275,13 @@ fn rotated(order: u32, r: &mut Rng) -> Vec<Delta> {
         for matrix_kind in [0, kind] {
             let map = (0..4).flat_map(|_| some_map(r, 2)).collect();
             calls.push(Delta { kind, matrix_kind, ..Delta::new(order, 2, 4, 2, map) });
+        }
+    }
+    // blocks of -0.0, which sums from 0.0 make +0.0
+    for (num_site_sym, num_disp) in [(1, 1), (2, 1), (1, 2), (3, 2)] {
+        for (kind, matrix_kind) in [(MINUS_ZEROS, POSITIVE), (POSITIVE, MINUS_ZEROS), (TINY, 0)] {
+            let map = (0..num_site_sym).flat_map(|_| some_map(r, 2)).collect();
+            calls.push(Delta { kind, matrix_kind, ..Delta::new(order, 2, num_site_sym, num_disp, map) });
         }
     }
     // counts at the limit: with no atoms there is nothing to add up, and with no site symmetry all is zero
@@ -326,4 +349,39 @@ pub fn deltas() -> Replay {
     }
     let stdout = report("rotated", &records, 1);
     Replay::new(records, stdout, 4)
+}
+
+#[cfg(test)]
+mod tests {
+    use super::*;
+
+    fn calls(order: u32) -> Vec<Distribute> {
+        distributed(order, &mut Rng::new(40)).into_iter().filter(|call| call.refusal() == 0 && call.num_atom > 0).collect()
+    }
+
+    // a distributor that takes target for source leaves another set
+    #[test]
+    fn exchanged_slabs_are_told_apart() {
+        for call in [calls(3), calls(4)].concat().iter().filter(|call| (call.kind, call.rotation_kind) == (0, 0)) {
+            let other = Distribute { target: call.source, source: call.target, ..call.clone() };
+            assert_ne!(sum(&call.left()), sum(&other.left()));
+        }
+    }
+
+    // every product is -0.0, so a sum that does not begin at 0.0 is -0.0
+    #[test]
+    fn sums_begin_at_zero() {
+        let zeros = |numbers: &[f64]| numbers.iter().all(|x| x.to_bits() == 0);
+        for order in [3, 4] {
+            let of_kind: Vec<Distribute> = calls(order).into_iter().filter(|call| call.kind == MINUS_ZEROS && call.rotation_kind == POSITIVE).collect();
+            assert!(of_kind.len() > 5);
+            for call in of_kind {
+                let slab = call.set / call.num_first;
+                assert!(zeros(&call.left()[call.target * slab..][..slab]));
+            }
+            let deltas = rotated(order, &mut Rng::new(50)).into_iter();
+            let of_kind: Vec<Delta> = deltas.filter(|call| call.kind == MINUS_ZEROS && call.matrix_kind == POSITIVE).collect();
+            assert!(of_kind.len() > 3 && of_kind.iter().all(|call| zeros(&call.left().0)));
+        }
+    }
 }

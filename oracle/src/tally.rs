@@ -12,30 +12,33 @@ pub struct Tally {
     /// How often each number was answered: 0 done, 1 to 6 refused, the others the call's own.
     pub answers: BTreeMap<u8, u64>,
     pub numbers: u64,
-    /// How many of them are NaN, any of which equals any other.
+    /// How many of them are NaN.
     pub nans: u64,
+    /// How many of those are compared by their bits: all that no arithmetic of the call made.
+    pub kept: u64,
     pub differences: u64,
     /// The shortest input on which the sides differ, by the length of its slices.
     pub smallest: Option<(usize, String)>,
 }
 
-/// The first place at which the two differ. In a call that was not refused any NaN equals any NaN.
-fn differing(got: &Lent, want: &Lent, refused: bool) -> Option<usize> {
+/// The first place at which the two differ. Where `made` says so, any NaN equals any NaN.
+fn differing(got: &Lent, want: &Lent, made: impl Fn(usize) -> bool) -> Option<usize> {
     if got.len() != want.len() {
         return Some(0);
     }
     let float = matches!(got.numbers, Numbers::Floats(_));
-    let nan = |word: u64| float && !refused && f64::from_bits(word).is_nan();
+    let nan = |word: u64| float && f64::from_bits(word).is_nan();
     (0..got.len()).find(|k| {
         let (a, b) = (got.word(*k), want.word(*k));
-        a != b && !(nan(a) && nan(b))
+        a != b && !(nan(a) && nan(b) && made(*k))
     })
 }
 
-fn nans(lent: &Lent) -> u64 {
+/// The places of a slice that hold a NaN.
+fn nans(lent: &Lent) -> Vec<usize> {
     match &lent.numbers {
-        Numbers::Floats(v) => v.iter().filter(|x| x.is_nan()).count() as u64,
-        _ => 0,
+        Numbers::Floats(v) => (0..v.len()).filter(|k| v[*k].is_nan()).collect(),
+        _ => vec![],
     }
 }
 
@@ -75,8 +78,14 @@ impl Tally {
         let (got, want) = (got.parts().slices, want.parts().slices);
         let size = want.iter().map(Lent::len).sum();
         self.numbers += size as u64;
-        self.nans += want.iter().map(nans).sum::<u64>();
-        let places: Vec<Option<usize>> = got.iter().zip(&want).map(|(a, b)| differing(a, b, refused > 0)).collect();
+        let made = |slice: usize, k: usize| refused == 0 && before.made(slice, k);
+        for (slice, lent) in want.iter().enumerate() {
+            let places = nans(lent);
+            self.nans += places.len() as u64;
+            self.kept += places.iter().filter(|k| !made(slice, **k)).count() as u64;
+        }
+        let side_by_side = got.iter().zip(&want).enumerate();
+        let places: Vec<Option<usize>> = side_by_side.map(|(slice, (a, b))| differing(a, b, |k| made(slice, k))).collect();
         if answer != number || places.iter().any(Option::is_some) {
             self.differ(size, || describe(before, [answer, number], &places, [&got, &want]));
         }
@@ -100,8 +109,8 @@ impl Tally {
     pub fn line(&self) -> String {
         let calls: u64 = self.answers.values().sum();
         let answers: Vec<String> = self.answers.iter().map(|(answer, n)| format!("{} {n}", words(*answer))).collect();
-        let (numbers, nans, differences) = (self.numbers, self.nans, self.differences);
-        format!("{}: {calls} calls ({}), {numbers} numbers ({nans} NaN), {differences} differences", self.name, answers.join(", "))
+        let (numbers, nans, kept, differences) = (self.numbers, self.nans, self.kept, self.differences);
+        format!("{}: {calls} calls ({}), {numbers} numbers ({nans} NaN, {kept} by their bits), {differences} differences", self.name, answers.join(", "))
     }
 }
 

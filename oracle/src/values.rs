@@ -19,13 +19,21 @@ fn draw(seed: u64, i: usize) -> u64 {
     stir(mix(seed, i as u64))
 }
 
-/// How many kinds of set there are: ordinary numbers; zeros of both signs and subnormal ones; huge ones; a few
+/// So many kinds of set are drawn from: ordinary numbers; zeros of both signs and subnormal ones; huge ones; a few
 /// infinities; a few NaN; any pattern; zeros of both signs only; some of each.
 pub const KINDS: u64 = 8;
 
+/// And kinds that some calls are recorded with: -0.0 alone; ordinary numbers that are not negative; zeros of both signs
+/// and subnormal numbers alone; the largest numbers, of which no two can be added.
+pub const MINUS_ZEROS: u64 = 8;
+pub const POSITIVE: u64 = 9;
+pub const TINY: u64 = 10;
+pub const LARGEST: u64 = 11;
+
 /// For each kind the classes of sixteen numbers, one of which is drawn. 0: an ordinary number, 1: a zero of either
-/// sign, 2: a subnormal number, 3: a huge one, 4: an infinity, 5: NaN, 6: any pattern.
-const CLASSES: [[usize; 16]; KINDS as usize] = [
+/// sign, 2: a subnormal number, 3: a huge one, 4: an infinity, 5: NaN, 6: any pattern, 7: -0.0, 8: an ordinary number
+/// that is not negative, 9: one of the largest.
+const CLASSES: [[usize; 16]; 12] = [
     [0; 16],
     [1, 1, 1, 1, 1, 1, 1, 1, 1, 1, 2, 2, 2, 2, 0, 0],
     [3, 3, 3, 3, 3, 3, 3, 3, 0, 0, 0, 0, 0, 0, 0, 1],
@@ -34,10 +42,14 @@ const CLASSES: [[usize; 16]; KINDS as usize] = [
     [6; 16],
     [1; 16],
     [0, 0, 0, 0, 0, 0, 0, 0, 0, 1, 1, 2, 3, 4, 5, 6],
+    [7; 16],
+    [8; 16],
+    [1, 1, 1, 1, 1, 1, 1, 1, 2, 2, 2, 2, 2, 2, 2, 2],
+    [9; 16],
 ];
 
 /// The bits of a pattern that a number of each class keeps, and those that are set in it.
-const KEPT_AND_SET: [(u64, u64); 7] = [
+const KEPT_AND_SET: [(u64, u64); 10] = [
     (0x807F_FFFF_FFFF_FFFF, 0x3F80_0000_0000_0000),
     (0x8000_0000_0000_0000, 0),
     (0x800F_FFFF_FFFF_FFFF, 0),
@@ -45,13 +57,16 @@ const KEPT_AND_SET: [(u64, u64); 7] = [
     (0x8000_0000_0000_0000, 0x7FF0_0000_0000_0000),
     (0, 0x7FF8_0000_0000_0000),
     (u64::MAX, 0),
+    (0, 0x8000_0000_0000_0000),
+    (0x007F_FFFF_FFFF_FFFF, 0x3F80_0000_0000_0000),
+    (0x800F_FFFF_FFFF_FFFF, 0x7FE0_0000_0000_0000),
 ];
 
 /// Number i of a set with this seed and of this kind.
 fn value(seed: u64, kind: u64, i: usize) -> f64 {
     let a = draw(seed, i);
     let b = stir(a);
-    let (kept, set) = KEPT_AND_SET[CLASSES[(kind % KINDS) as usize][(a % 16) as usize]];
+    let (kept, set) = KEPT_AND_SET[CLASSES[kind as usize][(a % 16) as usize]];
     f64::from_bits((b + (stir(b) << 32)) & kept | set)
 }
 
@@ -123,6 +138,14 @@ mod tests {
         for (kind, list) in expected.iter().enumerate() {
             assert_eq!(met(kind as u64), *list, "kind {kind}");
         }
+    }
+
+    #[test]
+    fn single_kinds_are_as_named() {
+        assert!(floats(1000, 5, MINUS_ZEROS).iter().all(|x| x.to_bits() == 1 << 63));
+        assert!(floats(1000, 5, POSITIVE).iter().all(|x| *x > 0.0 && x.is_normal()));
+        assert_eq!(met(TINY), [Zero, Subnormal]);
+        assert!(floats(1000, 5, LARGEST).iter().all(|x| x.is_finite() && (x + x).is_infinite()));
     }
 
     // numbers that are all different, and whose sums are rounded

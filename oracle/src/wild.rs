@@ -26,7 +26,8 @@ fn wild(r: &mut Rng) -> f64 {
         2 => sign(r) * f64::from_bits(r.bits() >> 12),
         3 => sign(r) * f64::INFINITY,
         4 => f64::NAN,
-        5 => f64::from_bits(0xFFF8_0000_0000_0000 | r.bits() & 0xFFFF),
+        // of either sign, quiet and signalling
+        5 => f64::from_bits(0x7FF0_0000_0000_0001 | r.bits() & 0x800F_FFFF_FFFF_FFFF),
         6 => sign(r) * f64::MAX,
         7 => (r.unit() * 2.0 - 1.0) * 1.7e308,
         8 => (r.unit() - 0.5) * 3e-308,

@@ -2,9 +2,12 @@
 use crate::ffi::call;
 use crate::{answer, Refusal};
 
-/// Which rotated position each position lands on: the lowest free slot j of `rot_atom` whose `rot_pos` j is nearer than `symprec` to
+/// Which position each rotated position comes from: the lowest free slot j of `rot_atom` whose `rot_pos` j is nearer than `symprec` to
 /// `pos` i takes i, for i rising; a slot that nothing takes is -1. True exactly if all slots are filled. False does not say that no
 /// match exists.
+///
+/// The basis vectors stand in the columns of `lat`: component k of a difference is row k times the difference of the coordinates. With
+/// the vectors in the rows the distances of an oblique cell are wrong, and nothing is refused.
 ///
 /// Lengths: `rot_atom` num_pos, `pos` and `rot_pos` 3 × num_pos; num_pos up to 1,024.
 ///

@@ -119,7 +119,7 @@ pub fn transpose_compact_fc3_with(
 }
 
 /// Fills slab `target` from slab `source`, a slab being the num_atom² × 27 numbers of one first atom: block (i, j) of the target is block
-/// (`atom_mapping[i]`, `atom_mapping[j]`) of the source, turned by `rot_cart` on each leg. There are as many slabs as the set has room for;
+/// (`atom_mapping[i]`, `atom_mapping[j]`) of the source, rotated by `rot_cart` on each leg. There are as many slabs as the set has room for;
 /// with no atoms there is none, and the call is refused.
 ///
 /// ```
@@ -159,7 +159,7 @@ pub fn distribute_fc3_with(
 }
 
 /// The num_atom² × 27 numbers of third order of one displaced atom, from the changes `delta_fc2s` (num_disp × num_atom² × 9) that num_disp
-/// displacements of that atom make to a set of second order. Each is turned by each site symmetry (`site_sym_cart`, num_site_sym × 9, which
+/// displacements of that atom make to a set of second order. Each is rotated by each site symmetry (`site_sym_cart`, num_site_sym × 9, which
 /// sends atom a to `rot_map_syms[s * num_atom + a]`); `inv_u`, 3 × num_disp × num_site_sym, makes of them one block for each direction of the
 /// displaced atom.
 ///

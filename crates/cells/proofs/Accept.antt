@@ -1,5 +1,5 @@
 -- The root keeps the order: if the rounded root of a limit is below the tolerance s, so is that of every x up to the limit. So x is accepted by the limit's root,
--- and never by a square. Assumes nothing.
+-- and never by the tolerance's square. Assumes nothing.
 use mathlib.Core.Path.{_≡_, refl, sym, ap, _∙_, subst}
 use mathlib.Core.Bool.{Bool, true, false, not, _&&_, _||_, cond, true≢false, false≢true}
 use mathlib.Core.Logic.{_⊎_, inl, inr}

@@ -15,7 +15,7 @@ use borrow.Author.Tests.{not-true}
 use Rattle.lists.specs.Cases.{lt-or-le, eq-or-ne}
 use Rattle.lists.specs.Tests.{split, and-fst, and-snd, not-both, refuted}
 use Rattle.lists.specs.Tab.{times}
-use Rattle.tables.specs.Answers.{isRefusal}
+use Rattle.tables.specs.declared.Answer.the-variants.{Done}
 use Rattle.cells.specs.declared.Cell.{Cell}
 use Rattle.cells.specs.declared.Matching.{Matching}
 use Rattle.cells.specs.declared.Matching.the-variants.{Matched, NotMatched, Refused}
@@ -233,7 +233,7 @@ by-answer : (b : Bool) → cond b Matched NotMatched ≡ Matched → b ≡ true
 by-answer true e = refl
 by-answer false e = let z : _≡_ {A = ℕ} 0 1 = cc in absurd (omega arith)
 
-module _ (slots : List ℤ) (cell : Cell) (positions rotated : List Float) (n : ℕ) (taken-on : isRefusal (judged (length slots) (length positions) (length rotated) n) ≡ false) where
+module _ (slots : List ℤ) (cell : Cell) (positions rotated : List Float) (n : ℕ) (taken-on : judged (length slots) (length positions) (length rotated) n ≡ Done) where
   abbrev left : List ℤ
   left = computePermutation slots cell positions rotated n .1
 

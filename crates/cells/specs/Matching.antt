@@ -1,4 +1,4 @@
--- Matching atoms (document 01, "Matched atoms"): which rotated position each position lands on. Definitions only.
+-- Matching atoms (document 01, "Matched atoms"): which position each rotated position comes from. Definitions only.
 use mathlib.Core.Bool.{Bool, true, false, cond, not, _&&_}
 use mathlib.Core.List.{List, [], _∷_}
 use Prim.Native.Nat.{ℕ, zero, suc, _*_}
@@ -8,8 +8,9 @@ use lib.Ieee.{Float}
 use Rattle.lists.specs.Tab.{times}
 use Rattle.lists.specs.Members.{allOf}
 use Rattle.tables.specs.declared.Answer.{Answer}
-use Rattle.tables.specs.declared.Answer.the-variants.{Done, CountAboveLimit, WrongLength}
-use Rattle.tables.specs.Answers.{numberOf, isRefusal, after, refuseIf}
+use Rattle.tables.specs.declared.Answer.the-variants.{Done, Refused as RefusedBy}
+use Rattle.tables.specs.declared.Refusal.the-variants.{CountAboveLimit, WrongLength}
+use Rattle.tables.specs.Answers.{refusalNumber, after, refuseIf}
 use Rattle.tables.specs.Limits.{limit2}
 use Rattle.tables.specs.Conditions.{anyAbove, anyWrong}
 use Rattle.cells.specs.declared.Cell.{Cell}
@@ -22,7 +23,7 @@ use Rattle.cells.specs.Near.{near}
 abbrev pub matchingNumber : Matching → ℕ
 matchingNumber Matched = 0
 matchingNumber NotMatched = 64
-matchingNumber (Refused a) = numberOf a
+matchingNumber (Refused r) = refusalNumber r
 
 -- a slot is filled if it holds a position's number, and free while it holds -1
 abbrev pub isFilled : ℤ → Bool
@@ -55,9 +56,10 @@ judged lenSlots lenPos lenRot n =
     refuseIf (anyAbove limit2 (n ∷ [])) CountAboveLimit
     (refuseIf (anyWrong ((lenSlots, n) ∷ (lenPos, 3 * n) ∷ (lenRot, 3 * n) ∷ [])) WrongLength Done)
 
--- true exactly if all slots are filled
+-- what the guard's answer and the slots make: the refusal, or true exactly if all slots are filled
 unfoldable pub answerOf : Answer → List ℤ → Matching
-answerOf a slots = cond (isRefusal a) (Refused a) (cond (allFilled slots) Matched NotMatched)
+answerOf Done slots = cond (allFilled slots) Matched NotMatched
+answerOf (RefusedBy r) slots = Refused r
 
 -- the answer, and the slots that the call leaves
 unfoldable pub computePermutation : List ℤ → Cell → List Float → List Float → ℕ → Matching × List ℤ

@@ -17,7 +17,7 @@ wrapped a b = let d = sub binary64 a b in sub binary64 d (nearestWhole d)
 abbrev pub dot : Float → Float → Float → Float → Float → Float → Float
 dot a b c x y z = add binary64 (add binary64 (add binary64 (ofBits binary64 0) (mul binary64 a x)) (mul binary64 b y)) (mul binary64 c z)
 
--- the summed squares of the difference (x, y, z) times the rows of the lattice l
+-- the summed squares of the difference (x, y, z) times the rows of the lattice l, in whose columns the basis vectors stand
 unfoldable pub squares : List Float → Float → Float → Float → Float
 squares l x y z =
     let row : ℕ → Float = λ k. dot (getD l (k * 3) nan) (getD l (k * 3 + 1) nan) (getD l (k * 3 + 2) nan) x y z in

@@ -5,9 +5,11 @@ mod slots;
 ghost use mathlib.Core.Path.{_≡_};
 ghost use Rattle.cells.specs.Matching.{matchingNumber, judged, computePermutation};
 use tables::Answer;
+use tables::Refusal;
 use tables::limits::LIMIT2;
 
-// A crystal's cell: the lattice's nine numbers, row after row, and the tolerance.
+// A crystal's cell: the lattice's nine numbers, row after row, and the tolerance. Component k of a difference is row k times the difference of the coordinates,
+// so the basis vectors stand in the columns.
 pub struct Cell {
     pub lattice: [f64; 9],
     pub symprec: f64,
@@ -17,7 +19,7 @@ pub struct Cell {
 pub enum Matching {
     Matched,
     NotMatched,
-    Refused(Answer),
+    Refused(Refusal),
 }
 
 // The number of an answer: 0 for true, 64 for false, and document 01's number of a refusal.
@@ -27,7 +29,7 @@ pub fn matching_number(m: Matching) -> u8
     match m {
         Matching::Matched => 0,
         Matching::NotMatched => 64,
-        Matching::Refused(a) => tables::number(a),
+        Matching::Refused(r) => tables::refusal_number(r),
     }
 }
 
@@ -35,22 +37,22 @@ fn judge(len_slots: usize, len_pos: usize, len_rot: usize, num_pos: usize) -> An
     ensures { λ r. ⌜ r ≡ judged «len_slots» «len_pos» «len_rot» «num_pos» ⌝ }
 {
     if num_pos > LIMIT2 {
-        return Answer::CountAboveLimit;
+        return Answer::Refused(Refusal::CountAboveLimit);
     }
     if len_slots != num_pos {
-        return Answer::WrongLength;
+        return Answer::Refused(Refusal::WrongLength);
     }
     if len_pos != 3 * num_pos {
-        return Answer::WrongLength;
+        return Answer::Refused(Refusal::WrongLength);
     }
     if len_rot != 3 * num_pos {
-        return Answer::WrongLength;
+        return Answer::Refused(Refusal::WrongLength);
     }
     Answer::Done
 }
 
-// Which rotated position each position lands on: slot j of rot_atom gets the position that is near rot_pos j, or -1. The answer is true exactly if all slots
-// are filled.
+// Which position each rotated position comes from: slot j of rot_atom gets the number of the position that is near rot_pos j, or -1. The answer is true exactly
+// if all slots are filled.
 pub fn compute_permutation(
     rot_atom: &mut [i64],
     cell: Cell,
@@ -61,14 +63,14 @@ pub fn compute_permutation(
     ensures { λ r. ⌜ (r, now («rot_atom» .exit)) ≡ computePermutation (now («rot_atom» .entry)) cell (now (pos .entry)) (now («rot_pos» .entry)) «num_pos» ⌝ }
 {
     let a = judge(rot_atom.len(), pos.len(), rot_pos.len(), num_pos);
-    if tables::is_refusal(a) {
-        return Matching::Refused(a);
-    }
-    slots::clear(rot_atom);
-    slots::place_all(rot_atom, cell, pos, rot_pos);
-    if slots::all_filled(rot_atom) {
-        Matching::Matched
-    } else {
-        Matching::NotMatched
+    match a {
+        Answer::Refused(r) => Matching::Refused(r),
+        Answer::Done => {
+            if slots::fill(rot_atom, cell, pos, rot_pos) {
+                Matching::Matched
+            } else {
+                Matching::NotMatched
+            }
+        }
     }
 }

@@ -55,7 +55,8 @@ pub fn reach_of(symprec: f64) -> Reach
     }
 }
 
-// Whether the root of d2 is below the tolerance. The root is worked out only where the squares leave it open: a square never decides that d2 is near.
+// Whether the root of d2 is below the tolerance. The root is worked out only where the two squares leave it open: above the tolerance's square nothing is near,
+// and up to `sure`, whose own root was found below the tolerance, everything is.
 fn below(d2: f64, symprec: f64, reach: Reach) -> bool
     requires { ⌜ T (plus d2) × Reaches symprec (reach .square) (reach .sure) ⌝ }
     ensures { λ r. ⌜ r ≡ lt (rootOf binary64 d2) symprec ⌝ }
@@ -69,7 +70,8 @@ fn below(d2: f64, symprec: f64, reach: Reach) -> bool
     common::sqrt(d2) < symprec
 }
 
-// Whether the difference (x, y, z) in the lattice l is shorter than the tolerance. The first row alone can be too long.
+// Whether the difference (x, y, z) in the lattice l is shorter than the tolerance: component k of it is row k times (x, y, z). The first component alone can be
+// too long.
 fn short(l: [f64; 9], symprec: f64, reach: Reach, x: f64, y: f64, z: f64) -> bool
     requires { ⌜ Reaches symprec (reach .square) (reach .sure) ⌝ }
     ensures { λ r. ⌜ r ≡ lt (rootOf binary64 (squares l x y z)) symprec ⌝ }

@@ -6,7 +6,7 @@ ghost use lib.ListN.{length, replicate};
 ghost use lib.IntN.{negsuc};
 ghost use Rattle.lists.specs.Tab.{times};
 ghost use Rattle.cells.specs.Near.{near as nearOf};
-ghost use Rattle.cells.specs.Matching.{isFilled, lowest, takes as takesOf, place as placeOf, allFilled};
+ghost use Rattle.cells.specs.Matching.{isFilled, lowest, takes as takesOf, place as placeOf, placed, allFilled};
 ghost use Rattle.cells.specs.Reach.{Reaches};
 ghost use Rattle.cells.specs.Slots.{FilledBelow, FreeAt, Row, Triples};
 use crate::Cell;
@@ -15,7 +15,7 @@ use crate::near::near;
 use crate::near::reach_of;
 
 // Sets every slot to -1.
-pub fn clear(rot_atom: &mut [i64])
+fn clear(rot_atom: &mut [i64])
     ensures { λ _. ⌜ now («rot_atom» .exit) ≡ replicate (length (now («rot_atom» .entry))) (negsuc 0) ⌝ }
 {
     let mut j = 0;
@@ -51,7 +51,7 @@ fn takes(
 }
 
 // All slots are filled.
-pub fn all_filled(rot_atom: &[i64]) -> bool
+fn all_filled(rot_atom: &[i64]) -> bool
     ensures { λ r. ⌜ r ≡ allFilled (now («rot_atom» .entry)) ⌝ }
 {
     skip_filled(rot_atom, 0) == rot_atom.len()
@@ -116,7 +116,7 @@ fn place(
 }
 
 // Places every position, for i rising.
-pub fn place_all(rot_atom: &mut [i64], cell: Cell, pos: &[f64], rot_pos: &[f64])
+fn place_all(rot_atom: &mut [i64], cell: Cell, pos: &[f64], rot_pos: &[f64])
     requires { ⌜ Triples (length (now «rot_atom»)) (length (now pos)) (length (now «rot_pos»)) ⌝ }
     ensures { λ _. ⌜ now («rot_atom» .exit) ≡ times (length (now («rot_atom» .entry))) (placeOf (nearOf cell (now (pos .entry)) (now («rot_pos» .entry)))) (now («rot_atom» .entry)) ⌝ }
 {
@@ -128,4 +128,14 @@ pub fn place_all(rot_atom: &mut [i64], cell: Cell, pos: &[f64], rot_pos: &[f64])
         place(rot_atom, cell, r, pos, rot_pos, i, start);
         i += 1;
     }
+}
+
+// Sets every slot to -1 and places every position. Whether all slots are filled then.
+pub fn fill(rot_atom: &mut [i64], cell: Cell, pos: &[f64], rot_pos: &[f64]) -> bool
+    requires { ⌜ Triples (length (now «rot_atom»)) (length (now pos)) (length (now «rot_pos»)) ⌝ }
+    ensures { λ r. ⌜ (now («rot_atom» .exit) ≡ placed (nearOf cell (now (pos .entry)) (now («rot_pos» .entry))) (length (now («rot_atom» .entry)))) × (r ≡ allFilled (now («rot_atom» .exit))) ⌝ }
+{
+    clear(rot_atom);
+    place_all(rot_atom, cell, pos, rot_pos);
+    all_filled(rot_atom)
 }

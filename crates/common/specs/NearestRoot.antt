@@ -1,10 +1,13 @@
 -- IEEE 754's square root, said of natural numbers: the record `NearestRoot`, and two theorems, `root-is-nearest` and `nearest-root-unique`.
--- What is no positive finite number (a zero, a negative number, an infinity, a NaN) has its root in the first lines of `sqrt` itself. Assumes nothing.
-use mathlib.Core.Path.{_≡_}
-use mathlib.Core.Bool.{true, false, cond, true≢false}
-use Prim.Native.Nat.{ℕ, suc, _+_, _-_, _*_, _^_, _<_}
+-- What is no positive finite number has theorems of its own at the end: the zeros, negative numbers, infinities, NaN. Assumes nothing.
+use mathlib.Core.Path.{_≡_, refl}
+use mathlib.Core.Bool.{true, false, cond, true≢false, false≢true}
+use Prim.Native.Nat.{ℕ, zero, suc, _+_, _-_, _*_, _^_, _<_}
+use native.Mathlib.Omega.{arith}
+use borrow.Author.Tests.{ltb-true}
 use lib.Dec.{T}
-use lib.Ieee.{Float, nan, inf, fin, Format, binary64, prec, emax, fits, lt}
+use lib.IntN.{ℤ}
+use lib.Ieee.{Float, nan, inf, fin, Format, binary64, prec, emax, up, down, fits, lt, ofBits}
 use lib.Ieee.Positive.{num, den, positive, positive-finite}
 use lib.Ieee.Scale.{finite}
 use Rattle.common.specs.Root.{sqrt}
@@ -85,3 +88,34 @@ apart x (fin false m e) (fin false n d) h k l =
 -- No other value is the nearest, so that `NearestRoot` says which f64 the root is, bit for bit.
 pub nearest-root-unique : (x r s : Float) → NearestRoot binary64 x r → NearestRoot binary64 x s → r ≡ s
 nearest-root-unique x r s h k = by-size r s (h .held) (k .held) (h .number) (k .number) (h .plus) (k .plus) (apart x r s h k) (apart x s r k h)
+
+-- ---- what is no positive finite number
+
+-- Both zeros give themselves: +0.0, and -0.0.
+pub root-of-zeros : (sqrt binary64 (ofBits binary64 0) ≡ ofBits binary64 0) × (sqrt binary64 (ofBits binary64 0x8000_0000_0000_0000) ≡ ofBits binary64 0x8000_0000_0000_0000)
+unfolding sqrt ofBits
+root-of-zeros = (refl, refl)
+
+-- Every other number below zero gives NaN, minus infinity too.
+no-minus : (e : ℤ) → 0 < 0 * up e * 1 + 0 * 1 * down e → ⊥
+no-minus e h = omega arith
+
+no-plus : (m : ℕ) (e : ℤ) → m * up e * 1 < 0 * 1 * down e → ⊥
+no-plus m e h = omega arith
+
+pub root-of-negative : (x : Float) → lt x (ofBits binary64 0) ≡ true → sqrt binary64 x ≡ nan
+unfolding sqrt lt ofBits
+root-of-negative nan h = refl
+root-of-negative (inf true) h = refl
+root-of-negative (inf false) h = absurd (false≢true h)
+root-of-negative (fin true zero e) h = absurd (no-minus e (ltb-true 0 (0 * up e * 1 + 0 * 1 * down e) h))
+root-of-negative (fin true (suc m) e) h = refl
+root-of-negative (fin false m e) h = absurd (no-plus m e (ltb-true (m * up e * 1) (0 * 1 * down e) h))
+
+pub root-of-infinity : sqrt binary64 (inf false) ≡ inf false
+unfolding sqrt
+root-of-infinity = refl
+
+pub root-of-nan : sqrt binary64 nan ≡ nan
+unfolding sqrt
+root-of-nan = refl

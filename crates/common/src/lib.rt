@@ -1,5 +1,5 @@
 // Rounding and the square root of an f64, worked out from its bits.
-pub mod root;
+mod root;
 
 ghost use mathlib.Core.Path.{_≡_};
 ghost use Prim.Native.Nat.{_^_, _≤_, _<_};

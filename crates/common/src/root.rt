@@ -31,19 +31,36 @@ fn guess(b: u64) -> u64
     (c - 0x4180_0000_0000_0000) / 0x400_0000
 }
 
-// The whole part of the root of n.
-fn root27(n: u64, b: u64) -> u64
-    requires { ⌜ n < 2 ^ 54 ⌝ ∗ ⌜ b < 2 ^ 62 + 2 ^ 61 ⌝ }
-    ensures { λ r. ⌜ (r * r ≤ n) × (n < (r + 1) * (r + 1)) ⌝ }
+// The guess s lowered until its square is at most n.
+fn lowered(n: u64, s0: u64) -> u64
+    requires { ⌜ s0 < 2 ^ 28 ⌝ }
+    ensures { λ r. ⌜ r * r ≤ n ⌝ }
 {
-    let mut s = guess(b);
+    let mut s = s0;
     while n < s * s {
         s -= 1;
     }
+    s
+}
+
+// A number whose square is at most n raised to the last such number: (s + 1)^2 is s^2 + 2 s + 1.
+fn raised(n: u64, s0: u64) -> u64
+    requires { ⌜ n < 2 ^ 54 ⌝ ∗ ⌜ s0 * s0 ≤ n ⌝ }
+    ensures { λ r. ⌜ (r * r ≤ n) × (n < (r + 1) * (r + 1)) ⌝ }
+{
+    let mut s = s0;
     while 2 * s < n - s * s {
         s += 1;
     }
     s
+}
+
+// The whole part of the root of n, from the guess at it, whatever that is.
+fn root27(n: u64, b: u64) -> u64
+    requires { ⌜ n < 2 ^ 54 ⌝ ∗ ⌜ b < 2 ^ 62 + 2 ^ 61 ⌝ }
+    ensures { λ r. ⌜ (r * r ≤ n) × (n < (r + 1) * (r + 1)) ⌝ }
+{
+    raised(n, lowered(n, guess(b)))
 }
 
 // The whole part of the root of n * 4^27: the whole part s of the root of n, and one division for

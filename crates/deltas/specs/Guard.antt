@@ -3,19 +3,20 @@ use mathlib.Core.Path.{_≡_, refl, sym, ap, _∙_, subst}
 use mathlib.Core.Bool.{Bool, true, false, not, _||_}
 use mathlib.Core.List.{List, [], _∷_}
 use Prim.Native.Nat.{ℕ, zero, suc, _+_, _*_, _/_, _%_, _^_, _<_, _≤_}
-use native.Mathlib.Nat.{le-trans, div-lt-iff-lt-mul, mod-lt, mul-assoc, mul-one, one-mul, pow-zero, pow-suc, mul-le-mul, mul-le-mul-left, mul-le-mul-right}
+use native.Mathlib.Nat.{le-trans, div-lt-iff-lt-mul, mod-lt, mul-assoc, mul-comm, mul-one, one-mul, pow-zero, pow-suc, mul-le-mul, mul-le-mul-left, mul-le-mul-right}
 use native.Mathlib.Omega.{arith}
 use lib.IntN.{ℤ}
 use lib.ListN.{length, replicate}
 use lib.Ieee.{Float}
-use Rattle.lists.specs.Digits.{in-row}
+use Rattle.lists.specs.Digits.{in-row, room}
 use Rattle.rotations.specs.Rotation.{plusZero}
 use Rattle.tables.specs.declared.Answer.{Answer}
-use Rattle.tables.specs.declared.Answer.the-variants.{Done, CountAboveLimit, WrongLength, IndexOutOfRange}
+use Rattle.tables.specs.declared.Answer.the-variants.{Done}
+use Rattle.tables.specs.declared.Refusal.the-variants.{CountAboveLimit, WrongLength, IndexOutOfRange}
 use Rattle.tables.specs.Answers.{isRefusal, refuseIf, is-done, after-refusal, after-done, passed}
 use Rattle.tables.specs.Conditions.{anyAbove, anyWrong, outOfRange, indexAt, Readable, IndexTable, read, or-false, not-above, not-wrong}
 use Rattle.tables.specs.Limits.{limitList}
-use Rattle.deltas.specs.Rows.{rows-length}
+use Rattle.slabs.specs.SlabLaws.{Inside, inside-slab}
 use Rattle.deltas.specs.RotateDelta.{Deltas, total, source, rotatedDeltas, countsAbove, lengths, judged, rotateDelta}
 
 pub record Ready (D : Deltas) (m : ℕ) : Type 0 where
@@ -36,9 +37,9 @@ pub ready : (limit m : ℕ) (D : Deltas) (lengthResult lengthWork : ℕ) → lim
     → Ready D m × Lengths D m lengthResult lengthWork
 unfolding judged
 ready limit m D lengthResult lengthWork h e =
-    let (q1, e1) = passed _ _ _ refl e in
-    let (q2, e2) = passed _ _ _ refl e1 in
-    let (q3, e3) = passed _ _ _ refl e2 in
+    let (q1, e1) = passed _ _ _ e in
+    let (q2, e2) = passed _ _ _ e1 in
+    let (q3, e3) = passed _ _ _ e2 in
     let (f1, f2) = or-false (anyAbove limit (D .numAtom ∷ [])) _ q1 in
     let (atoms, _) = not-above limit (D .numAtom ∷ []) f1 in
     let (syms, (disps, _)) = not-above limitList (D .numSiteSym ∷ D .numDisp ∷ []) f2 in
@@ -55,11 +56,6 @@ ready limit m D lengthResult lengthWork h e =
     } in
     (R, record { result-length = l1; work-length = l6 })
 
--- the result is so many rows
-pub rows-fit : {D : Deltas} {m lengthResult lengthWork : ℕ} → Lengths D m lengthResult lengthWork → (k rows : ℕ) → rows * k ≡ D .numAtom ^ m
-    → rows * (k * (3 * 3 ^ m)) ≡ lengthResult
-rows-fit {D} {m} l k rows e = rows-length D m k rows e ∙ sym (l .result-length)
-
 -- ---- powers
 
 next-power : (d a k : ℕ) → d * a ^ k * a ≡ d * a ^ suc k
@@ -68,14 +64,17 @@ next-power d a k = mul-assoc d (a ^ k) a ∙ ap (λ x. d * x) (sym (pow-suc a k)
 one-power : (a : ℕ) → a ≡ a ^ 1
 one-power a = sym (pow-suc a 0 ∙ ap (λ x. x * a) (pow-zero a) ∙ one-mul a)
 
+-- n · a · … · a
+room-power : (a k n : ℕ) → room a k n ≡ n * a ^ k
+unfolding room
+room-power a zero n = sym (ap (λ x. n * x) (pow-zero a) ∙ mul-one n)
+room-power a (suc k) n = room-power a k (n * a) ∙ mul-assoc n a (a ^ k) ∙ ap (λ x. n * x) (mul-comm a (a ^ k) ∙ sym (pow-suc a k))
+
 pub square : (a : ℕ) → a * a ≡ a ^ 2
 square a = ap (λ x. x * a) (one-power a) ∙ sym (pow-suc a 1)
 
 pub cube : (a : ℕ) → a * a * a ≡ a ^ 3
 cube a = ap (λ x. x * a) (square a) ∙ sym (pow-suc a 2)
-
-pub rows-of-cube : (a : ℕ) → a * (a * a) ≡ a ^ 3
-rows-of-cube a = sym (mul-assoc a a a) ∙ cube a
 
 -- ---- one pair of a displacement and a site symmetry
 
@@ -177,7 +176,7 @@ pub record Images (t : List ℤ) (at n : ℕ) : Type 0 where
   pub image-at : (j : ℕ) → j < n → Readable t (at + j) × (indexAt t (at + j) < n)
 
 -- pair n of a call that is not refused
-pub record Turn (D : Deltas) (n : ℕ) : Type 0 where
+pub record Pair (D : Deltas) (n : ℕ) : Type 0 where
   pub some : 0 < D .numSiteSym
   pub total-few : D .numDisp * D .numSiteSym ≤ 1048576
   pub symmetry-fits : n % D .numSiteSym * 9 + 9 ≤ length (D .siteSymCart)
@@ -187,8 +186,8 @@ pub record Turn (D : Deltas) (n : ℕ) : Type 0 where
 pub few : {D : Deltas} {m : ℕ} → Ready D m → total D ≤ 1048576
 few R = mul-le-mul (R .displacements-few) (R .symmetries-few)
 
-pub turn : {D : Deltas} {m : ℕ} → Ready D m → (n : ℕ) → n < total D → Turn D n
-turn {D} {m} R n h =
+pub pair : {D : Deltas} {m : ℕ} → Ready D m → (n : ℕ) → n < total D → Pair D n
+pair {D} {m} R n h =
     let d : n / D .numSiteSym ≤ 1024 = omega (arith, displacement-below D n h, R .displacements-few) in
     record {
       some = some-syms D n h;
@@ -202,39 +201,17 @@ turn {D} {m} R n h =
       };
     }
 
--- the sources of a row's blocks are there: they are blocks of two atoms, or of three, and first is the source of the row's first atom
-pub row-sources : (D : Deltas) (m n i first : ℕ) → Ready D (suc m) → n < total D → 0 < D .numAtom → first ≡ source D n m i
-    → (first * D .numAtom + D .numAtom) * 3 ^ suc m ≤ length (D .deltas)
-row-sources D m n i first R h z e =
+-- ---- what lies inside: t is a row of the result, and s is the source of its first atom
+
+pub target-inside : (D : Deltas) (k t len : ℕ) → t < D .numAtom → len ≡ D .numAtom ^ suc k * (3 * 3 ^ suc k) → Inside (D .numAtom) (3 * 3 ^ suc k) k t len
+target-inside D k t len h e =
+    inside-slab (D .numAtom) (3 * 3 ^ suc k) k t (D .numAtom) len h (e ∙ ap (λ x. x * (3 * 3 ^ suc k)) (pow-suc (D .numAtom) k ∙ mul-comm (D .numAtom ^ k) (D .numAtom) ∙ sym (room-power (D .numAtom) k (D .numAtom))))
+
+pub source-inside : (D : Deltas) (k n i s : ℕ) → Ready D (suc k) → n < total D → 0 < D .numAtom → s ≡ source D n 1 i
+    → Inside (D .numAtom) (3 ^ suc k) k s (length (D .deltas))
+source-inside D k n i s R h z e =
     let a = D .numAtom in
-    let l : first < D .numDisp * a ^ m = rw e (source-below D n h (suc m) m i R z) in
-    let b : suc first * a ≤ D .numDisp * a ^ m * a = mul-le-mul-right a l in
-    let c : first * a + a ≤ D .numDisp * a ^ suc m = subst (λ (x : ℕ). first * a + a ≤ x) (next-power (D .numDisp) a m) (omega arith) in
-    subst (λ (x : ℕ). (first * a + a) * 3 ^ suc m ≤ x) (sym (R .deltas-length)) (mul-le-mul-right (3 ^ suc m) c)
-
-pub row-sources-of-three : (D : Deltas) (n i first : ℕ) → Ready D 3 → n < total D → 0 < D .numAtom → first ≡ source D n 1 i
-    → (first * D .numAtom + D .numAtom) * D .numAtom * 27 ≤ length (D .deltas)
-row-sources-of-three D n i first R h z e =
-    let a = D .numAtom in
-    let l : first < D .numDisp * a ^ 1 = rw e (source-below D n h 3 1 i R z) in
-    let b : suc first * a ≤ D .numDisp * a ^ 2 = subst (λ (x : ℕ). suc first * a ≤ x) (next-power (D .numDisp) a 1) (mul-le-mul-right a l) in
-    let c : suc first * a * a ≤ D .numDisp * a ^ 3 = subst (λ (x : ℕ). suc first * a * a ≤ x) (next-power (D .numDisp) a 2) (mul-le-mul-right a b) in
-    let f : suc first * a ≡ first * a + a = omega arith in
-    subst (λ (x : ℕ). x * a * 27 ≤ length (D .deltas)) f (subst (λ (x : ℕ). suc first * a * a * 27 ≤ x) (sym (R .deltas-length)) (mul-le-mul-right 27 c))
-
--- line i of such a row, and what it reads: first is the number of the source's first atom, times a, and image is the second atom
-module _ (a first size : ℕ) (l : (first + a) * a * 27 ≤ size) where
-  pub first-small : 0 < a → first + a ≤ size
-  first-small z = omega (arith, mul-le-mul-left (first + a) z)
-
-  pub line-sources : {image : ℕ} → image < a → ((first + image) * a + a) * 27 ≤ size
-  line-sources {image} h =
-      let s : suc (first + image) * a ≤ (first + a) * a = mul-le-mul-right a (omega arith) in
-      let t : (first + image) * a + a ≤ (first + a) * a = omega arith in
-      omega (arith, mul-le-mul-right 27 t)
-
-pub line-fits : (a i size : ℕ) → i < a → a * a * 81 ≡ size → (i * a + a) * 81 ≤ size
-line-fits a i size h e =
-    let s : suc i * a ≤ a * a = mul-le-mul-right a h in
-    let t : i * a + a ≤ a * a = omega arith in
-    omega (arith, mul-le-mul-right 81 t)
+    let l : s < D .numDisp * a = subst (λ (x : ℕ). s < D .numDisp * x) (sym (one-power a)) (rw e (source-below D n h (suc k) 1 i R z)) in
+    let f : D .numDisp * a ^ suc k ≡ room a k (D .numDisp * a) =
+    ap (λ x. D .numDisp * x) (pow-suc a k ∙ mul-comm (a ^ k) a) ∙ sym (mul-assoc (D .numDisp) a (a ^ k)) ∙ sym (room-power a k (D .numDisp * a)) in
+    inside-slab a (3 ^ suc k) k s (D .numDisp * a) (length (D .deltas)) l (R .deltas-length ∙ ap (λ x. x * 3 ^ suc k) f)

@@ -1,3 +1,4 @@
 pub mod RotateDelta
 pub mod Rows
 pub mod Guard
+pub mod Meaning

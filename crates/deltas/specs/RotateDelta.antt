@@ -10,7 +10,8 @@ use Rattle.lists.specs.Tab.{tab, times}
 use Rattle.blocks.specs.Block.{block}
 use Rattle.rotations.specs.Rotation.{plusZero, rotated}
 use Rattle.tables.specs.declared.Answer.{Answer}
-use Rattle.tables.specs.declared.Answer.the-variants.{Done, CountAboveLimit, WrongLength, IndexOutOfRange}
+use Rattle.tables.specs.declared.Answer.the-variants.{Done}
+use Rattle.tables.specs.declared.Refusal.the-variants.{CountAboveLimit, WrongLength, IndexOutOfRange}
 use Rattle.tables.specs.Answers.{after, refuseIf}
 use Rattle.tables.specs.Conditions.{anyAbove, anyWrong, outOfRange, indexAt}
 use Rattle.tables.specs.Limits.{limit3, limit4, limitList}
@@ -26,6 +27,17 @@ pub record Deltas : Type 0 where
   pub numSiteSym : ℕ
   pub numDisp : ℕ
 
+abbrev pub deltasOf : List Float → List Float → List Float → List ℤ → ℕ → ℕ → ℕ → Deltas
+deltasOf deltas invU siteSymCart rotMapSyms numAtom numSiteSym numDisp = record {
+  deltas = deltas;
+  invU = invU;
+  siteSymCart = siteSymCart;
+  rotMapSyms = rotMapSyms;
+  numAtom = numAtom;
+  numSiteSym = numSiteSym;
+  numDisp = numDisp;
+}
+
 -- one for each pair of a displacement and a site symmetry: pair n is displacement n / numSiteSym with site symmetry n % numSiteSym
 abbrev pub total : Deltas → ℕ
 total D = D .numDisp * D .numSiteSym
@@ -38,17 +50,21 @@ unfoldable pub source : Deltas → ℕ → ℕ → ℕ → ℕ
 source D n zero b = n / D .numSiteSym
 source D n (suc m) b = source D n m (b / D .numAtom) * D .numAtom + indexAt (D .rotMapSyms) (n % D .numSiteSym * D .numAtom + b % D .numAtom)
 
--- that block turned by the pair's site symmetry on each leg
-unfoldable pub turned : Deltas → ℕ → ℕ → ℕ → List Float
-turned D m n b = rotated (block 9 (n % D .numSiteSym) (D .siteSymCart)) m (block (3 ^ m) (source D n m b) (D .deltas))
+-- that block rotated by the pair's site symmetry on each leg
+unfoldable pub rotatedDelta : Deltas → ℕ → ℕ → ℕ → List Float
+rotatedDelta D m n b = rotated (block 9 (n % D .numSiteSym) (D .siteSymCart)) m (block (3 ^ m) (source D n m b) (D .deltas))
 
--- Row k of invU times the numbers at place p of the turned blocks, of the first t pairs: summed from 0.0, pair after pair.
+-- Row k of invU times the numbers at place p of the rotated blocks, of the first t pairs: summed from 0.0, pair after pair.
 unfoldable pub summed : Deltas → ℕ → ℕ → ℕ → ℕ → ℕ → Float
-summed D m t b k p = times t (λ n s. add binary64 s (mul binary64 (getD (D .invU) (k * total D + n) nan) (getD (turned D m n b) p nan))) plusZero
+summed D m t b k p = times t (λ n s. add binary64 s (mul binary64 (getD (D .invU) (k * total D + n) nan) (getD (rotatedDelta D m n b) p nan))) plusZero
 
--- Number q of the result. Block b of it has 3 ^ m numbers for each first direction k, the direction of the displaced atom.
+-- Number p of block b of the result: it has 3 ^ m numbers for each first direction, the direction of the displaced atom.
+abbrev pub numberIn : Deltas → ℕ → ℕ → ℕ → ℕ → Float
+numberIn D m t b p = summed D m t b (p / 3 ^ m) (p % 3 ^ m)
+
+-- number q of the result
 abbrev pub number : Deltas → ℕ → ℕ → Float
-number D m q = summed D m (total D) (q / 3 ^ m / 3) (q / 3 ^ m % 3) (q % 3 ^ m)
+number D m q = numberIn D m (total D) (q / (3 * 3 ^ m)) (q % (3 * 3 ^ m))
 
 -- the whole result; without a pair it is +0.0 everywhere
 unfoldable pub rotatedDeltas : Deltas → ℕ → List Float

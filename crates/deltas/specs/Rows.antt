@@ -1,23 +1,22 @@
--- The result row by row, as the code makes it: a row is the blocks that have the same first atom, so many as k. It is cleared, and then every
--- pair of a displacement and a site symmetry adds its share to all blocks of the row, so each number is summed pair after pair. The laws hold for
--- every rank m and every k. Assumes nothing.
+-- The result as the code makes it: it is cleared, and then, row after row (a row is the blocks that have the same first atom), every pair of a
+-- displacement and a site symmetry adds its share to all blocks of the row, so each number is summed pair after pair. The laws hold for
+-- every rank. Assumes nothing.
 use mathlib.Core.Path.{_≡_, refl, sym, ap, ap₂, _∙_, subst}
 use mathlib.Core.List.{List, [], _∷_}
 use mathlib.Core.Logic.{_⊎_, ⊎-elim}
 use Prim.Native.Nat.{ℕ, zero, suc, _+_, _*_, _/_, _%_, _^_, _<_, _≤_}
-use native.Mathlib.Nat.{mul-add-div-right, mul-add-mod-self-right, div-add-mod', div-lt-iff-lt-mul, mod-lt, mod-eq-of-lt, mul-assoc}
+use native.Mathlib.Nat.{div-add-mod', div-lt-iff-lt-mul, mod-lt, mod-eq-of-lt, mul-assoc, mul-comm, mul-one, pow-zero, pow-suc}
 use native.Mathlib.Omega.{arith}
 use lib.ListN.{length, getD, set, replicate, length-set, length-replicate, getD-replicate}
 use lib.Seq.{getD-set-other}
 use lib.Ieee.{Float, nan, add, mul, binary64}
 use borrow.Author.Count.{below-none}
 use Rattle.lists.specs.Tab.{tab, length-tab, getD-tab, is-tab, fill-more, times, times-same, times-nest}
-use Rattle.lists.specs.Cases.{eq-or-ne}
+use Rattle.lists.specs.Cases.{eq-or-ne, lt-or-le}
 use Rattle.blocks.specs.Block.{block, putBlock, length-putBlock, getD-block, put-inside, put-outside, block-of, place-of}
 use Rattle.tables.specs.Conditions.{indexAt}
-use Rattle.rotations.specs.Rotation.{plusZero, coefficients, sums}
-use Rattle.rotations.specs.Laws.{sums-rotated}
-use Rattle.deltas.specs.RotateDelta.{Deltas, total, source, turned, summed, number, rotatedDeltas}
+use Rattle.rotations.specs.Rotation.{plusZero, rotated}
+use Rattle.deltas.specs.RotateDelta.{Deltas, total, source, rotatedDelta, summed, numberIn, number, rotatedDeltas}
 
 -- ---- definitions
 
@@ -25,33 +24,34 @@ use Rattle.deltas.specs.RotateDelta.{Deltas, total, source, turned, summ
 unfoldable pub axpy : ℕ → Float → List Float → List Float → List Float
 axpy w u x s = tab w (λ p. add binary64 (getD s p nan) (mul binary64 u (getD x p nan)))
 
--- the same for block g of a row
+-- the same for the g-th w numbers of a block
 unfoldable pub lead : ℕ → ℕ → Float → List Float → List Float → List Float
-lead w g u x row = putBlock w g (axpy w u x (block w g row)) row
+lead w g u x s = putBlock w g (axpy w u x (block w g s)) s
 
--- the share x of a block j for its three first directions
-unfoldable pub leads : ℕ → ℕ → List Float → List Float → List Float → List Float
-leads w j u x row = lead w (j * 3 + 2) (getD u 2 nan) x (lead w (j * 3 + 1) (getD u 1 nan) x (lead w (j * 3) (getD u 0 nan) x row))
+-- a block of the result, which has w numbers for each of its three first directions, with the share x of a pair added
+unfoldable pub withShare : ℕ → List Float → List Float → List Float → List Float
+withShare w u x s = tab (3 * w) (λ q. add binary64 (getD s q nan) (mul binary64 (getD u (q / w) nan) (getD x (q % w) nan)))
 
--- the shares xs of the n blocks of a row
-unfoldable pub addShares : ℕ → ℕ → List Float → (ℕ → List Float) → List Float → List Float
-addShares w n u xs row = times n (λ j. leads w j u (xs j)) row
+-- the same for block b of the result
+unfoldable pub share : ℕ → ℕ → List Float → List Float → List Float → List Float
+share w b u x fc = putBlock (3 * w) b (withShare w u x (block (3 * w) b fc)) fc
 
--- the shares xs of the n blocks of a row from block base on
-unfoldable pub addLine : ℕ → ℕ → ℕ → List Float → (ℕ → List Float) → List Float → List Float
-addLine w base n u xs row = times n (λ j. leads w (base + j) u (xs j)) row
+-- one loop for each of the last k atoms: t and s are the numbers of the atoms before in the result and in the deltas
+unfoldable pub spread : (ℕ → ℕ) → ℕ → ℕ → List Float → (List Float → List Float) → List Float → ℕ → ℕ → ℕ → List Float → List Float
+spread image n w u f deltas zero t s = share w t u (f (block w s deltas))
+spread image n w u f deltas (suc k) t s = times n (λ j. spread image n w u f deltas k (t * n + j) (s * n + image j))
 
 -- column n of invU
 unfoldable pub column : List Float → ℕ → ℕ → List Float
 column invU t n = tab 3 (λ k. getD invU (k * t + n) nan)
 
--- the share of pair n in row a
-unfoldable pub turnRow : Deltas → ℕ → ℕ → ℕ → ℕ → List Float → List Float
-turnRow D m k a n = addShares (3 ^ m) k (column (D .invU) (total D) n) (λ j. turned D m n (a * k + j))
+-- the share of pair n in block b
+abbrev pub pairShare : Deltas → ℕ → ℕ → ℕ → List Float → List Float
+pairShare D m n b = share (3 ^ m) b (column (D .invU) (total D) n) (rotatedDelta D m n b)
 
--- row a of the result
-unfoldable pub rowOf : Deltas → ℕ → ℕ → ℕ → List Float
-rowOf D m k a = tab (k * (3 * 3 ^ m)) (λ q. summed D m (total D) (a * k + q / 3 ^ m / 3) (q / 3 ^ m % 3) (q % 3 ^ m))
+-- the share of pair n in row i, whose blocks have k more atoms
+unfoldable pub addPair : Deltas → ℕ → ℕ → ℕ → List Float → List Float
+addPair D k i n = times (D .numAtom ^ k) (λ j. pairShare D (suc k) n (i * D .numAtom ^ k + j))
 
 -- ---- loops
 
@@ -90,163 +90,194 @@ pub is-axpy : (w : ℕ) (u : Float) (x s r : List Float) (p : ℕ) → w ≤ p �
 unfolding axpy
 is-axpy w u x s r p h i = changed-all w (axpy-at u x) s r p h i
 
--- ---- one row
+-- ---- one block
 
-pub length-lead : (w g : ℕ) (u : Float) (x row : List Float) → length (lead w g u x row) ≡ length row
+pub length-lead : (w g : ℕ) (u : Float) (x s : List Float) → length (lead w g u x s) ≡ length s
 unfolding lead
-length-lead w g u x row = length-putBlock w g _ row
+length-lead w g u x s = length-putBlock w g _ s
 
-module _ (w g : ℕ) (u : Float) (x row : List Float) (q : ℕ) (h : q < length row) where
-  lead-here : q / w ≡ g → q % w < w → getD (lead w g u x row) q nan ≡ add binary64 (getD row q nan) (mul binary64 u (getD x (q % w) nan))
+module _ (w g : ℕ) (u : Float) (x s : List Float) (q : ℕ) (h : q < length s) where
+  lead-here : q / w ≡ g → q % w < w → getD (lead w g u x s) q nan ≡ add binary64 (getD s q nan) (mul binary64 u (getD x (q % w) nan))
   unfolding lead axpy
   lead-here e l =
-      put-inside w g _ row q h e ∙ getD-tab w _ (q % w) nan l
+      put-inside w g _ s q h e ∙ getD-tab w _ (q % w) nan l
       ∙ ap (λ y. add binary64 y (mul binary64 u (getD x (q % w) nan)))
-      (getD-block w g row (q % w) l ∙ ap (λ i. getD row i nan) (ap (λ i. i * w + q % w) (sym e) ∙ div-add-mod' q w))
+      (getD-block w g s (q % w) l ∙ ap (λ i. getD s i nan) (ap (λ i. i * w + q % w) (sym e) ∙ div-add-mod' q w))
 
-  lead-elsewhere : (q / w ≡ g → ⊥) → getD (lead w g u x row) q nan ≡ getD row q nan
+  lead-elsewhere : (q / w ≡ g → ⊥) → getD (lead w g u x s) q nan ≡ getD s q nan
   unfolding lead
-  lead-elsewhere e = put-outside w g _ row q h e
+  lead-elsewhere e = put-outside w g _ s q h e
 
 -- the column as the code reads it
-pub is-column : (invU : List Float) (t n : ℕ) → getD invU n nan ∷ getD invU (t + n) nan ∷ getD invU (2 * t + n) nan ∷ [] ≡ column invU t n
+pub is-column : (invU : List Float) (t n y z : ℕ) → y ≡ 1 * t + n → z ≡ 2 * t + n → getD invU n nan ∷ getD invU y nan ∷ getD invU z nan ∷ [] ≡ column invU t n
 unfolding column tab
-is-column invU t n =
+is-column invU t n y z ey ez =
     let f : ℕ → Float = λ i. getD invU i nan in
     let e : n ≡ 0 * t + n = omega arith in
-    let g : t + n ≡ 1 * t + n = omega arith in
-    ap₂ (λ x y. x ∷ y ∷ f (2 * t + n) ∷ []) (ap f e) (ap f g)
+    ap₂ (λ a b. f a ∷ f b ∷ f z ∷ []) e ey ∙ ap (λ c. f (0 * t + n) ∷ f (1 * t + n) ∷ f c ∷ []) ez
 
 in-column : (invU : List Float) (t n k : ℕ) → k < 3 → getD (column invU t n) k nan ≡ getD invU (k * t + n) nan
 unfolding column
 in-column invU t n k h = getD-tab 3 (λ k. getD invU (k * t + n) nan) k nan h
 
-module _ (D : Deltas) (m k a : ℕ) (pos : 0 < 3 ^ m) where
+-- the three first directions one after the other
+pub shares-of : {r1 r2 r3 : List Float} (w : ℕ) (u x s : List Float) → 0 < w → length s ≡ 3 * w → r1 ≡ lead w 0 (getD u 0 nan) x s
+    → r2 ≡ lead w 1 (getD u 1 nan) x r1 → r3 ≡ lead w 2 (getD u 2 nan) x r2 → r3 ≡ withShare w u x s
+unfolding withShare
+shares-of {r1} {r2} {r3} w u x s pos es e1 e2 e3 =
+    let l1 : length r1 ≡ 3 * w = ap length e1 ∙ length-lead w 0 _ x s ∙ es in
+    let l2 : length r2 ≡ 3 * w = ap length e2 ∙ length-lead w 1 _ x r1 ∙ l1 in
+    let l3 : length r3 ≡ 3 * w = ap length e3 ∙ length-lead w 2 _ x r2 ∙ l2 in
+    is-tab nan (3 * w) _ r3 l3 (λ q h.
+    let hs : q < length s = rw es h in
+    let h1 : q < length r1 = rw l1 h in
+    let h2 : q < length r2 = rw l2 h in
+    let d : q / w < 3 = div-lt-iff-lt-mul pos .1 h in
+    let m = mod-lt q pos in
+    let at : (g : ℕ) → q / w ≡ g → (y : Float) → y ≡ getD s q nan
+    → add binary64 y (mul binary64 (getD u g nan) (getD x (q % w) nan)) ≡ add binary64 (getD s q nan) (mul binary64 (getD u (q / w) nan) (getD x (q % w) nan)) = λ g i y ey.
+    ap₂ (λ a b. add binary64 a (mul binary64 (getD u b nan) (getD x (q % w) nan))) ey (sym i) in
+    let g1 : getD r1 q nan ≡ getD (lead w 0 (getD u 0 nan) x s) q nan = ap (λ l. getD l q nan) e1 in
+    let g2 : getD r2 q nan ≡ getD (lead w 1 (getD u 1 nan) x r1) q nan = ap (λ l. getD l q nan) e2 in
+    let g3 : getD r3 q nan ≡ getD (lead w 2 (getD u 2 nan) x r2) q nan = ap (λ l. getD l q nan) e3 in
+    ⊎-elim
+    (λ (i : q / w ≡ 0).
+    g3 ∙ lead-elsewhere w 2 _ x r2 q h2 (λ j. absurd (omega arith)) ∙ g2 ∙ lead-elsewhere w 1 _ x r1 q h1 (λ j. absurd (omega arith))
+    ∙ g1 ∙ lead-here w 0 _ x s q hs i m ∙ at 0 i _ refl)
+    (λ (n0 : q / w ≡ 0 → ⊥).
+    let k1 = g1 ∙ lead-elsewhere w 0 _ x s q hs n0 in
+    ⊎-elim
+    (λ (i : q / w ≡ 1).
+    g3 ∙ lead-elsewhere w 2 _ x r2 q h2 (λ j. absurd (omega arith)) ∙ g2 ∙ lead-here w 1 _ x r1 q h1 i m ∙ at 1 i _ k1)
+    (λ (n1 : q / w ≡ 1 → ⊥).
+    let i : q / w ≡ 2 = two (q / w) d n0 n1 in
+    g3 ∙ lead-here w 2 _ x r2 q h2 i m ∙ at 2 i _ (g2 ∙ lead-elsewhere w 1 _ x r1 q h1 n1 ∙ k1))
+    (eq-or-ne (q / w) 1))
+    (eq-or-ne (q / w) 0))
+  where
+    two : (d : ℕ) → d < 3 → (d ≡ 0 → ⊥) → (d ≡ 1 → ⊥) → d ≡ 2
+    two zero h a b = absurd (a refl)
+    two (suc zero) h a b = absurd (b refl)
+    two (suc (suc zero)) h a b = refl
+    two (suc (suc (suc d))) h a b = absurd (omega arith)
+
+-- ---- a block of the result
+
+module _ (w b : ℕ) (u x fc : List Float) where
+  pub length-share : length (share w b u x fc) ≡ length fc
+  unfolding share
+  length-share = length-putBlock (3 * w) b _ fc
+
+  share-here : (q : ℕ) → 0 < 3 * w → q < length fc → q / (3 * w) ≡ b
+      → getD (share w b u x fc) q nan ≡ add binary64 (getD fc q nan) (mul binary64 (getD u (q % (3 * w) / w) nan) (getD x (q % (3 * w) % w) nan))
+  unfolding share withShare
+  share-here q pos h e =
+      let l = mod-lt q pos in
+      put-inside (3 * w) b _ fc q h e ∙ getD-tab (3 * w) _ (q % (3 * w)) nan l
+      ∙ ap (λ y. add binary64 y (mul binary64 (getD u (q % (3 * w) / w) nan) (getD x (q % (3 * w) % w) nan)))
+      (getD-block (3 * w) b fc (q % (3 * w)) l ∙ ap (λ i. getD fc i nan) (ap (λ i. i * (3 * w) + q % (3 * w)) (sym e) ∙ div-add-mod' q (3 * w)))
+
+  share-elsewhere : (q : ℕ) → q < length fc → (q / (3 * w) ≡ b → ⊥) → getD (share w b u x fc) q nan ≡ getD fc q nan
+  unfolding share
+  share-elsewhere q h n = put-outside (3 * w) b _ fc q h n
+
+-- ---- all rows: k blocks in each
+
+module _ (D : Deltas) (m k size : ℕ) (pos : 0 < 3 ^ m) where
   abbrev w : ℕ
   w = 3 ^ m
 
-  abbrev size : ℕ
-  size = k * (3 * w)
-
-  -- place q of the row after t pairs
+  -- number q of the result after t pairs
   abbrev upTo : ℕ → ℕ → Float
-  upTo t q = summed D m t (a * k + q / w / 3) (q / w % 3) (q % w)
+  upTo t q = numberIn D m t (q / (3 * w)) (q % (3 * w))
 
-  -- n pairs are added everywhere, and pair n in the first g blocks of w numbers
-  abbrev Passed : ℕ → ℕ → List Float → Type 0
-  Passed n g row =
-      (length row ≡ size) × ((q : ℕ) → q < size → q / w < g → getD row q nan ≡ upTo (suc n) q) × ((q : ℕ) → q < size → g ≤ q / w → getD row q nan ≡ upTo n q)
+  -- row i is reached: n pairs are added to all its blocks, and pair n to its first j
+  pub record Passed (i n j : ℕ) (fc : List Float) : Type 0 where
+    pub len : length fc ≡ size
+    pub before : (q : ℕ) → q < size → q / (3 * w) < i * k → getD fc q nan ≡ upTo (total D) q
+    pub done : (q : ℕ) → q < size → i * k ≤ q / (3 * w) → q / (3 * w) < i * k + j → getD fc q nan ≡ upTo (suc n) q
+    pub todo : (q : ℕ) → q < size → i * k + j ≤ q / (3 * w) → q / (3 * w) < i * k + k → getD fc q nan ≡ upTo n q
+    pub after : (q : ℕ) → q < size → i * k + k ≤ q / (3 * w) → getD fc q nan ≡ upTo 0 q
 
-  one-more : (n q : ℕ) → upTo (suc n) q
-      ≡ add binary64 (upTo n q) (mul binary64 (getD (D .invU) (q / w % 3 * total D + n) nan) (getD (turned D m n (a * k + q / w / 3)) (q % w) nan))
+  one-more : (n q b : ℕ) → q / (3 * w) ≡ b → (y : Float) → y ≡ upTo n q
+      → add binary64 y (mul binary64 (getD (column (D .invU) (total D) n) (q % (3 * w) / w) nan) (getD (rotatedDelta D m n b) (q % (3 * w) % w) nan)) ≡ upTo (suc n) q
   unfolding summed times
-  one-more n q = refl
+  one-more n q b e y ey =
+      let l : q % (3 * w) / w < 3 = div-lt-iff-lt-mul pos .1 (mod-lt q (omega arith)) in
+      ap₂ (add binary64) ey
+      (ap₂ (mul binary64) (in-column (D .invU) (total D) n (q % (3 * w) / w) l) (ap (λ c. getD (rotatedDelta D m n c) (q % (3 * w) % w) nan) (sym e)))
 
-  lead-more : (n g g′ : ℕ) (u : Float) (x row : List Float) → g′ ≡ suc g → u ≡ getD (D .invU) (g % 3 * total D + n) nan → x ≡ turned D m n (a * k + g / 3)
-      → Passed n g row → Passed n g′ (lead w g u x row)
-  lead-more n g g′ u x row eg eu ex (e, f, r) = (
-    length-lead w g u x row ∙ e,
-    λ q l h.
-        let lr : q < length row = subst (λ (i : ℕ). q < i) (sym e) l in
-        ⊎-elim
-        (λ (i : q / w ≡ g).
-        lead-here w g u x row q lr i (mod-lt q pos)
-        ∙ ap₂ (add binary64) (r q l (omega arith))
-        (ap₂ (mul binary64)
-        (eu ∙ ap (λ j. getD (D .invU) (j % 3 * total D + n) nan) (sym i))
-        (ap (λ b. getD b (q % w) nan) (ex ∙ ap (λ j. turned D m n (a * k + j / 3)) (sym i))))
-        ∙ sym (one-more n q))
-        (λ (i : q / w ≡ g → ⊥). lead-elsewhere w g u x row q lr i ∙ f q l (omega arith))
-        (eq-or-ne (q / w) g),
-    λ q l h.
-        let lr : q < length row = subst (λ (i : ℕ). q < i) (sym e) l in
-        lead-elsewhere w g u x row q lr (λ i. omega arith) ∙ r q l (omega arith),
-  )
+  block-more : (i n j : ℕ) (fc : List Float) → j < k → Passed i n j fc → Passed i n (suc j) (pairShare D m n (i * k + j) fc)
+  block-more i n j fc hj P =
+      let b = i * k + j in
+      let u = column (D .invU) (total D) n in
+      let x = rotatedDelta D m n b in
+      let there : (q : ℕ) → q < size → q < length fc = λ q l. subst (λ (z : ℕ). q < z) (sym (P .len)) l in
+      record {
+        len = length-share w b u x fc ∙ P .len;
+        before = λ q l h. share-elsewhere w b u x fc q (there q l) (λ e. absurd (omega arith)) ∙ P .before q l h;
+        done = λ q l g h.
+            ⊎-elim
+            (λ (e : q / (3 * w) ≡ b). share-here w b u x fc q (omega arith) (there q l) e ∙ one-more n q b e _ (P .todo q l (omega arith) (omega arith)))
+            (λ (e : q / (3 * w) ≡ b → ⊥). share-elsewhere w b u x fc q (there q l) e ∙ P .done q l g (below (q / (3 * w)) (i * k) j e h))
+            (eq-or-ne (q / (3 * w)) b);
+        todo = λ q l g h. share-elsewhere w b u x fc q (there q l) (λ e. absurd (omega arith)) ∙ P .todo q l (omega arith) h;
+        after = λ q l g. share-elsewhere w b u x fc q (there q l) (λ e. absurd (omega arith)) ∙ P .after q l g;
+      }
+    where
+      below : (c d j : ℕ) → (c ≡ d + j → ⊥) → c < d + suc j → c < d + j
+      below c d j n h = omega arith
 
-  leads-more : (n j : ℕ) (row : List Float) → Passed n (j * 3) row
-      → Passed n (suc j * 3) (leads w j (column (D .invU) (total D) n) (turned D m n (a * k + j)) row)
-  unfolding leads
-  leads-more n j row p =
-      let t = total D in
-      let c = column (D .invU) t n in
-      let x = turned D m n (a * k + j) in
-      let is-u : (d i : ℕ) → d < 3 → i ≡ d → getD c d nan ≡ getD (D .invU) (i * t + n) nan = λ d i l e. in-column (D .invU) t n d l ∙ ap (λ i. getD (D .invU) (i * t + n) nan) (sym e) in
-      let is-x : (i : ℕ) → i ≡ j → x ≡ turned D m n (a * k + i) = λ i e. ap (λ i. turned D m n (a * k + i)) (sym e) in
-      let p1 = lead-more n (j * 3) (j * 3 + 1) (getD c 0 nan) x row (omega arith) (is-u 0 _ (omega arith) (omega arith)) (is-x _ (omega arith)) p in
-      let p2 = lead-more n (j * 3 + 1) (j * 3 + 2) (getD c 1 nan) x _ (omega arith) (is-u 1 _ (omega arith) (omega arith)) (is-x _ (omega arith)) p1 in
-      lead-more n (j * 3 + 2) (suc j * 3) (getD c 2 nan) x _ (omega arith) (is-u 2 _ (omega arith) (omega arith)) (is-x _ (omega arith)) p2
+  pair-more : (i n : ℕ) (fc : List Float) → Passed i n 0 fc → Passed i (suc n) 0 (times k (λ j. pairShare D m n (i * k + j)) fc)
+  pair-more i n fc P =
+      let Q = times-keeps (λ j. Passed i n j) k (λ j. pairShare D m n (i * k + j)) fc P (λ j y l. block-more i n j y l) in
+      record {
+        len = Q .len;
+        before = Q .before;
+        done = λ q l g h. absurd (omega arith);
+        todo = λ q l g h. Q .done q l (omega arith) h;
+        after = Q .after;
+      }
 
-  turn-more : (n : ℕ) (row : List Float) → Passed n 0 row → Passed (suc n) 0 (turnRow D m k a n row)
-  unfolding turnRow addShares
-  turn-more n row p =
-      let (e, f, r) = times-keeps (λ j. Passed n (j * 3)) (k) _ row p (λ j y l. leads-more n j y) in
-      (e, λ q l h. absurd (omega arith), λ q l h. f q l (div-lt-iff-lt-mul pos .1 (subst (λ (i : ℕ). q < i) (sym (mul-assoc (k) 3 w)) l)))
+  row-more : (i : ℕ) (fc : List Float) → Passed i 0 0 fc → Passed (suc i) 0 0 (times (total D) (λ n. times k (λ j. pairShare D m n (i * k + j))) fc)
+  row-more i fc P =
+      let Q = times-keeps (λ n. Passed i n 0) (total D) (λ n. times k (λ j. pairShare D m n (i * k + j))) fc P (λ n y l. pair-more i n y) in
+      let e : suc i * k ≡ i * k + k = omega arith in
+      record {
+        len = Q .len;
+        before = λ q l h. ⊎-elim (λ (g : q / (3 * w) < i * k). Q .before q l g) (λ (g : i * k ≤ q / (3 * w)). Q .todo q l (omega arith) (omega arith)) (lt-or-le (q / (3 * w)) (i * k));
+        done = λ q l g h. absurd (omega arith);
+        todo = λ q l g h. Q .after q l (omega arith);
+        after = λ q l g. Q .after q l (omega arith);
+      }
 
-  -- no pair: +0.0 everywhere
-  start : Passed 0 0 (replicate size plusZero)
+  -- nothing yet: +0.0 everywhere
+  start : Passed 0 0 0 (replicate size plusZero)
   unfolding summed times
-  start = (length-replicate size plusZero, λ q l h. absurd (omega arith), λ q l h. getD-replicate size q plusZero nan l)
+  start =
+      let z : (q : ℕ) → q < size → getD (replicate size plusZero) q nan ≡ plusZero = λ q l. getD-replicate size q plusZero nan l in
+      record {
+        len = length-replicate size plusZero;
+        before = λ q l h. absurd (omega arith);
+        done = λ q l g h. absurd (omega arith);
+        todo = λ q l g h. z q l;
+        after = λ q l g. z q l;
+      }
 
-  pub row-turns : times (total D) (turnRow D m k a) (replicate size plusZero) ≡ rowOf D m k a
-  unfolding rowOf
-  row-turns =
-      let (e, f, r) = times-keeps (λ n. Passed n 0) (total D) (turnRow D m k a) (replicate size plusZero) start (λ n y l. turn-more n y) in
-      is-tab nan size _ _ e (λ q l. r q l (omega arith))
+  all-rows : (rows : ℕ) → Passed rows 0 0 (times rows (λ i. times (total D) (λ n. times k (λ j. pairShare D m n (i * k + j)))) (replicate size plusZero))
+  all-rows rows = times-keeps (λ i. Passed i 0 0) rows _ (replicate size plusZero) start (λ i y l. row-more i y)
 
--- the three leads one after another
-pub leads-of : {r1 r2 r3 x y : List Float} (w j : ℕ) (u row : List Float) → x ≡ y → r1 ≡ lead w (j * 3) (getD u 0 nan) x row
-    → r2 ≡ lead w (j * 3 + 1) (getD u 1 nan) x r1 → r3 ≡ lead w (j * 3 + 2) (getD u 2 nan) x r2 → r3 ≡ leads w j u y row
-unfolding leads
-leads-of {r1} {r2} {r3} {x} w j u row e e1 e2 e3 =
-    e3 ∙ ap (lead w (j * 3 + 2) (getD u 2 nan) x) (e2 ∙ ap (lead w (j * 3 + 1) (getD u 1 nan) x) e1)
-    ∙ ap (λ z. lead w (j * 3 + 2) (getD u 2 nan) z (lead w (j * 3 + 1) (getD u 1 nan) z (lead w (j * 3) (getD u 0 nan) z row))) e
-
--- ---- all rows
-
--- the numbers before row c + 1 are right if those before row c are and row c is put in its place
-pub put-more : (f : ℕ → Float) (size c : ℕ) (v fc : List Float) → 0 < size → c * size + size ≤ length fc → ((r : ℕ) → r < size → getD v r nan ≡ f (c * size + r))
-    → ((q : ℕ) → q < c * size → getD fc q nan ≡ f q) → (q : ℕ) → q < (c + 1) * size → getD (putBlock size c v fc) q nan ≡ f q
-put-more f size c v fc h l g inv q b =
-    let s : q / size * size + q % size ≡ q = div-add-mod' q size in
-    ⊎-elim
-    (λ (e : q / size ≡ c).
-    put-inside size c v fc q (omega arith) e ∙ g (q % size) (mod-lt q h) ∙ ap f (ap (λ i. i * size + q % size) (sym e) ∙ s))
-    (λ (e : q / size ≡ c → ⊥).
-    let d : q / size < c + 1 = div-lt-iff-lt-mul h .1 b in
-    put-outside size c v fc q (omega arith) e ∙ inv q (div-lt-iff-lt-mul h .0 (omega arith)))
-    (eq-or-ne (q / size) c)
-
-module _ (D : Deltas) (m k : ℕ) where
-  abbrev rowSize : ℕ
-  rowSize = k * (3 * 3 ^ m)
-
-  pub length-row : (c : ℕ) → length (rowOf D m k c) ≡ rowSize
-  unfolding rowOf
-  length-row c = length-tab rowSize _
-
-  -- what stands in row c stands there in the result
-  pub row-number : (c : ℕ) → 0 < 3 ^ m → (r : ℕ) → r < rowSize → getD (rowOf D m k c) r nan ≡ number D m (c * rowSize + r)
-  unfolding rowOf
-  row-number c pos r h =
-      let w = 3 ^ m in
-      let q = c * (k * (3 * w)) + r in
-      let e : q ≡ c * k * 3 * w + r = omega arith in
-      let d : q / w ≡ c * k * 3 + r / w = ap (λ i. i / w) e ∙ mul-add-div-right pos (c * k * 3) r in
-      let p : q % w ≡ r % w = ap (λ i. i % w) e ∙ mul-add-mod-self-right (c * k * 3) w r in
-      let b : q / w / 3 ≡ c * k + r / w / 3 = ap (λ i. i / 3) d ∙ mul-add-div-right (omega arith) (c * k) (r / w) in
-      let f : q / w % 3 ≡ r / w % 3 = ap (λ i. i % 3) d ∙ mul-add-mod-self-right (c * k) 3 (r / w) in
-      getD-tab (k * (3 * w)) _ r nan h ∙ sym (rw (b, f, p) refl)
-
-  pub rows-length : (rows : ℕ) → rows * k ≡ D .numAtom ^ m → rows * rowSize ≡ D .numAtom ^ m * (3 * 3 ^ m)
-  rows-length rows e = sym (mul-assoc rows k (3 * 3 ^ m)) ∙ ap (λ x. x * (3 * 3 ^ m)) e
-
-  -- all rows are the result
-  pub rows-all : (rows : ℕ) (fc : List Float) → rows * k ≡ D .numAtom ^ m → length fc ≡ rows * rowSize
-      → ((q : ℕ) → q < rows * rowSize → getD fc q nan ≡ number D m q) → fc ≡ rotatedDeltas D m
-  unfolding rotatedDeltas
-  rows-all rows fc e l h =
-      let s = rows-length rows e in
-      is-tab nan _ (number D m) fc (l ∙ s) (λ q g. h q (subst (λ (x : ℕ). q < x) (sym s) g))
+-- the rows of a result of rank k + 2 are the result
+pub rows-all : (D : Deltas) (k size : ℕ) → 0 < 3 ^ suc k → size ≡ D .numAtom ^ suc k * (3 * 3 ^ suc k)
+    → times (D .numAtom) (λ i. times (total D) (addPair D k i)) (replicate size plusZero) ≡ rotatedDeltas D (suc k)
+unfolding rotatedDeltas addPair
+rows-all D k size pos e =
+    let a = D .numAtom in
+    let w = 3 ^ suc k in
+    let P = all-rows D (suc k) (a ^ k) size pos a in
+    is-tab nan (a ^ suc k * (3 * w)) (number D (suc k)) _ (P .len ∙ e) (λ q l.
+    let h : q / (3 * w) < a * a ^ k = subst (λ (x : ℕ). q / (3 * w) < x) (pow-suc a k ∙ mul-comm (a ^ k) a) (div-lt-iff-lt-mul (omega arith) .1 l) in
+    P .before q (subst (λ (x : ℕ). q < x) (sym e) l) h)
 
 -- ---- the sources of a row's blocks
 
@@ -256,7 +287,7 @@ module _ (D : Deltas) (n : ℕ) where
   imageOf a = indexAt (D .rotMapSyms) (n % D .numSiteSym * D .numAtom + a)
 
   -- the source of a block, from that of the atoms before its last
-  source-next : (m c j : ℕ) → j < D .numAtom → source D n (suc m) (c * D .numAtom + j) ≡ source D n m c * D .numAtom + imageOf j
+  pub source-next : (m c j : ℕ) → j < D .numAtom → source D n (suc m) (c * D .numAtom + j) ≡ source D n m c * D .numAtom + imageOf j
   unfolding source
   source-next m c j h = rw (block-of (D .numAtom) c j h, place-of (D .numAtom) c j h) refl
 
@@ -265,37 +296,38 @@ module _ (D : Deltas) (n : ℕ) where
   unfolding source
   source-of-one i h = ap (λ a. n / D .numSiteSym * D .numAtom + imageOf a) (sym (mod-eq-of-lt h))
 
-  -- two atoms, of which the first is i
-  pub source-of-two : (i j : ℕ) → j < D .numAtom → source D n 1 i * D .numAtom + imageOf j ≡ source D n 2 (i * D .numAtom + j)
-  source-of-two i j h = sym (source-next 1 i j h)
+-- the loops over the last atoms give each block of the row its share
+module _ (D : Deltas) (m n : ℕ) (u : List Float) (eu : u ≡ column (D .invU) (total D) n) where
+  abbrev R : List Float
+  R = block 9 (n % D .numSiteSym) (D .siteSymCart)
 
-  -- three atoms, of which the first is i and the others are the atoms of b
-  pub source-of-three : (i b : ℕ) → 0 < D .numAtom → b < D .numAtom * D .numAtom
-      → (source D n 1 i * D .numAtom + imageOf (b / D .numAtom)) * D .numAtom + imageOf (b % D .numAtom) ≡ source D n 3 (i * (D .numAtom * D .numAtom) + b)
-  source-of-three i b z h =
+  share-of : (M t s : ℕ) (fc : List Float) → M ≡ m → s ≡ source D n M t → share (3 ^ m) t u (rotated R m (block (3 ^ m) s (D .deltas))) fc ≡ pairShare D m n t fc
+  unfolding rotatedDelta
+  share-of M t s fc em es = ap₂ (λ v z. share (3 ^ m) t v (rotated R m (block (3 ^ m) z (D .deltas))) fc) eu (es ∙ ap (λ l. source D n l t) em)
+
+  once : (f : ℕ → List Float → List Float) (fc : List Float) → f 0 fc ≡ times (D .numAtom ^ 0) f fc
+  unfolding times
+  once f fc = rw (pow-zero (D .numAtom)) refl
+
+  pub spread-shares : (M k t s : ℕ) (fc : List Float) → M + k ≡ m → s ≡ source D n M t
+      → spread (imageOf D n) (D .numAtom) (3 ^ m) u (rotated R m) (D .deltas) k t s fc
+      ≡ times (D .numAtom ^ k) (λ j. pairShare D m n (t * D .numAtom ^ k + j)) fc
+  unfolding spread
+  spread-shares M zero t s fc e es =
+      let em : M ≡ m = omega arith in
+      let et : t ≡ t * D .numAtom ^ 0 + 0 = sym (ap (λ x. t * x + 0) (pow-zero (D .numAtom)) ∙ flat t) in
+      share-of M t s fc em es ∙ ap (λ b. pairShare D m n b fc) et ∙ once (λ j. pairShare D m n (t * D .numAtom ^ 0 + j)) fc
+    where
+      flat : (t : ℕ) → t * 1 + 0 ≡ t
+      flat t = omega arith
+  spread-shares M (suc k) t s fc e es =
       let a = D .numAtom in
-      let j : b / a < a = div-lt-iff-lt-mul z .1 h in
-      let e : (i * a + b / a) * a + b % a ≡ i * (a * a) + b = omega (arith, div-add-mod' b a) in
-      ap (λ x. x * a + imageOf (b % a)) (source-of-two i (b / a) j) ∙ sym (source-next 2 (i * a + b / a) (b % a) (mod-lt b z)) ∙ ap (source D n 3) e
-
--- the shares from the coefficients, worked out once, and the sources of the row's blocks are those of pair n
-pub shares-turned : (D : Deltas) (m k i n : ℕ) (sources : ℕ → ℕ) (c u row : List Float) → ((j : ℕ) → j < k → sources j ≡ source D n m (i * k + j))
-    → c ≡ coefficients (block 9 (n % D .numSiteSym) (D .siteSymCart)) m (3 ^ m) → u ≡ column (D .invU) (total D) n
-    → addShares (3 ^ m) k u (λ j. sums (3 ^ m) (3 ^ m) (3 ^ m) 0 c (block (3 ^ m) (sources j) (D .deltas))) row ≡ turnRow D m k i n row
-unfolding turnRow addShares turned
-shares-turned D m k i n sources c u row es ec eu =
-    let w = 3 ^ m in
-    let r = block 9 (n % D .numSiteSym) (D .siteSymCart) in
-    times-same k _ _ row (λ j l y.
-    ap₂ (λ v x. leads w j v x y) eu
-    (ap₂ (λ z t. sums w w w 0 z (block w t (D .deltas))) ec (es j l) ∙ sums-rotated r m (block w (source D n m (i * k + j)) (D .deltas))))
-
--- the shares of n lines of n blocks, of which block i * n + j has the share that i and j name
-pub lines-shared : (w n : ℕ) (u : List Float) (xs : ℕ → ℕ → List Float) (row : List Float)
-    → times n (λ i. addLine w (i * n) n u (xs i)) row ≡ addShares w (n * n) u (λ b. xs (b / n) (b % n)) row
-unfolding addLine addShares
-lines-shared w n u xs row =
-    times-same n _ _ row (λ i hi y.
-    times-same n _ _ y (λ j hj z.
-    ap (λ x. leads w (i * n + j) u x z) (ap₂ xs (sym (block-of n i j hj)) (sym (place-of n i j hj)))))
-    ∙ sym (times-nest n n (λ b. leads w b u (xs (b / n) (b % n))) row)
+      let f : ℕ → List Float → List Float = λ b. pairShare D m n (t * a ^ suc k + b) in
+      times-same a _ _ fc (λ j h y.
+      spread-shares (suc M) k (t * a + j) (s * a + imageOf D n j) y (omega arith) (ap (λ x. x * a + imageOf D n j) es ∙ sym (source-next D n M t j h))
+      ∙ times-same (a ^ k) _ _ y (λ i g z. ap (λ b. pairShare D m n b z) (address t j i a (a ^ k) (a ^ suc k) (pow-suc a k))))
+      ∙ sym (times-nest a (a ^ k) f fc)
+      ∙ ap (λ c. times c f fc) (mul-comm a (a ^ k) ∙ sym (pow-suc a k))
+    where
+      address : (t j i a p q : ℕ) → q ≡ p * a → (t * a + j) * p + i ≡ t * q + (j * p + i)
+      address t j i a p q e = rw e (omega arith)

@@ -1,24 +1,33 @@
-// rotate_delta_fc2s (fc3.rs) and rotate_delta_fc3s (fc4.rs). The result is made row after row: a row is the blocks that have the same first atom.
-// Each pair of a displacement and a site symmetry adds its share to all blocks of the row, with coefficients that are worked out once, so every number
-// is summed pair after pair as in the Rust. The work slice, which has the turned blocks of all pairs there, is only cleared here.
+// rotate_delta_fc2s (fc3.rs) and rotate_delta_fc3s (fc4.rs). The result is cleared and then made row after row: a row is the blocks that have the same
+// first atom. Each pair of a displacement and a site symmetry adds its share to all blocks of the row, with coefficients that are worked out once, so
+// every number is summed pair after pair as in the Rust. The work slice, which has the rotated blocks of all pairs there, is only cleared here.
 use tables::Answer;
+use tables::Refusal;
+use tables::atoms::SuperAtom;
+use tables::atoms::perms_at;
 ghost use mathlib.Core.Path.{_≡_};
-ghost use Prim.Native.Nat.{ℕ, _+_, _*_, _/_, _%_, _<_, _≤_};
+ghost use mathlib.Core.List.{List};
+ghost use Prim.Native.Nat.{ℕ, _+_, _*_, _^_, _<_, _≤_};
 ghost use lib.ListN.{length};
+ghost use lib.Ieee.{Float};
+ghost use Rattle.lists.specs.Tab.{times};
 ghost use Rattle.blocks.specs.Block.{block};
 ghost use Rattle.tables.specs.Conditions.{anyWrong, indexAt};
 ghost use Rattle.tables.specs.Limits.{limit3, limit4};
-ghost use Rattle.rotations.specs.Rotation.{sums};
-ghost use Rattle.deltas.specs.RotateDelta.{rotatedDeltas, countsAbove, lengths, judged, rotateDeltaFc2s, rotateDeltaFc3s};
-ghost use Rattle.deltas.specs.Rows.{axpy, lead, leads, addShares, addLine, column as columnOf, turnRow, rowOf};
-ghost use Rattle.deltas.specs.Guard.{Ready, Lengths, Images};
+ghost use Rattle.rotations.specs.Rotation.{coefficients, rotated};
+ghost use Rattle.slabs.specs.SlabLaws.{Inside};
+ghost use Rattle.deltas.specs.RotateDelta.{deltasOf, rotatedDeltas, countsAbove, lengths, judged, rotateDeltaFc2s, rotateDeltaFc3s};
+ghost use Rattle.deltas.specs.Rows.{axpy, lead, withShare, share, spread, column as columnOf, addPair};
+ghost use Rattle.deltas.specs.Guard.{Ready, Images};
 
 // Column n of inv_u, which has three rows of total numbers.
 fn column(inv_u: &[f64], n: usize, total: usize) -> [f64; 3]
     requires { ⌜ (n < total) × (length (now «inv_u») ≡ 3 * total) ⌝ }
     ensures { λ r. ⌜ r ≡ columnOf (now («inv_u» .entry)) total n ⌝ }
 {
-    [inv_u[n], inv_u[total + n], inv_u[2 * total + n]]
+    let y = places::with_leg(1, total, n);
+    let z = places::with_leg(2, total, n);
+    [inv_u[n], inv_u[y], inv_u[z]]
 }
 
 // Refusal 1.
@@ -52,7 +61,7 @@ fn lengths_wrong(
     num_disp: usize,
 ) -> bool
     requires { ⌜ (b ≤ 262144) × (w ≤ 27) × («num_atom» ≤ 256) × («num_site_sym» ≤ 1024) × («num_disp» ≤ 1024) ⌝ }
-    ensures { λ r. ⌜ r ≡ anyWrong (lengths (record { deltas = now (deltas .entry); invU = now («inv_u» .entry); siteSymCart = now («site_sym_cart» .entry); rotMapSyms = now («rot_map_syms» .entry); numAtom = «num_atom»; numSiteSym = «num_site_sym»; numDisp = «num_disp» }) b w (length (now (result .entry))) (length (now («rot_delta» .entry)))) ⌝ }
+    ensures { λ r. ⌜ r ≡ anyWrong (lengths (deltasOf (now (deltas .entry)) (now («inv_u» .entry)) (now («site_sym_cart» .entry)) (now («rot_map_syms» .entry)) «num_atom» «num_site_sym» «num_disp») b w (length (now (result .entry))) (length (now («rot_delta» .entry)))) ⌝ }
 {
     let total = num_disp * num_site_sym;
     if result.len() != b * (3 * w) {
@@ -89,51 +98,70 @@ fn axpy9(s: [f64; 9], x: [f64; 9], u: f64) -> [f64; 9]
     r
 }
 
-// The same with 9 numbers of a row.
-fn lead9(row: &mut [f64], g: usize, x: [f64; 9], u: f64)
-    requires { ⌜ g * 9 + 9 ≤ length (now row) ⌝ }
-    ensures { λ _. ⌜ now (row .exit) ≡ lead 9 g u x (now (row .entry)) ⌝ }
+// The same with the g-th 9 numbers of a block.
+fn lead9(s: &mut [f64], g: usize, x: [f64; 9], u: f64)
+    requires { ⌜ g * 9 + 9 ≤ length (now s) ⌝ }
+    ensures { λ _. ⌜ now (s .exit) ≡ lead 9 g u x (now (s .entry)) ⌝ }
 {
-    let s = blocks::read9(row, g);
-    blocks::write9(row, g, axpy9(s, x, u));
+    let old = blocks::read9(s, g);
+    blocks::write9(s, g, axpy9(old, x, u));
 }
 
-// Adds the share of one turned block to block j of a row, for each of its three first directions: c has the coefficients, u the column of inv_u.
-fn leads9(row: &mut [f64], j: usize, deltas: &[f64], source: usize, c: &[f64; 81], u: [f64; 3])
-    requires { ⌜ (j * 27 + 27 ≤ length (now row)) × (source * 9 + 9 ≤ length (now deltas)) ⌝ }
-    ensures { λ _. ⌜ now (row .exit) ≡ leads 9 j u (sums 9 9 9 0 (now (c .entry)) (block 9 source (now (deltas .entry)))) (now (row .entry)) ⌝ }
+// A block of the result with the share x of a pair added, for each of its three first directions.
+fn with_share27(s: [f64; 27], x: [f64; 9], u: [f64; 3]) -> [f64; 27]
+    ensures { λ r. ⌜ r ≡ withShare 9 u x s ⌝ }
 {
-    let x = rotations::rotated9(c, deltas, source);
-    let g = j * 3;
-    lead9(row, g, x, u[0]);
-    lead9(row, g + 1, x, u[1]);
-    lead9(row, g + 2, x, u[2]);
+    let mut r = s;
+    lead9(&mut r, 0, x, u[0]);
+    lead9(&mut r, 1, x, u[1]);
+    lead9(&mut r, 2, x, u[2]);
+    r
 }
 
-// The blocks of a row: block j has the image of atom j, which is entry at + j of the table, as its source's last atom; first is the source for image 0.
-fn add_shares9(
-    row: &mut [f64],
+// Adds to block target the share of block source of the deltas, rotated: c has the coefficients, u the column of inv_u.
+fn share27(
+    fc3: &mut [f64],
+    deltas: &[f64],
+    c: &[f64; 81],
+    u: [f64; 3],
+    target: usize,
+    source: usize,
+)
+    requires { ⌜ (target * 27 + 27 ≤ length (now fc3)) × (source * 9 + 9 ≤ length (now deltas)) ⌝ }
+    ensures { λ _. ⌜ ((m : List Float) → now (c .entry) ≡ coefficients m 2 9 → now (fc3 .exit) ≡ share 9 target u (rotated m 2 (block 9 source (now (deltas .entry)))) (now (fc3 .entry))) ⌝ }
+{
+    let x = rotations::rotated9(c, blocks::read9(deltas, source));
+    let old = blocks::read27(fc3, target);
+    blocks::write27(fc3, target, with_share27(old, x, u));
+}
+
+// The shares of the blocks with one atom more: target and source number the atoms before, and site symmetry s sends the atoms to their images.
+fn share_line27(
+    fc3: &mut [f64],
     deltas: &[f64],
     rot_map_syms: &[i64],
     c: &[f64; 81],
     u: [f64; 3],
-    at: usize,
-    first: usize,
+    s: usize,
+    target: usize,
+    source: usize,
     num_atom: usize,
 )
-    requires { ⌜ Images (now «rot_map_syms») at «num_atom» ⌝ }
-    requires { ⌜ («num_atom» * 27 ≡ length (now row)) × ((first + «num_atom») * 9 ≤ length (now deltas)) ⌝ }
-    ensures { λ _. ⌜ now (row .exit) ≡ addShares 9 «num_atom» u (λ j. sums 9 9 9 0 (now (c .entry)) (block 9 (first + indexAt (now («rot_map_syms» .entry)) (at + j)) (now (deltas .entry)))) (now (row .entry)) ⌝ }
+    requires { ⌜ Images (now «rot_map_syms») (s * «num_atom») «num_atom» ⌝ }
+    requires { ⌜ Inside «num_atom» 27 1 target (length (now fc3)) × Inside «num_atom» 9 1 source (length (now deltas)) ⌝ }
+    ensures { λ _. ⌜ ((m : List Float) → now (c .entry) ≡ coefficients m 2 9 → now (fc3 .exit) ≡ spread (λ j. indexAt (now («rot_map_syms» .entry)) (s * «num_atom» + j)) «num_atom» 9 u (rotated m 2) (now (deltas .entry)) 1 target source (now (fc3 .entry))) ⌝ }
 {
     for j in 0..num_atom {
-        let image = tables::index::entry(rot_map_syms, at + j);
-        leads9(row, j, deltas, first + image, c, u);
+        let image = perms_at(rot_map_syms, num_atom, s, SuperAtom(j));
+        let t = places::with_leg(target, num_atom, j);
+        let f = places::with_leg(source, num_atom, image.0);
+        share27(fc3, deltas, c, u, t, f);
     }
 }
 
 // The share of pair n in row i.
-fn turn_row_fc2s(
-    row: &mut [f64],
+fn add_pair_fc2s(
+    fc3: &mut [f64],
     delta_fc2s: &[f64],
     inv_u: &[f64],
     site_sym_cart: &[f64],
@@ -144,31 +172,22 @@ fn turn_row_fc2s(
     num_site_sym: usize,
     num_disp: usize,
 )
-    requires { ⌜ Ready (record { deltas = now («delta_fc2s»); invU = now («inv_u»); siteSymCart = now («site_sym_cart»); rotMapSyms = now («rot_map_syms»); numAtom = «num_atom»; numSiteSym = «num_site_sym»; numDisp = «num_disp» }) 2 ⌝ }
-    requires { ⌜ (i < «num_atom») × (n < «num_disp» * «num_site_sym») × («num_atom» * 27 ≡ length (now row)) ⌝ }
-    ensures { λ _. ⌜ now (row .exit) ≡ turnRow (record { deltas = now («delta_fc2s» .entry); invU = now («inv_u» .entry); siteSymCart = now («site_sym_cart» .entry); rotMapSyms = now («rot_map_syms» .entry); numAtom = «num_atom»; numSiteSym = «num_site_sym»; numDisp = «num_disp» }) 2 «num_atom» i n (now (row .entry)) ⌝ }
+    requires { ⌜ Ready (deltasOf (now «delta_fc2s») (now «inv_u») (now «site_sym_cart») (now «rot_map_syms») «num_atom» «num_site_sym» «num_disp») 2 ⌝ }
+    requires { ⌜ (i < «num_atom») × (n < «num_disp» * «num_site_sym») × (length (now fc3) ≡ «num_atom» ^ 2 * 27) ⌝ }
+    ensures { λ _. ⌜ now (fc3 .exit) ≡ addPair (deltasOf (now («delta_fc2s» .entry)) (now («inv_u» .entry)) (now («site_sym_cart» .entry)) (now («rot_map_syms» .entry)) «num_atom» «num_site_sym» «num_disp») 1 i n (now (fc3 .entry)) ⌝ }
 {
-    let s = n % num_site_sym;
-    let at = s * num_atom;
-    let r = blocks::read9(site_sym_cart, s);
-    let c = rotations::coefficients2(r);
+    let s = places::last_leg(n, num_site_sym);
+    let d = places::legs_before(n, num_site_sym);
+    let c = rotations::coefficients2(blocks::read9(site_sym_cart, s));
     let u = column(inv_u, n, num_disp * num_site_sym);
-    let first = n / num_site_sym * num_atom + tables::index::entry(rot_map_syms, at + i);
-    add_shares9(
-        row,
-        delta_fc2s,
-        rot_map_syms,
-        &c,
-        u,
-        at,
-        first * num_atom,
-        num_atom,
-    );
+    let image = perms_at(rot_map_syms, num_atom, s, SuperAtom(i));
+    let from = places::with_leg(d, num_atom, image.0);
+    share_line27(fc3, delta_fc2s, rot_map_syms, &c, u, s, i, from, num_atom);
 }
 
-// Row i of the result, whatever stood there before.
+// The shares of all pairs in row i.
 fn rotate_row_fc2s(
-    row: &mut [f64],
+    fc3: &mut [f64],
     delta_fc2s: &[f64],
     inv_u: &[f64],
     site_sym_cart: &[f64],
@@ -178,14 +197,13 @@ fn rotate_row_fc2s(
     num_site_sym: usize,
     num_disp: usize,
 )
-    requires { ⌜ Ready (record { deltas = now («delta_fc2s»); invU = now («inv_u»); siteSymCart = now («site_sym_cart»); rotMapSyms = now («rot_map_syms»); numAtom = «num_atom»; numSiteSym = «num_site_sym»; numDisp = «num_disp» }) 2 ⌝ }
-    requires { ⌜ (i < «num_atom») × («num_atom» * 27 ≡ length (now row)) ⌝ }
-    ensures { λ _. ⌜ now (row .exit) ≡ rowOf (record { deltas = now («delta_fc2s» .entry); invU = now («inv_u» .entry); siteSymCart = now («site_sym_cart» .entry); rotMapSyms = now («rot_map_syms» .entry); numAtom = «num_atom»; numSiteSym = «num_site_sym»; numDisp = «num_disp» }) 2 «num_atom» i ⌝ }
+    requires { ⌜ Ready (deltasOf (now «delta_fc2s») (now «inv_u») (now «site_sym_cart») (now «rot_map_syms») «num_atom» «num_site_sym» «num_disp») 2 ⌝ }
+    requires { ⌜ (i < «num_atom») × (length (now fc3) ≡ «num_atom» ^ 2 * 27) ⌝ }
+    ensures { λ _. ⌜ now (fc3 .exit) ≡ times («num_disp» * «num_site_sym») (addPair (deltasOf (now («delta_fc2s» .entry)) (now («inv_u» .entry)) (now («site_sym_cart» .entry)) (now («rot_map_syms» .entry)) «num_atom» «num_site_sym» «num_disp») 1 i) (now (fc3 .entry)) ⌝ }
 {
-    lists::clear_floats(row);
     for n in 0..num_disp * num_site_sym {
-        turn_row_fc2s(
-            row,
+        add_pair_fc2s(
+            fc3,
             delta_fc2s,
             inv_u,
             site_sym_cart,
@@ -199,7 +217,7 @@ fn rotate_row_fc2s(
     }
 }
 
-// All rows.
+// All rows, whatever stood there before.
 fn rotate_rows_fc2s(
     fc3: &mut [f64],
     delta_fc2s: &[f64],
@@ -210,15 +228,14 @@ fn rotate_rows_fc2s(
     num_site_sym: usize,
     num_disp: usize,
 )
-    requires { ⌜ Ready (record { deltas = now («delta_fc2s»); invU = now («inv_u»); siteSymCart = now («site_sym_cart»); rotMapSyms = now («rot_map_syms»); numAtom = «num_atom»; numSiteSym = «num_site_sym»; numDisp = «num_disp» }) 2 ⌝ }
-    requires { ⌜ «num_atom» * («num_atom» * 27) ≡ length (now fc3) ⌝ }
-    ensures { λ _. ⌜ now (fc3 .exit) ≡ rotatedDeltas (record { deltas = now («delta_fc2s» .entry); invU = now («inv_u» .entry); siteSymCart = now («site_sym_cart» .entry); rotMapSyms = now («rot_map_syms» .entry); numAtom = «num_atom»; numSiteSym = «num_site_sym»; numDisp = «num_disp» }) 2 ⌝ }
+    requires { ⌜ Ready (deltasOf (now «delta_fc2s») (now «inv_u») (now «site_sym_cart») (now «rot_map_syms») «num_atom» «num_site_sym» «num_disp») 2 ⌝ }
+    requires { ⌜ length (now fc3) ≡ «num_atom» ^ 2 * 27 ⌝ }
+    ensures { λ _. ⌜ now (fc3 .exit) ≡ rotatedDeltas (deltasOf (now («delta_fc2s» .entry)) (now («inv_u» .entry)) (now («site_sym_cart» .entry)) (now («rot_map_syms» .entry)) «num_atom» «num_site_sym» «num_disp») 2 ⌝ }
 {
-    let size = num_atom * 27;
+    lists::clear_floats(fc3);
     for i in 0..num_atom {
-        let at = i * size;
         rotate_row_fc2s(
-            &mut fc3[at..at + size],
+            fc3,
             delta_fc2s,
             inv_u,
             site_sym_cart,
@@ -243,10 +260,10 @@ fn judge_fc2s(
     num_site_sym: usize,
     num_disp: usize,
 ) -> Answer
-    ensures { λ r. ⌜ r ≡ judged limit3 2 (record { deltas = now («delta_fc2s» .entry); invU = now («inv_u» .entry); siteSymCart = now («site_sym_cart» .entry); rotMapSyms = now («rot_map_syms» .entry); numAtom = «num_atom»; numSiteSym = «num_site_sym»; numDisp = «num_disp» }) (length (now (fc3 .entry))) (length (now («rot_delta» .entry))) ⌝ }
+    ensures { λ r. ⌜ r ≡ judged limit3 2 (deltasOf (now («delta_fc2s» .entry)) (now («inv_u» .entry)) (now («site_sym_cart» .entry)) (now («rot_map_syms» .entry)) «num_atom» «num_site_sym» «num_disp») (length (now (fc3 .entry))) (length (now («rot_delta» .entry))) ⌝ }
 {
     if counts_above(tables::limits::LIMIT3, num_atom, num_site_sym, num_disp) {
-        return Answer::CountAboveLimit;
+        return Answer::Refused(Refusal::CountAboveLimit);
     }
     if lengths_wrong(
         fc3,
@@ -261,16 +278,16 @@ fn judge_fc2s(
         num_site_sym,
         num_disp,
     ) {
-        return Answer::WrongLength;
+        return Answer::Refused(Refusal::WrongLength);
     }
     if !tables::index::all_below(rot_map_syms, num_atom) {
-        return Answer::IndexOutOfRange;
+        return Answer::Refused(Refusal::IndexOutOfRange);
     }
     Answer::Done
 }
 
 // The blocks of third order for a displaced atom and all pairs of atoms, from delta_fc2s, the changes of a set of second order by num_disp displacements
-// of that atom. Each change is turned by each site symmetry, and inv_u, 3 by num_disp * num_site_sym, makes of them one block for each direction of
+// of that atom. Each change is rotated by each site symmetry, and inv_u, 3 by num_disp * num_site_sym, makes of them one block for each direction of
 // the displaced atom. rot_delta is a work slice.
 pub fn rotate_delta_fc2s(
     fc3: &mut [f64],
@@ -283,7 +300,7 @@ pub fn rotate_delta_fc2s(
     num_site_sym: usize,
     num_disp: usize,
 ) -> Answer
-    ensures { λ r. ⌜ (r, now (fc3 .exit), now («rot_delta» .exit)) ≡ rotateDeltaFc2s (record { deltas = now («delta_fc2s» .entry); invU = now («inv_u» .entry); siteSymCart = now («site_sym_cart» .entry); rotMapSyms = now («rot_map_syms» .entry); numAtom = «num_atom»; numSiteSym = «num_site_sym»; numDisp = «num_disp» }) (now (fc3 .entry)) (now («rot_delta» .entry)) ⌝ }
+    ensures { λ r. ⌜ (r, now (fc3 .exit), now («rot_delta» .exit)) ≡ rotateDeltaFc2s (deltasOf (now («delta_fc2s» .entry)) (now («inv_u» .entry)) (now («site_sym_cart» .entry)) (now («rot_map_syms» .entry)) «num_atom» «num_site_sym» «num_disp») (now (fc3 .entry)) (now («rot_delta» .entry)) ⌝ }
 {
     let a = judge_fc2s(
         fc3,
@@ -326,85 +343,94 @@ fn axpy27(s: [f64; 27], x: [f64; 27], u: f64) -> [f64; 27]
     r
 }
 
-// The same with 27 numbers of a row.
-fn lead27(row: &mut [f64], g: usize, x: [f64; 27], u: f64)
-    requires { ⌜ g * 27 + 27 ≤ length (now row) ⌝ }
-    ensures { λ _. ⌜ now (row .exit) ≡ lead 27 g u x (now (row .entry)) ⌝ }
+// The same with the g-th 27 numbers of a block.
+fn lead27(s: &mut [f64], g: usize, x: [f64; 27], u: f64)
+    requires { ⌜ g * 27 + 27 ≤ length (now s) ⌝ }
+    ensures { λ _. ⌜ now (s .exit) ≡ lead 27 g u x (now (s .entry)) ⌝ }
 {
-    let s = blocks::read27(row, g);
-    blocks::write27(row, g, axpy27(s, x, u));
+    let old = blocks::read27(s, g);
+    blocks::write27(s, g, axpy27(old, x, u));
 }
 
-// Adds the share of one turned block to block j of a row, for each of its three first directions: c has the coefficients, u the column of inv_u.
-fn leads27(row: &mut [f64], j: usize, deltas: &[f64], source: usize, c: &[f64; 729], u: [f64; 3])
-    requires { ⌜ (j * 81 + 81 ≤ length (now row)) × (source * 27 + 27 ≤ length (now deltas)) ⌝ }
-    ensures { λ _. ⌜ now (row .exit) ≡ leads 27 j u (sums 27 27 27 0 (now (c .entry)) (block 27 source (now (deltas .entry)))) (now (row .entry)) ⌝ }
+// A block of the result with the share x of a pair added, for each of its three first directions.
+fn with_share81(s: [f64; 81], x: [f64; 27], u: [f64; 3]) -> [f64; 81]
+    ensures { λ r. ⌜ r ≡ withShare 27 u x s ⌝ }
 {
-    let x = rotations::rotated27(c, deltas, source);
-    let g = j * 3;
-    lead27(row, g, x, u[0]);
-    lead27(row, g + 1, x, u[1]);
-    lead27(row, g + 2, x, u[2]);
+    let mut r = s;
+    lead27(&mut r, 0, x, u[0]);
+    lead27(&mut r, 1, x, u[1]);
+    lead27(&mut r, 2, x, u[2]);
+    r
 }
 
-// The blocks of a row that have the same second atom, from block base on: the last atom of the source of block base + j is the image of atom j, which is
-// entry at + j of the table; first is the source for image 0. No division is needed so to find the source of a block.
-fn add_line27(
-    row: &mut [f64],
+// Adds to block target the share of block source of the deltas, rotated: c has the coefficients, u the column of inv_u.
+fn share81(
+    fc4: &mut [f64],
+    deltas: &[f64],
+    c: &[f64; 729],
+    u: [f64; 3],
+    target: usize,
+    source: usize,
+)
+    requires { ⌜ (target * 81 + 81 ≤ length (now fc4)) × (source * 27 + 27 ≤ length (now deltas)) ⌝ }
+    ensures { λ _. ⌜ ((m : List Float) → now (c .entry) ≡ coefficients m 3 27 → now (fc4 .exit) ≡ share 27 target u (rotated m 3 (block 27 source (now (deltas .entry)))) (now (fc4 .entry))) ⌝ }
+{
+    let x = rotations::rotated27(c, blocks::read27(deltas, source));
+    let old = blocks::read81(fc4, target);
+    blocks::write81(fc4, target, with_share81(old, x, u));
+}
+
+// The shares of the blocks with one atom more: target and source number the atoms before, and site symmetry s sends the atoms to their images.
+fn share_line81(
+    fc4: &mut [f64],
     deltas: &[f64],
     rot_map_syms: &[i64],
     c: &[f64; 729],
     u: [f64; 3],
-    at: usize,
-    base: usize,
-    first: usize,
+    s: usize,
+    target: usize,
+    source: usize,
     num_atom: usize,
 )
-    requires { ⌜ Images (now «rot_map_syms») at «num_atom» ⌝ }
-    requires { ⌜ ((base + «num_atom») * 81 ≤ length (now row)) × ((first + «num_atom») * 27 ≤ length (now deltas)) ⌝ }
-    ensures { λ _. ⌜ now (row .exit) ≡ addLine 27 base «num_atom» u (λ j. sums 27 27 27 0 (now (c .entry)) (block 27 (first + indexAt (now («rot_map_syms» .entry)) (at + j)) (now (deltas .entry)))) (now (row .entry)) ⌝ }
+    requires { ⌜ Images (now «rot_map_syms») (s * «num_atom») «num_atom» ⌝ }
+    requires { ⌜ Inside «num_atom» 81 1 target (length (now fc4)) × Inside «num_atom» 27 1 source (length (now deltas)) ⌝ }
+    ensures { λ _. ⌜ ((m : List Float) → now (c .entry) ≡ coefficients m 3 27 → now (fc4 .exit) ≡ spread (λ j. indexAt (now («rot_map_syms» .entry)) (s * «num_atom» + j)) «num_atom» 27 u (rotated m 3) (now (deltas .entry)) 1 target source (now (fc4 .entry))) ⌝ }
 {
     for j in 0..num_atom {
-        let image = tables::index::entry(rot_map_syms, at + j);
-        leads27(row, base + j, deltas, first + image, c, u);
+        let image = perms_at(rot_map_syms, num_atom, s, SuperAtom(j));
+        let t = places::with_leg(target, num_atom, j);
+        let f = places::with_leg(source, num_atom, image.0);
+        share81(fc4, deltas, c, u, t, f);
     }
 }
 
-// The blocks of a row: block b has the images of atoms b / num_atom and b % num_atom as its source's second and third atom; first is the number of the
-// source's first atom, times num_atom.
-fn add_shares27(
-    row: &mut [f64],
+// The shares of the blocks with two atoms more: target and source number the atoms before, and site symmetry s sends the atoms to their images.
+fn share_plane81(
+    fc4: &mut [f64],
     deltas: &[f64],
     rot_map_syms: &[i64],
     c: &[f64; 729],
     u: [f64; 3],
-    at: usize,
-    first: usize,
+    s: usize,
+    target: usize,
+    source: usize,
     num_atom: usize,
 )
-    requires { ⌜ Images (now «rot_map_syms») at «num_atom» ⌝ }
-    requires { ⌜ («num_atom» * «num_atom» * 81 ≡ length (now row)) × ((first + «num_atom») * «num_atom» * 27 ≤ length (now deltas)) ⌝ }
-    ensures { λ _. ⌜ now (row .exit) ≡ addShares 27 («num_atom» * «num_atom») u (λ b. sums 27 27 27 0 (now (c .entry)) (block 27 ((first + indexAt (now («rot_map_syms» .entry)) (at + b / «num_atom»)) * «num_atom» + indexAt (now («rot_map_syms» .entry)) (at + b % «num_atom»)) (now (deltas .entry)))) (now (row .entry)) ⌝ }
+    requires { ⌜ Images (now «rot_map_syms») (s * «num_atom») «num_atom» ⌝ }
+    requires { ⌜ Inside «num_atom» 81 2 target (length (now fc4)) × Inside «num_atom» 27 2 source (length (now deltas)) ⌝ }
+    ensures { λ _. ⌜ ((m : List Float) → now (c .entry) ≡ coefficients m 3 27 → now (fc4 .exit) ≡ spread (λ j. indexAt (now («rot_map_syms» .entry)) (s * «num_atom» + j)) «num_atom» 27 u (rotated m 3) (now (deltas .entry)) 2 target source (now (fc4 .entry))) ⌝ }
 {
-    for i in 0..num_atom {
-        let image = tables::index::entry(rot_map_syms, at + i);
-        add_line27(
-            row,
-            deltas,
-            rot_map_syms,
-            c,
-            u,
-            at,
-            i * num_atom,
-            (first + image) * num_atom,
-            num_atom,
-        );
+    for j in 0..num_atom {
+        let image = perms_at(rot_map_syms, num_atom, s, SuperAtom(j));
+        let t = places::with_leg(target, num_atom, j);
+        let f = places::with_leg(source, num_atom, image.0);
+        share_line81(fc4, deltas, rot_map_syms, c, u, s, t, f, num_atom);
     }
 }
 
 // The share of pair n in row i.
-fn turn_row_fc3s(
-    row: &mut [f64],
+fn add_pair_fc3s(
+    fc4: &mut [f64],
     delta_fc3s: &[f64],
     inv_u: &[f64],
     site_sym_cart: &[f64],
@@ -415,31 +441,22 @@ fn turn_row_fc3s(
     num_site_sym: usize,
     num_disp: usize,
 )
-    requires { ⌜ Ready (record { deltas = now («delta_fc3s»); invU = now («inv_u»); siteSymCart = now («site_sym_cart»); rotMapSyms = now («rot_map_syms»); numAtom = «num_atom»; numSiteSym = «num_site_sym»; numDisp = «num_disp» }) 3 ⌝ }
-    requires { ⌜ (i < «num_atom») × (n < «num_disp» * «num_site_sym») × («num_atom» * «num_atom» * 81 ≡ length (now row)) ⌝ }
-    ensures { λ _. ⌜ now (row .exit) ≡ turnRow (record { deltas = now («delta_fc3s» .entry); invU = now («inv_u» .entry); siteSymCart = now («site_sym_cart» .entry); rotMapSyms = now («rot_map_syms» .entry); numAtom = «num_atom»; numSiteSym = «num_site_sym»; numDisp = «num_disp» }) 3 («num_atom» * «num_atom») i n (now (row .entry)) ⌝ }
+    requires { ⌜ Ready (deltasOf (now «delta_fc3s») (now «inv_u») (now «site_sym_cart») (now «rot_map_syms») «num_atom» «num_site_sym» «num_disp») 3 ⌝ }
+    requires { ⌜ (i < «num_atom») × (n < «num_disp» * «num_site_sym») × (length (now fc4) ≡ «num_atom» ^ 3 * 81) ⌝ }
+    ensures { λ _. ⌜ now (fc4 .exit) ≡ addPair (deltasOf (now («delta_fc3s» .entry)) (now («inv_u» .entry)) (now («site_sym_cart» .entry)) (now («rot_map_syms» .entry)) «num_atom» «num_site_sym» «num_disp») 2 i n (now (fc4 .entry)) ⌝ }
 {
-    let s = n % num_site_sym;
-    let at = s * num_atom;
-    let r = blocks::read9(site_sym_cart, s);
-    let c = rotations::coefficients3(r);
+    let s = places::last_leg(n, num_site_sym);
+    let d = places::legs_before(n, num_site_sym);
+    let c = rotations::coefficients3(blocks::read9(site_sym_cart, s));
     let u = column(inv_u, n, num_disp * num_site_sym);
-    let first = n / num_site_sym * num_atom + tables::index::entry(rot_map_syms, at + i);
-    add_shares27(
-        row,
-        delta_fc3s,
-        rot_map_syms,
-        &c,
-        u,
-        at,
-        first * num_atom,
-        num_atom,
-    );
+    let image = perms_at(rot_map_syms, num_atom, s, SuperAtom(i));
+    let from = places::with_leg(d, num_atom, image.0);
+    share_plane81(fc4, delta_fc3s, rot_map_syms, &c, u, s, i, from, num_atom);
 }
 
-// Row i of the result, whatever stood there before.
+// The shares of all pairs in row i.
 fn rotate_row_fc3s(
-    row: &mut [f64],
+    fc4: &mut [f64],
     delta_fc3s: &[f64],
     inv_u: &[f64],
     site_sym_cart: &[f64],
@@ -449,14 +466,13 @@ fn rotate_row_fc3s(
     num_site_sym: usize,
     num_disp: usize,
 )
-    requires { ⌜ Ready (record { deltas = now («delta_fc3s»); invU = now («inv_u»); siteSymCart = now («site_sym_cart»); rotMapSyms = now («rot_map_syms»); numAtom = «num_atom»; numSiteSym = «num_site_sym»; numDisp = «num_disp» }) 3 ⌝ }
-    requires { ⌜ (i < «num_atom») × («num_atom» * «num_atom» * 81 ≡ length (now row)) ⌝ }
-    ensures { λ _. ⌜ now (row .exit) ≡ rowOf (record { deltas = now («delta_fc3s» .entry); invU = now («inv_u» .entry); siteSymCart = now («site_sym_cart» .entry); rotMapSyms = now («rot_map_syms» .entry); numAtom = «num_atom»; numSiteSym = «num_site_sym»; numDisp = «num_disp» }) 3 («num_atom» * «num_atom») i ⌝ }
+    requires { ⌜ Ready (deltasOf (now «delta_fc3s») (now «inv_u») (now «site_sym_cart») (now «rot_map_syms») «num_atom» «num_site_sym» «num_disp») 3 ⌝ }
+    requires { ⌜ (i < «num_atom») × (length (now fc4) ≡ «num_atom» ^ 3 * 81) ⌝ }
+    ensures { λ _. ⌜ now (fc4 .exit) ≡ times («num_disp» * «num_site_sym») (addPair (deltasOf (now («delta_fc3s» .entry)) (now («inv_u» .entry)) (now («site_sym_cart» .entry)) (now («rot_map_syms» .entry)) «num_atom» «num_site_sym» «num_disp») 2 i) (now (fc4 .entry)) ⌝ }
 {
-    lists::clear_floats(row);
     for n in 0..num_disp * num_site_sym {
-        turn_row_fc3s(
-            row,
+        add_pair_fc3s(
+            fc4,
             delta_fc3s,
             inv_u,
             site_sym_cart,
@@ -470,7 +486,7 @@ fn rotate_row_fc3s(
     }
 }
 
-// All rows.
+// All rows, whatever stood there before.
 fn rotate_rows_fc3s(
     fc4: &mut [f64],
     delta_fc3s: &[f64],
@@ -481,15 +497,14 @@ fn rotate_rows_fc3s(
     num_site_sym: usize,
     num_disp: usize,
 )
-    requires { ⌜ Ready (record { deltas = now («delta_fc3s»); invU = now («inv_u»); siteSymCart = now («site_sym_cart»); rotMapSyms = now («rot_map_syms»); numAtom = «num_atom»; numSiteSym = «num_site_sym»; numDisp = «num_disp» }) 3 ⌝ }
-    requires { ⌜ «num_atom» * («num_atom» * «num_atom» * 81) ≡ length (now fc4) ⌝ }
-    ensures { λ _. ⌜ now (fc4 .exit) ≡ rotatedDeltas (record { deltas = now («delta_fc3s» .entry); invU = now («inv_u» .entry); siteSymCart = now («site_sym_cart» .entry); rotMapSyms = now («rot_map_syms» .entry); numAtom = «num_atom»; numSiteSym = «num_site_sym»; numDisp = «num_disp» }) 3 ⌝ }
+    requires { ⌜ Ready (deltasOf (now «delta_fc3s») (now «inv_u») (now «site_sym_cart») (now «rot_map_syms») «num_atom» «num_site_sym» «num_disp») 3 ⌝ }
+    requires { ⌜ length (now fc4) ≡ «num_atom» ^ 3 * 81 ⌝ }
+    ensures { λ _. ⌜ now (fc4 .exit) ≡ rotatedDeltas (deltasOf (now («delta_fc3s» .entry)) (now («inv_u» .entry)) (now («site_sym_cart» .entry)) (now («rot_map_syms» .entry)) «num_atom» «num_site_sym» «num_disp») 3 ⌝ }
 {
-    let size = num_atom * num_atom * 81;
+    lists::clear_floats(fc4);
     for i in 0..num_atom {
-        let at = i * size;
         rotate_row_fc3s(
-            &mut fc4[at..at + size],
+            fc4,
             delta_fc3s,
             inv_u,
             site_sym_cart,
@@ -514,10 +529,10 @@ fn judge_fc3s(
     num_site_sym: usize,
     num_disp: usize,
 ) -> Answer
-    ensures { λ r. ⌜ r ≡ judged limit4 3 (record { deltas = now («delta_fc3s» .entry); invU = now («inv_u» .entry); siteSymCart = now («site_sym_cart» .entry); rotMapSyms = now («rot_map_syms» .entry); numAtom = «num_atom»; numSiteSym = «num_site_sym»; numDisp = «num_disp» }) (length (now (fc4 .entry))) (length (now («rot_delta» .entry))) ⌝ }
+    ensures { λ r. ⌜ r ≡ judged limit4 3 (deltasOf (now («delta_fc3s» .entry)) (now («inv_u» .entry)) (now («site_sym_cart» .entry)) (now («rot_map_syms» .entry)) «num_atom» «num_site_sym» «num_disp») (length (now (fc4 .entry))) (length (now («rot_delta» .entry))) ⌝ }
 {
     if counts_above(tables::limits::LIMIT4, num_atom, num_site_sym, num_disp) {
-        return Answer::CountAboveLimit;
+        return Answer::Refused(Refusal::CountAboveLimit);
     }
     if lengths_wrong(
         fc4,
@@ -532,10 +547,10 @@ fn judge_fc3s(
         num_site_sym,
         num_disp,
     ) {
-        return Answer::WrongLength;
+        return Answer::Refused(Refusal::WrongLength);
     }
     if !tables::index::all_below(rot_map_syms, num_atom) {
-        return Answer::IndexOutOfRange;
+        return Answer::Refused(Refusal::IndexOutOfRange);
     }
     Answer::Done
 }
@@ -553,7 +568,7 @@ pub fn rotate_delta_fc3s(
     num_site_sym: usize,
     num_disp: usize,
 ) -> Answer
-    ensures { λ r. ⌜ (r, now (fc4 .exit), now («rot_delta» .exit)) ≡ rotateDeltaFc3s (record { deltas = now («delta_fc3s» .entry); invU = now («inv_u» .entry); siteSymCart = now («site_sym_cart» .entry); rotMapSyms = now («rot_map_syms» .entry); numAtom = «num_atom»; numSiteSym = «num_site_sym»; numDisp = «num_disp» }) (now (fc4 .entry)) (now («rot_delta» .entry)) ⌝ }
+    ensures { λ r. ⌜ (r, now (fc4 .exit), now («rot_delta» .exit)) ≡ rotateDeltaFc3s (deltasOf (now («delta_fc3s» .entry)) (now («inv_u» .entry)) (now («site_sym_cart» .entry)) (now («rot_map_syms» .entry)) «num_atom» «num_site_sym» «num_disp») (now (fc4 .entry)) (now («rot_delta» .entry)) ⌝ }
 {
     let a = judge_fc3s(
         fc4,

@@ -1,21 +1,23 @@
 // distribute_fc3: the target slab receives the blocks of the source slab, rotated.
 use tables::Answer;
 ghost use mathlib.Core.Path.{_≡_};
+ghost use mathlib.Core.List.{List};
 ghost use Prim.Native.Nat.{_+_, _*_, _≤_};
 ghost use lib.ListN.{length};
+ghost use lib.Ieee.{Float};
 ghost use Rattle.lists.specs.Digits.{room};
 ghost use Rattle.tables.specs.Conditions.{IndexTable};
-ghost use Rattle.rotations.specs.Rotation.{sums};
+ghost use Rattle.rotations.specs.Rotation.{coefficients, rotated};
 ghost use Rattle.slabs.specs.Slab.{moveBlock, move};
 ghost use Rattle.slabs.specs.SlabLaws.{Inside};
 ghost use Rattle.distribute.specs.Fc3.{distributeFc3};
 
-// Block target is block source, turned: c has the rotation's coefficients.
+// Block target is block source, rotated: c has the rotation's coefficients.
 fn fill_block(fc3: &mut [f64], c: &[f64; 729], target: usize, source: usize)
     requires { ⌜ (target * 27 + 27 ≤ length (now fc3)) × (source * 27 + 27 ≤ length (now fc3)) ⌝ }
-    ensures { λ _. ⌜ now (fc3 .exit) ≡ moveBlock 27 (sums 27 27 27 0 (now (c .entry))) target source (now (fc3 .entry)) ⌝ }
+    ensures { λ _. ⌜ ((m : List Float) → now (c .entry) ≡ coefficients m 3 27 → now (fc3 .exit) ≡ moveBlock 27 (rotated m 3) target source (now (fc3 .entry))) ⌝ }
 {
-    let r = rotations::rotated27(c, fc3, source);
+    let r = rotations::rotated27(c, blocks::read27(fc3, source));
     blocks::write27(fc3, target, r);
 }
 
@@ -30,11 +32,13 @@ fn fill_row(
 )
     requires { ⌜ IndexTable «num_atom» «num_atom» (now «atom_mapping») ⌝ }
     requires { ⌜ Inside «num_atom» 27 1 target (length (now fc3)) × Inside «num_atom» 27 1 source (length (now fc3)) ⌝ }
-    ensures { λ _. ⌜ now (fc3 .exit) ≡ move (now («atom_mapping» .entry)) «num_atom» 27 (sums 27 27 27 0 (now (c .entry))) 1 target source (now (fc3 .entry)) ⌝ }
+    ensures { λ _. ⌜ ((m : List Float) → now (c .entry) ≡ coefficients m 3 27 → now (fc3 .exit) ≡ move (now («atom_mapping» .entry)) «num_atom» 27 (rotated m 3) 1 target source (now (fc3 .entry))) ⌝ }
 {
     for i in 0..num_atom {
         let image = tables::index::entry(atom_mapping, i);
-        fill_block(fc3, c, target * num_atom + i, source * num_atom + image);
+        let t = places::with_leg(target, num_atom, i);
+        let s = places::with_leg(source, num_atom, image);
+        fill_block(fc3, c, t, s);
     }
 }
 
@@ -49,18 +53,13 @@ fn fill_slab(
 )
     requires { ⌜ IndexTable «num_atom» «num_atom» (now «atom_mapping») ⌝ }
     requires { ⌜ Inside «num_atom» 27 2 target (length (now fc3)) × Inside «num_atom» 27 2 source (length (now fc3)) ⌝ }
-    ensures { λ _. ⌜ now (fc3 .exit) ≡ move (now («atom_mapping» .entry)) «num_atom» 27 (sums 27 27 27 0 (now (c .entry))) 2 target source (now (fc3 .entry)) ⌝ }
+    ensures { λ _. ⌜ ((m : List Float) → now (c .entry) ≡ coefficients m 3 27 → now (fc3 .exit) ≡ move (now («atom_mapping» .entry)) «num_atom» 27 (rotated m 3) 2 target source (now (fc3 .entry))) ⌝ }
 {
     for i in 0..num_atom {
         let image = tables::index::entry(atom_mapping, i);
-        fill_row(
-            fc3,
-            c,
-            atom_mapping,
-            num_atom,
-            target * num_atom + i,
-            source * num_atom + image,
-        );
+        let t = places::with_leg(target, num_atom, i);
+        let s = places::with_leg(source, num_atom, image);
+        fill_row(fc3, c, atom_mapping, num_atom, t, s);
     }
 }
 

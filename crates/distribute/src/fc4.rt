@@ -1,21 +1,23 @@
 // distribute_fc4: the target slab receives the blocks of the source slab, rotated.
 use tables::Answer;
 ghost use mathlib.Core.Path.{_≡_};
+ghost use mathlib.Core.List.{List};
 ghost use Prim.Native.Nat.{_+_, _*_, _≤_};
 ghost use lib.ListN.{length};
+ghost use lib.Ieee.{Float};
 ghost use Rattle.lists.specs.Digits.{room};
 ghost use Rattle.tables.specs.Conditions.{IndexTable};
-ghost use Rattle.rotations.specs.Rotation.{sums};
+ghost use Rattle.rotations.specs.Rotation.{coefficients, rotated};
 ghost use Rattle.slabs.specs.Slab.{moveBlock, move};
 ghost use Rattle.slabs.specs.SlabLaws.{Inside};
 ghost use Rattle.distribute.specs.Fc4.{distributeFc4};
 
-// Block target is block source, turned: c has the rotation's coefficients.
+// Block target is block source, rotated: c has the rotation's coefficients.
 fn fill_block(fc4: &mut [f64], c: &[f64; 6561], target: usize, source: usize)
     requires { ⌜ (target * 81 + 81 ≤ length (now fc4)) × (source * 81 + 81 ≤ length (now fc4)) ⌝ }
-    ensures { λ _. ⌜ now (fc4 .exit) ≡ moveBlock 81 (sums 81 81 81 0 (now (c .entry))) target source (now (fc4 .entry)) ⌝ }
+    ensures { λ _. ⌜ ((m : List Float) → now (c .entry) ≡ coefficients m 4 81 → now (fc4 .exit) ≡ moveBlock 81 (rotated m 4) target source (now (fc4 .entry))) ⌝ }
 {
-    let r = rotations::rotated81(c, fc4, source);
+    let r = rotations::rotated81(c, blocks::read81(fc4, source));
     blocks::write81(fc4, target, r);
 }
 
@@ -30,11 +32,13 @@ fn fill_row(
 )
     requires { ⌜ IndexTable «num_atom» «num_atom» (now «atom_mapping») ⌝ }
     requires { ⌜ Inside «num_atom» 81 1 target (length (now fc4)) × Inside «num_atom» 81 1 source (length (now fc4)) ⌝ }
-    ensures { λ _. ⌜ now (fc4 .exit) ≡ move (now («atom_mapping» .entry)) «num_atom» 81 (sums 81 81 81 0 (now (c .entry))) 1 target source (now (fc4 .entry)) ⌝ }
+    ensures { λ _. ⌜ ((m : List Float) → now (c .entry) ≡ coefficients m 4 81 → now (fc4 .exit) ≡ move (now («atom_mapping» .entry)) «num_atom» 81 (rotated m 4) 1 target source (now (fc4 .entry))) ⌝ }
 {
     for i in 0..num_atom {
         let image = tables::index::entry(atom_mapping, i);
-        fill_block(fc4, c, target * num_atom + i, source * num_atom + image);
+        let t = places::with_leg(target, num_atom, i);
+        let s = places::with_leg(source, num_atom, image);
+        fill_block(fc4, c, t, s);
     }
 }
 
@@ -49,18 +53,13 @@ fn fill_plane(
 )
     requires { ⌜ IndexTable «num_atom» «num_atom» (now «atom_mapping») ⌝ }
     requires { ⌜ Inside «num_atom» 81 2 target (length (now fc4)) × Inside «num_atom» 81 2 source (length (now fc4)) ⌝ }
-    ensures { λ _. ⌜ now (fc4 .exit) ≡ move (now («atom_mapping» .entry)) «num_atom» 81 (sums 81 81 81 0 (now (c .entry))) 2 target source (now (fc4 .entry)) ⌝ }
+    ensures { λ _. ⌜ ((m : List Float) → now (c .entry) ≡ coefficients m 4 81 → now (fc4 .exit) ≡ move (now («atom_mapping» .entry)) «num_atom» 81 (rotated m 4) 2 target source (now (fc4 .entry))) ⌝ }
 {
     for i in 0..num_atom {
         let image = tables::index::entry(atom_mapping, i);
-        fill_row(
-            fc4,
-            c,
-            atom_mapping,
-            num_atom,
-            target * num_atom + i,
-            source * num_atom + image,
-        );
+        let t = places::with_leg(target, num_atom, i);
+        let s = places::with_leg(source, num_atom, image);
+        fill_row(fc4, c, atom_mapping, num_atom, t, s);
     }
 }
 
@@ -75,18 +74,13 @@ fn fill_slab(
 )
     requires { ⌜ IndexTable «num_atom» «num_atom» (now «atom_mapping») ⌝ }
     requires { ⌜ Inside «num_atom» 81 3 target (length (now fc4)) × Inside «num_atom» 81 3 source (length (now fc4)) ⌝ }
-    ensures { λ _. ⌜ now (fc4 .exit) ≡ move (now («atom_mapping» .entry)) «num_atom» 81 (sums 81 81 81 0 (now (c .entry))) 3 target source (now (fc4 .entry)) ⌝ }
+    ensures { λ _. ⌜ ((m : List Float) → now (c .entry) ≡ coefficients m 4 81 → now (fc4 .exit) ≡ move (now («atom_mapping» .entry)) «num_atom» 81 (rotated m 4) 3 target source (now (fc4 .entry))) ⌝ }
 {
     for i in 0..num_atom {
         let image = tables::index::entry(atom_mapping, i);
-        fill_plane(
-            fc4,
-            c,
-            atom_mapping,
-            num_atom,
-            target * num_atom + i,
-            source * num_atom + image,
-        );
+        let t = places::with_leg(target, num_atom, i);
+        let s = places::with_leg(source, num_atom, image);
+        fill_plane(fc4, c, atom_mapping, num_atom, t, s);
     }
 }
 

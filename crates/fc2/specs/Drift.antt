@@ -9,8 +9,9 @@ use lib.Ieee.{Float, nan, inf, fin, lt, isNan}
 use Rattle.lists.specs.Tab.{times}
 use Rattle.lists.specs.Tests.{every, some}
 use Rattle.tables.specs.declared.Answer.{Answer}
-use Rattle.tables.specs.declared.Answer.the-variants.{Done, CountAboveLimit, WrongLength}
-use Rattle.tables.specs.Answers.{isRefusal, refuseIf}
+use Rattle.tables.specs.declared.Answer.the-variants.{Done, Refused as RefusedBy}
+use Rattle.tables.specs.declared.Refusal.the-variants.{CountAboveLimit, WrongLength}
+use Rattle.tables.specs.Answers.{refuseIf}
 use Rattle.tables.specs.Conditions.{anyAbove, anyWrong}
 use Rattle.tables.specs.Limits.{limit2}
 use Rattle.fc2.specs.declared.drift.Drift.{Drift}
@@ -18,7 +19,7 @@ use Rattle.fc2.specs.declared.drift.Drift.the-variants.{Still, Worst, No
 use Rattle.fc2.specs.declared.drift.DriftReport.{DriftReport}
 use Rattle.fc2.specs.declared.drift.DriftAnswer.{DriftAnswer}
 use Rattle.fc2.specs.declared.drift.DriftAnswer.the-variants.{Report, Refused}
-use Rattle.lines.specs.Nine.{zero as zeroF}
+use Rattle.lines.specs.Nine.{plusZero}
 use Rattle.fc2.specs.Full.{rowSum}
 
 -- ---- the cases: a number for each, and its value
@@ -29,14 +30,19 @@ numberOf (Worst x) = 1
 numberOf NoNumber = 2
 
 abbrev pub valueOf : Drift → Float
-valueOf Still = zeroF
+valueOf Still = plusZero
 valueOf (Worst x) = x
 valueOf NoNumber = nan
 
 -- what the call answers: done, with a report, or a refusal
 abbrev pub answerOf : DriftAnswer → Answer
 answerOf (Report r) = Done
-answerOf (Refused a) = a
+answerOf (Refused r) = RefusedBy r
+
+-- the guard's refusal, or the report
+abbrev pub reportedAfter : Answer → DriftReport → DriftAnswer
+reportedAfter Done r = Report r
+reportedAfter (RefusedBy a) r = Refused a
 
 -- ---- floats
 
@@ -69,7 +75,7 @@ firstOf (suc n) f = cond (some n f) (firstOf n f) n
 
 -- the largest absolute value of the sums
 unfoldable pub worst : ℕ → List Float → Float
-worst n xs = times (n * 9) (λ r w. larger w (absolute (sumAt n xs r))) zeroF
+worst n xs = times (n * 9) (λ r w. larger w (absolute (sumAt n xs r))) plusZero
 
 unfoldable pub driftOf : ℕ → List Float → Drift
 driftOf n xs =
@@ -93,9 +99,8 @@ judgedDrift len n = refuseIf (anyAbove limit2 (n ∷ [])) CountAboveLimit (refus
 -- The call's answer. Of the place beside a worst drift, p, document 01 fixes only that the sum there has the worst absolute value.
 unfoldable pub driftReport : List Float → ℕ → ℕ → DriftAnswer
 driftReport xs n p =
-    let a = judgedDrift (length xs) n in
     let d = driftOf n xs in
-    cond (isRefusal a) (Refused a) (Report (reportAt d (placeOf n xs d p)))
+    reportedAfter (judgedDrift (length xs) n) (reportAt d (placeOf n xs d p))
 
 -- p is a place of a sum with the worst absolute value
 pub record HasWorst (xs : List Float) (n p : ℕ) : Type 0 where

@@ -8,7 +8,7 @@ use native.Mathlib.Nat.{div-add-mod', mul-pos, zero-lt-suc, two-pow-succ}
 use native.Mathlib.Omega.{arith}
 use lib.IntN.{ℤ, pos, negsuc}
 use lib.Dec.{T, eqb, eqb·suc-zero, eqb→eq}
-use lib.ListN.{length, getD}
+use lib.ListN.{length}
 use lib.Ieee.{Float, nan, inf, fin, binary64, add, neg, lt, eq, ne, fits, isNan, ofBits, up, down}
 use lib.Pow.{pow-pos}
 use lib.Ieee.Fits.{up-pos, down-pos}
@@ -16,9 +16,10 @@ use borrow.Author.Tests.{lt-ltb, le-ltb, ltb-true, ltb-false, eq-eqb, ne-eqb, eq
 use Rattle.lists.specs.Tab.{times, times-same, times-nest}
 use Rattle.lists.specs.Tests.{every, some, split, refuted, some-of, not-both, or-none, and-false}
 use Rattle.blocks.specs.Block.{block-of, place-of}
-use Rattle.tables.specs.declared.Answer.{Answer}
-use Rattle.tables.specs.declared.Answer.the-variants.{Done, CountAboveLimit, WrongLength}
-use Rattle.tables.specs.Answers.{isRefusal, passed, is-done}
+use Rattle.tables.specs.declared.Answer.the-variants.{Done, Refused as RefusedBy}
+use Rattle.tables.specs.declared.Refusal.{Refusal}
+use Rattle.tables.specs.declared.Refusal.the-variants.{CountAboveLimit, WrongLength}
+use Rattle.tables.specs.Answers.{passed}
 use Rattle.tables.specs.Conditions.{anyAbove, anyWrong, or-false, not-above, not-wrong}
 use Rattle.tables.specs.Limits.{limit2}
 use Rattle.fc2.specs.declared.drift.Drift.{Drift}
@@ -26,12 +27,12 @@ use Rattle.fc2.specs.declared.drift.Drift.the-variants.{Still, Worst, No
 use Rattle.fc2.specs.declared.drift.Seen.{Seen}
 use Rattle.fc2.specs.declared.drift.DriftAnswer.{DriftAnswer}
 use Rattle.fc2.specs.declared.drift.DriftAnswer.the-variants.{Report, Refused}
-use Rattle.lines.specs.Nine.{zero as zeroF, zeros}
+use Rattle.lines.specs.Nine.{plusZero, zeros, sumIn}
 use Rattle.lines.specs.Lines.{lineSums, Sized}
 use Rattle.lines.specs.Drifts.{row-sums}
 use Rattle.fc2.specs.Full.{rowSum}
 use Rattle.fc2.specs.FullDrifts.{row-sum}
-use Rattle.fc2.specs.Drift.{numberOf, absolute, isZero, larger, sumAt, firstOf, worst, driftOf, placeOf, reportAt, judgedDrift, driftReport, Reported}
+use Rattle.fc2.specs.Drift.{numberOf, absolute, isZero, larger, sumAt, firstOf, worst, driftOf, placeOf, reportAt, judgedDrift, reportedAfter, driftReport, Reported}
 use Rattle.fc2.specs.DriftLoops.{look, start, lookRow, scanned, concluded}
 
 -- ---- floats
@@ -55,12 +56,12 @@ below-nan w (inf t) h = absurd (false≢true h)
 below-nan w (fin t n d) h = absurd (false≢true h)
 
 -- a number that is not negative, by its sign
-unfoldable plus : Float → Bool
+unfoldable pub plus : Float → Bool
 plus nan = false
 plus (inf s) = not s
 plus (fin s m e) = not s
 
-plus-absolute : (x : Float) → isNan x ≡ false → plus (absolute x) ≡ true
+pub plus-absolute : (x : Float) → isNan x ≡ false → plus (absolute x) ≡ true
 unfolding plus absolute isNan
 plus-absolute nan h = absurd (true≢false h)
 plus-absolute (inf s) h = refl
@@ -114,7 +115,7 @@ not-above-zero (fin false m e) (fin false (suc n) d) q z p h =
     absurd (omega arith)
 
 -- equal to 0.0, and below it
-equal-zero : (s : Bool) (m : ℕ) (e : ℤ) → eq (fin s m e) zeroF ≡ eqb m 0
+equal-zero : (s : Bool) (m : ℕ) (e : ℤ) → eq (fin s m e) plusZero ≡ eqb m 0
 unfolding eq ofBits
 equal-zero true zero e =
     let a = scaled-zero e (pos 0) in
@@ -129,7 +130,7 @@ equal-zero s (suc m) e =
     let b = scaled-zero (pos 0) e in
     rw (ne-eqb (suc m * up e * down (pos 0)) (0 * up (pos 0) * down e) (λ i. omega arith), eqb·suc-zero m) refl
 
-less-zero : (s : Bool) (m : ℕ) (e : ℤ) → lt (fin s m e) zeroF ≡ (s && not (eqb m 0))
+less-zero : (s : Bool) (m : ℕ) (e : ℤ) → lt (fin s m e) plusZero ≡ (s && not (eqb m 0))
 unfolding lt ofBits
 less-zero true zero e =
     let a = scaled-zero e (pos 0) in
@@ -140,7 +141,7 @@ less-zero true (suc m) e =
     rw (lt-ltb 0 (suc m * up e * down (pos 0) + 0 * up (pos 0) * down e) (omega arith), eqb·suc-zero m) refl
 less-zero false m e = let b = scaled-zero (pos 0) e in rw (le-ltb (m * up e * down (pos 0)) (0 * up (pos 0) * down e) (omega arith)) refl
 
-equals-zero : (w : Float) → eq w zeroF ≡ isZero w
+equals-zero : (w : Float) → eq w plusZero ≡ isZero w
 unfolding isZero eq ofBits
 equals-zero nan = refl
 equals-zero (inf s) = refl
@@ -152,13 +153,13 @@ two-pow : (k : ℕ) → 2 ≤ 2 ^ suc k
 two-pow k = let e = two-pow-succ k in let h = pow-pos k in omega arith
 
 -- a zero is written in one way
-zero-is : (e : ℤ) → T (eqb (up e * down e) 1) → zeroF ≡ fin false 0 e
+zero-is : (e : ℤ) → T (eqb (up e * down e) 1) → plusZero ≡ fin false 0 e
 unfolding ofBits
 zero-is (pos zero) h = refl
 zero-is (pos (suc k)) h = let g = eqb→eq (2 ^ suc k * 1) 1 h in let i = two-pow k in absurd (omega arith)
 zero-is (negsuc k) h = let g = eqb→eq (1 * 2 ^ suc k) 1 h in let i = two-pow k in absurd (omega arith)
 
-pub magnitude-less : (x : Float) → lt x zeroF ≡ true → neg x ≡ absolute x
+pub magnitude-less : (x : Float) → lt x plusZero ≡ true → neg x ≡ absolute x
 unfolding neg absolute lt ofBits
 magnitude-less nan h = refl
 magnitude-less (inf true) h = refl
@@ -166,7 +167,7 @@ magnitude-less (inf false) h = absurd (false≢true h)
 magnitude-less (fin true m e) h = refl
 magnitude-less (fin false m e) h = absurd (false≢true (sym (less-zero false m e) ∙ h))
 
-pub magnitude-zero : (x : Float) → T (fits binary64 x) → eq x zeroF ≡ true → zeroF ≡ absolute x
+pub magnitude-zero : (x : Float) → T (fits binary64 x) → eq x plusZero ≡ true → plusZero ≡ absolute x
 unfolding absolute eq fits ofBits
 magnitude-zero nan f h = absurd (false≢true h)
 magnitude-zero (inf s) f h = absurd (false≢true h)
@@ -177,7 +178,7 @@ not-false-and : (b : Bool) → (true && not b) ≡ false → b ≡ false → ⊥
 not-false-and true h g = true≢false g
 not-false-and false h g = true≢false h
 
-pub magnitude-more : (x : Float) → lt x zeroF ≡ false → eq x zeroF ≡ false → x ≡ absolute x
+pub magnitude-more : (x : Float) → lt x plusZero ≡ false → eq x plusZero ≡ false → x ≡ absolute x
 unfolding absolute lt ofBits
 magnitude-more nan h g = refl
 magnitude-more (inf true) h g = absurd (true≢false h)
@@ -217,14 +218,14 @@ first-least (suc n) f h k l =
 -- ---- what is known of the sums that were looked at
 
 -- the largest absolute value of the first r sums
-unfoldable worstTo : (ℕ → Float) → ℕ → Float
-worstTo S r = times r (λ k w. larger w (absolute (S k))) zeroF
+unfoldable pub worstTo : (ℕ → Float) → ℕ → Float
+worstTo S r = times r (λ k w. larger w (absolute (S k))) plusZero
 
 record State (S : ℕ → Float) (r : ℕ) (c : Seen) : Type 0 where
   pub none-is : c .none ≡ some r (λ k. isNan (S k))
   pub first-is : some r (λ k. isNan (S k)) ≡ true → c .first ≡ firstOf r (λ k. isNan (S k))
   pub worst-is : c .worst ≡ worstTo S r
-  pub at-is : (c .worst ≡ zeroF) ⊎ ((c .at < r) × (absolute (S (c .at)) ≡ c .worst))
+  pub at-is : (c .worst ≡ plusZero) ⊎ ((c .at < r) × (absolute (S (c .at)) ≡ c .worst))
 
 module _ (S : ℕ → Float) where
   abbrev isNone : ℕ → Bool
@@ -234,7 +235,7 @@ module _ (S : ℕ → Float) where
   unfolding some worstTo times
   begins = record { none-is = refl; first-is = λ h. absurd (false≢true h); worst-is = refl; at-is = inl refl }
 
-  keeps-at : (r : ℕ) (c : Seen) → State S r c → (c .worst ≡ zeroF) ⊎ ((c .at < suc r) × (absolute (S (c .at)) ≡ c .worst))
+  keeps-at : (r : ℕ) (c : Seen) → State S r c → (c .worst ≡ plusZero) ⊎ ((c .at < suc r) × (absolute (S (c .at)) ≡ c .worst))
   keeps-at r c s = ⊎-elim (λ h. inl h) (λ (h : (c .at < r) × (absolute (S (c .at)) ≡ c .worst)). inr (omega arith, h .1)) (s .at-is)
 
   module _ (r : ℕ) (c : Seen) (s : State S r c) where
@@ -325,7 +326,7 @@ module _ (S : ℕ → Float) where
 
 -- ---- where no sum is NaN, the worst is zero exactly if all are
 
-record Clean (S : ℕ → Float) (r : ℕ) : Type 0 where
+pub record Clean (S : ℕ → Float) (r : ℕ) : Type 0 where
   pub sign : plus (worstTo S r) ≡ true
   pub all-zero : isZero (worstTo S r) ≡ every r (λ k. isZero (S k))
 
@@ -337,7 +338,7 @@ all-none : (S : ℕ → Float) → isZero (worstTo S 0) ≡ every 0 (λ k. isZer
 unfolding worstTo times isZero every ofBits
 all-none S = refl
 
-none-of : (S : ℕ → Float) (r : ℕ) → some (suc r) (λ k. isNan (S k)) ≡ false → (some r (λ k. isNan (S k)) ≡ false) × (isNan (S r) ≡ false)
+pub none-of : (S : ℕ → Float) (r : ℕ) → some (suc r) (λ k. isNan (S k)) ≡ false → (some r (λ k. isNan (S k)) ≡ false) × (isNan (S r) ≡ false)
 unfolding some
 none-of S r h = or-false (some r (λ k. isNan (S k))) (isNan (S r)) h
 
@@ -380,7 +381,7 @@ module _ (S : ℕ → Float) where
         zero-never : isZero w ≡ false → isZero w ≡ (every r (λ k. isZero (S k)) && isZero (S r))
         zero-never z = z ∙ sym (ap (λ b. b && isZero (S r)) (sym (c .all-zero) ∙ z))
 
-  clean : (r : ℕ) → some r (λ k. isNan (S k)) ≡ false → Clean S r
+  pub clean : (r : ℕ) → some r (λ k. isNan (S k)) ≡ false → Clean S r
   clean zero h = record { sign = sign-zero S; all-zero = all-none S }
   clean (suc r) h =
       let (p, q) = none-of S r h in
@@ -389,7 +390,7 @@ module _ (S : ℕ → Float) where
 
 -- ---- the report
 
-zero-equals : eq zeroF zeroF ≡ true
+zero-equals : eq plusZero plusZero ≡ true
 unfolding eq ofBits
 zero-equals = refl
 
@@ -404,11 +405,14 @@ none-not-worst v p r q = let z = ap caseIn q in omega arith
 still-not-worst : (v : Float) (p r : ℕ) → Report (reportAt Still r) ≡ Report (reportAt (Worst v) p) → ⊥
 still-not-worst v p r q = let z = ap caseIn q in omega arith
 
-refused-answer : (a : Answer) (xs : List Float) (n : ℕ) → a ≡ judgedDrift (length xs) n → isRefusal a ≡ true → Refused a ≡ driftReport xs n 0
+refused-answer : (a : Refusal) (xs : List Float) (n : ℕ) → judgedDrift (length xs) n ≡ RefusedBy a → Refused a ≡ driftReport xs n 0
 unfolding driftReport
-refused-answer a xs n e h = rw (sym e) (sym (ap (λ b. cond b (Refused a) (Report (reportAt (driftOf n xs) (placeOf n xs (driftOf n xs) 0)))) h))
+refused-answer a xs n e = sym (ap (λ g. reportedAfter g (reportAt (driftOf n xs) (placeOf n xs (driftOf n xs) 0))) e)
 
-module _ (xs : List Float) (n : ℕ) (ok : isRefusal (judgedDrift (length xs) n) ≡ false) (c : Seen) (s : State (sumAt n xs) (n * 9) c) where
+refused-not-worst : (v : Float) (p : ℕ) (a : Refusal) → Refused a ≡ Report (reportAt (Worst v) p) → ⊥
+refused-not-worst v p a q = let z = ap caseIn q in omega arith
+
+module _ (xs : List Float) (n : ℕ) (ok : judgedDrift (length xs) n ≡ Done) (c : Seen) (s : State (sumAt n xs) (n * 9) c) where
   abbrev none : Bool
   none = some (n * 9) (λ r. isNan (sumAt n xs r))
 
@@ -424,7 +428,8 @@ module _ (xs : List Float) (n : ℕ) (ok : isRefusal (judgedDrift (length xs) n)
 
   answered : (e : Drift) → d ≡ e → driftReport xs n (c .at) ≡ Report (reportAt e (placeOf n xs e (c .at)))
   unfolding driftReport
-  answered e h = rw ok (ap (λ e. Report (reportAt e (placeOf n xs e (c .at)))) h)
+  answered e h =
+      ap (λ g. reportedAfter g (reportAt d (placeOf n xs d (c .at)))) ok ∙ ap (λ e. Report (reportAt e (placeOf n xs e (c .at)))) h
 
   is-none : none ≡ true → d ≡ NoNumber
   unfolding driftOf
@@ -439,13 +444,13 @@ module _ (xs : List Float) (n : ℕ) (ok : isRefusal (judgedDrift (length xs) n)
   is-worst h g = ap (λ b. cond b NoNumber (cond still Still (Worst (worst n xs)))) h ∙ ap (λ b. cond b Still (Worst (worst n xs))) g
 
   -- 0.0 is the worst exactly if all sums are zero
-  tested : none ≡ false → eq (c .worst) zeroF ≡ still
+  tested : none ≡ false → eq (c .worst) plusZero ≡ still
   tested h = equals-zero (c .worst) ∙ ap isZero (s .worst-is) ∙ clean (sumAt n xs) (n * 9) h .all-zero
 
   reported-none : none ≡ true → Reported xs n (Report (concluded c))
   reported-none h =
       let e : concluded c ≡ reportAt NoNumber (firstOf (n * 9) (λ r. isNan (sumAt n xs r))) =
-      ap (λ b. cond b (reportAt NoNumber (c .first)) (cond (eq (c .worst) zeroF) (reportAt Still 0) (reportAt (Worst (c .worst)) (c .at)))) (s .none-is ∙ h)
+      ap (λ b. cond b (reportAt NoNumber (c .first)) (cond (eq (c .worst) plusZero) (reportAt Still 0) (reportAt (Worst (c .worst)) (c .at)))) (s .none-is ∙ h)
       ∙ ap (reportAt NoNumber) (s .first-is h) in
       record {
         place = c .at;
@@ -456,7 +461,7 @@ module _ (xs : List Float) (n : ℕ) (ok : isRefusal (judgedDrift (length xs) n)
   reported-still : none ≡ false → still ≡ true → Reported xs n (Report (concluded c))
   reported-still h g =
       let e : concluded c ≡ reportAt Still 0 =
-      ap (λ b. cond b (reportAt NoNumber (c .first)) (cond (eq (c .worst) zeroF) (reportAt Still 0) (reportAt (Worst (c .worst)) (c .at)))) (s .none-is ∙ h)
+      ap (λ b. cond b (reportAt NoNumber (c .first)) (cond (eq (c .worst) plusZero) (reportAt Still 0) (reportAt (Worst (c .worst)) (c .at)))) (s .none-is ∙ h)
       ∙ ap (λ b. cond b (reportAt Still 0) (reportAt (Worst (c .worst)) (c .at))) (tested h ∙ g) in
       record {
         place = c .at;
@@ -467,14 +472,14 @@ module _ (xs : List Float) (n : ℕ) (ok : isRefusal (judgedDrift (length xs) n)
   reported-worst : none ≡ false → still ≡ false → Reported xs n (Report (concluded c))
   reported-worst h g =
       let e : concluded c ≡ reportAt (Worst (worst n xs)) (c .at) =
-      ap (λ b. cond b (reportAt NoNumber (c .first)) (cond (eq (c .worst) zeroF) (reportAt Still 0) (reportAt (Worst (c .worst)) (c .at)))) (s .none-is ∙ h)
+      ap (λ b. cond b (reportAt NoNumber (c .first)) (cond (eq (c .worst) plusZero) (reportAt Still 0) (reportAt (Worst (c .worst)) (c .at)))) (s .none-is ∙ h)
       ∙ ap (λ b. cond b (reportAt Still 0) (reportAt (Worst (c .worst)) (c .at))) (tested h ∙ g)
       ∙ ap (λ w. reportAt (Worst w) (c .at)) worst-of in
       record {
         place = c .at;
         answer = ap Report e ∙ sym (answered (Worst (worst n xs)) (is-worst h g));
         has-worst = λ _. ⊎-elim
-            (λ (z : c .worst ≡ zeroF). absurd (true≢false (sym zero-equals ∙ ap (λ w. eq w zeroF) (sym z) ∙ tested h ∙ g)))
+            (λ (z : c .worst ≡ plusZero). absurd (true≢false (sym zero-equals ∙ ap (λ w. eq w plusZero) (sym z) ∙ tested h ∙ g)))
             (λ (z : (c .at < n * 9) × (absolute (sumAt n xs (c .at)) ≡ c .worst)). record { there = z .0; worst-there = z .1 ∙ worst-of })
             (s .at-is);
       }
@@ -484,7 +489,7 @@ module _ (xs : List Float) (n : ℕ) (ok : isRefusal (judgedDrift (length xs) n)
 
 -- ---- the sums, one after another
 
-sum-at : (n : ℕ) (xs : List Float) (i p : ℕ) → p < 9 → getD (lineSums (i * n) 1 n xs zeros) p nan ≡ sumAt n xs (i * 9 + p)
+sum-at : (n : ℕ) (xs : List Float) (i p : ℕ) → p < 9 → sumIn (lineSums (i * n) 1 n xs zeros) p ≡ sumAt n xs (i * 9 + p)
 unfolding sumAt
 sum-at n xs i p h =
     row-sums n xs i p h ∙ row-sum n xs i p
@@ -496,31 +501,25 @@ scanned-sums n xs =
     times-same n _ _ start (λ i hi c. times-same 9 _ _ c (λ p hp t. ap (λ x. look (i * 9 + p) x t) (sum-at n xs i p hp)))
     ∙ sym (times-nest n 9 (λ r. look r (sumAt n xs r)) start)
 
-module _ (a : Answer) (xs : List Float) (n : ℕ) (e : a ≡ judgedDrift (length xs) n) where
+module _ (xs : List Float) (n : ℕ) where
   -- what is known of a set that is reported on
-  pub sized : isRefusal a ≡ false → Sized n n (length xs)
-  sized h =
-      let (c, r) = passed (anyAbove limit2 (n ∷ [])) CountAboveLimit _ refl (sym e ∙ is-done a h) in
-      let (l, _) = passed (anyWrong ((length xs, n * n * 9) ∷ [])) WrongLength Done refl r in
+  pub sized : judgedDrift (length xs) n ≡ Done → Sized n n (length xs)
+  sized e =
+      let (c, r) = passed (anyAbove limit2 (n ∷ [])) CountAboveLimit _ e in
+      let (l, _) = passed (anyWrong ((length xs, n * n * 9) ∷ [])) WrongLength Done r in
       record { few = not-above limit2 (n ∷ []) c .0; small = not-above limit2 (n ∷ []) c .0; long = not-wrong ((length xs, n * n * 9) ∷ []) l .0 }
 
-  pub report-refused : isRefusal a ≡ true → Reported xs n (Refused a)
-  report-refused h =
+  pub report-refused : (a : Refusal) → judgedDrift (length xs) n ≡ RefusedBy a → Reported xs n (Refused a)
+  report-refused a e =
       record {
         place = 0;
-        answer = refused-is;
-        has-worst = λ q. absurd (refused-not q);
+        answer = refused-answer a xs n e;
+        has-worst = λ q. absurd (refused-not-worst (worst n xs) 0 a q);
       }
-    where
-      refused-is : Refused a ≡ driftReport xs n 0
-      refused-is = refused-answer a xs n e h
 
-      refused-not : Refused a ≡ Report (reportAt (Worst (worst n xs)) 0) → ⊥
-      refused-not q = let z : _≡_ {A = ℕ} 0 1 = cc in omega arith
-
-  pub report-done : isRefusal a ≡ false → (c : Seen) → c ≡ scanned n xs → Reported xs n (Report (concluded c))
-  report-done h c g =
-      reported xs n (ap isRefusal (sym e) ∙ h) c (subst (State (sumAt n xs) (n * 9)) (sym (g ∙ scanned-sums n xs)) (all-seen (sumAt n xs) (n * 9)))
+  pub report-done : judgedDrift (length xs) n ≡ Done → (c : Seen) → c ≡ scanned n xs → Reported xs n (Report (concluded c))
+  report-done e c g =
+      reported xs n e c (subst (State (sumAt n xs) (n * 9)) (sym (g ∙ scanned-sums n xs)) (all-seen (sumAt n xs) (n * 9)))
 
 -- ---- one look, and the conclusion, by their cases
 
@@ -544,14 +543,14 @@ module _ (r : ℕ) (v : Float) (c : Seen) where
 
 module _ (c : Seen) where
   pub conclude-none : c .none ≡ true → reportAt NoNumber (c .first) ≡ concluded c
-  conclude-none h = sym (ap (λ b. cond b (reportAt NoNumber (c .first)) (cond (eq (c .worst) zeroF) (reportAt Still 0) (reportAt (Worst (c .worst)) (c .at)))) h)
+  conclude-none h = sym (ap (λ b. cond b (reportAt NoNumber (c .first)) (cond (eq (c .worst) plusZero) (reportAt Still 0) (reportAt (Worst (c .worst)) (c .at)))) h)
 
-  pub conclude-still : c .none ≡ false → eq (c .worst) zeroF ≡ true → reportAt Still 0 ≡ concluded c
+  pub conclude-still : c .none ≡ false → eq (c .worst) plusZero ≡ true → reportAt Still 0 ≡ concluded c
   conclude-still h g =
-      sym (ap (λ b. cond b (reportAt NoNumber (c .first)) (cond (eq (c .worst) zeroF) (reportAt Still 0) (reportAt (Worst (c .worst)) (c .at)))) h
+      sym (ap (λ b. cond b (reportAt NoNumber (c .first)) (cond (eq (c .worst) plusZero) (reportAt Still 0) (reportAt (Worst (c .worst)) (c .at)))) h
       ∙ ap (λ b. cond b (reportAt Still 0) (reportAt (Worst (c .worst)) (c .at))) g)
 
-  pub conclude-worst : c .none ≡ false → eq (c .worst) zeroF ≡ false → reportAt (Worst (c .worst)) (c .at) ≡ concluded c
+  pub conclude-worst : c .none ≡ false → eq (c .worst) plusZero ≡ false → reportAt (Worst (c .worst)) (c .at) ≡ concluded c
   conclude-worst h g =
-      sym (ap (λ b. cond b (reportAt NoNumber (c .first)) (cond (eq (c .worst) zeroF) (reportAt Still 0) (reportAt (Worst (c .worst)) (c .at)))) h
+      sym (ap (λ b. cond b (reportAt NoNumber (c .first)) (cond (eq (c .worst) plusZero) (reportAt Still 0) (reportAt (Worst (c .worst)) (c .at)))) h
       ∙ ap (λ b. cond b (reportAt Still 0) (reportAt (Worst (c .worst)) (c .at))) g)

@@ -1,43 +1,47 @@
 -- The full symmetrizer of second order (document 01, "Second order"; `perm_trans_symmetrize_fc`), each number by its own formula.
--- A full set has a block of 9 numbers for each pair of atoms i and j, first direction k slowest. Definitions only.
+-- A full set is a compact one whose atoms all represent themselves (`whole n`): it has a block of 9 numbers for each pair of atoms i and j, and a
+-- place of it is atom i with direction k and atom j with direction l. Definitions only.
 use mathlib.Core.List.{List, [], _∷_}
 use mathlib.Core.Bool.{cond, _&&_, _||_}
-use Prim.Native.Nat.{ℕ, _+_, _*_, _/_, _%_}
+use Prim.Native.Nat.{ℕ, _*_}
 use lib.Dec.{eqb}
 use lib.ListN.{length, getD}
 use lib.Ieee.{Float, nan, add, sub, mul, neg, binary64}
-use Rattle.lists.specs.Tab.{tab, times}
+use Rattle.lists.specs.Tab.{times}
 use Rattle.tables.specs.declared.Answer.{Answer}
-use Rattle.tables.specs.declared.Answer.the-variants.{Done, CountAboveLimit, WrongLength}
+use Rattle.tables.specs.declared.Answer.the-variants.{Done}
+use Rattle.tables.specs.declared.Refusal.the-variants.{CountAboveLimit, WrongLength}
 use Rattle.tables.specs.Answers.{after, refuseIf}
 use Rattle.tables.specs.Conditions.{anyAbove, anyWrong}
 use Rattle.tables.specs.Limits.{limit2, limitLevel}
-use Rattle.lines.specs.Nine.{zero, half, inverse}
+use Rattle.places.specs.Places.{atom, dir, at, fill as fillPlaces}
+use Rattle.places.specs.Whole.{whole}
+use Rattle.lines.specs.Nine.{plusZero, half, inverse}
 
 -- the set of n × n blocks whose number for atoms i and j and directions k and l is f i j k l
 unfoldable pub fill : ℕ → (ℕ → ℕ → ℕ → ℕ → Float) → List Float
-fill n f = tab (n * n * 9) (λ q. f (q / 9 / n) (q / 9 % n) (q % 9 / 3) (q % 9 % 3))
+fill n f = fillPlaces (whole n) 1 (λ ys. let x = getD ys 0 (0, 0) in let y = getD ys 1 (0, 0) in f (atom x) (atom y) (dir x) (dir y))
 
 -- the number of a set for atoms i and j and directions k and l
 unfoldable pub entry : ℕ → List Float → ℕ → ℕ → ℕ → ℕ → Float
-entry n xs i j k l = getD xs ((i * n + j) * 9 + (k * 3 + l)) nan
+entry n xs i j k l = at nan (whole n) xs ((i, k) ∷ (j, l) ∷ [])
 
--- the sums over the first atom, over the second atom, and over the second atom without the first itself: from 0.0, rising
+-- the sums over the first atom, over the second atom, and off-site over the second atom, without the first itself: from 0.0, rising
 unfoldable pub columnSum : ℕ → List Float → ℕ → ℕ → ℕ → Float
-columnSum n xs j k l = times n (λ i s. add binary64 s (entry n xs i j k l)) zero
+columnSum n xs j k l = times n (λ i s. add binary64 s (entry n xs i j k l)) plusZero
 
 unfoldable pub rowSum : ℕ → List Float → ℕ → ℕ → ℕ → Float
-rowSum n xs i k l = times n (λ j s. add binary64 s (entry n xs i j k l)) zero
+rowSum n xs i k l = times n (λ j s. add binary64 s (entry n xs i j k l)) plusZero
 
-unfoldable pub othersSum : ℕ → List Float → ℕ → ℕ → ℕ → Float
-othersSum n xs i k l = times n (λ j s. cond (eqb i j) s (add binary64 s (entry n xs i j k l))) zero
+unfoldable pub offSiteSum : ℕ → List Float → ℕ → ℕ → ℕ → Float
+offSiteSum n xs i k l = times n (λ j s. cond (eqb i j) s (add binary64 s (entry n xs i j k l))) plusZero
 
 -- each number less the drift of its column, and of its row
-unfoldable pub columnDrift : ℕ → List Float → List Float
-columnDrift n xs = fill n (λ i j k l. sub binary64 (entry n xs i j k l) (mul binary64 (columnSum n xs j k l) (inverse n)))
+unfoldable pub withoutColumnDrift : ℕ → List Float → List Float
+withoutColumnDrift n xs = fill n (λ i j k l. sub binary64 (entry n xs i j k l) (mul binary64 (columnSum n xs j k l) (inverse n)))
 
-unfoldable pub rowDrift : ℕ → List Float → List Float
-rowDrift n xs = fill n (λ i j k l. sub binary64 (entry n xs i j k l) (mul binary64 (rowSum n xs i k l) (inverse n)))
+unfoldable pub withoutRowDrift : ℕ → List Float → List Float
+withoutRowDrift n xs = fill n (λ i j k l. sub binary64 (entry n xs i j k l) (mul binary64 (rowSum n xs i k l) (inverse n)))
 
 -- Each number becomes the mean with its counterpart, atoms and directions exchanged; one that is its own counterpart stays.
 -- A sum of two commutes, so it does not matter which of the two comes first.
@@ -45,17 +49,17 @@ unfoldable pub pairAverages : ℕ → List Float → List Float
 pairAverages n xs =
     fill n (λ i j k l. cond (eqb i j && eqb k l) (entry n xs i j k l) (half (add binary64 (entry n xs i j k l) (entry n xs j i l k))))
 
--- the diagonal blocks anew, from -(sums + transposed sums) / 2
-unfoldable pub diagonalBlocks : ℕ → List Float → List Float
-diagonalBlocks n xs =
-    fill n (λ i j k l. cond (eqb i j) (half (neg (add binary64 (othersSum n xs i k l) (othersSum n xs i l k)))) (entry n xs i j k l))
+-- the on-site blocks anew by the acoustic sum rule, from -(sums + transposed sums) / 2
+unfoldable pub onSiteBlocks : ℕ → List Float → List Float
+onSiteBlocks n xs =
+    fill n (λ i j k l. cond (eqb i j) (half (neg (add binary64 (offSiteSum n xs i k l) (offSiteSum n xs i l k)))) (entry n xs i j k l))
 
 -- one level, and the whole of it
 unfoldable pub oneLevel : ℕ → List Float → List Float
-oneLevel n xs = pairAverages n (rowDrift n (columnDrift n xs))
+oneLevel n xs = pairAverages n (withoutRowDrift n (withoutColumnDrift n xs))
 
 unfoldable pub symmetrized : ℕ → ℕ → List Float → List Float
-symmetrized n level xs = diagonalBlocks n (times level (λ _. oneLevel n) xs)
+symmetrized n level xs = onSiteBlocks n (times level (λ _. oneLevel n) xs)
 
 -- what is refused: more than 1,024 atoms or 1,000 levels; a set of another length than n × n × 9
 abbrev pub judgedFull : ℕ → ℕ → ℕ → Answer

@@ -1,4 +1,4 @@
--- A diagonal block's means, and the places of a full set of n atoms and m numbers. Assumes nothing.
+-- An on-site block's means, and the places of a full set of n atoms and m numbers. Assumes nothing.
 use mathlib.Core.Path.{_≡_, refl}
 use mathlib.Core.List.{List, [], _∷_}
 use Prim.Native.Nat.{ℕ, _+_, _*_, _<_, _≤_}
@@ -8,10 +8,11 @@ use lib.ListN.{getD}
 use lib.Ieee.{Float, nan, binary64, add}
 use Rattle.lists.specs.Floats.{add-commutes}
 use Rattle.lines.specs.Nine.{half}
+use Rattle.lists.specs.Digits.{horner}
 use Rattle.lines.specs.Lines.{Inside, Line, Sized, block-fits}
 use Rattle.fc2.specs.FullLoops.{evened}
 
--- each mean of two numbers of a diagonal block is worked out once
+-- each mean of two numbers of an on-site block is worked out once
 pub evened-once : (b : List Float)
     → let x = half (add binary64 (getD b 1 nan) (getD b 3 nan)) in
     let y = half (add binary64 (getD b 2 nan) (getD b 6 nan)) in
@@ -22,6 +23,11 @@ evened-once b =
 
 pub square : (n : ℕ) → n ≤ 1024 → n * n ≤ 1048576
 square n h = mul-le-mul h h
+
+-- the number of a block as it is worked out
+pub full-is : {b : ℕ} (n i j : ℕ) → b ≡ horner n i (j ∷ []) → b ≡ i * n + j
+unfolding horner
+full-is n i j e = e
 
 module _ {n m : ℕ} (z : Sized n n m) where
   pub pair-inside : (i j : ℕ) → i < n → j < n → Inside (j * n + i) (i * n + j) m

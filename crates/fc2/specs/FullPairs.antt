@@ -10,21 +10,22 @@ use lib.Dec.{eqb}
 use lib.ListN.{length, getD}
 use lib.Ieee.{Float, nan, add, neg, binary64}
 use borrow.Author.Tests.{eq-eqb, ne-eqb}
-use Rattle.lists.specs.Tab.{times, is-tab, tab-ext}
+use Rattle.lists.specs.Tab.{times, is-tab, tab-ext, times-same}
 use Rattle.lists.specs.Cases.{eq-or-ne, lt-or-le}
 use Rattle.lists.specs.Floats.{add-commutes}
 use Rattle.lists.specs.Stages.{Stage, next, stages}
 use Rattle.blocks.specs.Block.{block, putBlock, length-putBlock, put-inside, put-outside, block-of, getD-block}
-use Rattle.lines.specs.Nine.{half, turn, averaged, turned, getD-nine, in-nine, own-place, block-at, turn-below, turn-turn}
+use Rattle.lines.specs.Nine.{plusZero, half, averaged, getD-nine, in-nine, own-place, block-at, transposed-below, transposed-twice}
+use Rattle.blocks.specs.Nine.{acrossDiagonal, transposed9}
 use Rattle.lines.specs.Lines.{pairAt, atomI, atomJ, of-atoms, atoms-of, atoms-at, place-in, atoms-below}
 use Rattle.lines.specs.Others.{sumBut, balances-make}
-use Rattle.fc2.specs.Full.{fill, entry, othersSum, pairAverages, diagonalBlocks}
+use Rattle.fc2.specs.Full.{entry, offSiteSum, pairAverages, onSiteBlocks}
 use Rattle.fc2.specs.FullLoops.{evened, ownAt, pairsBefore, pairs, diagonals}
-use Rattle.fc2.specs.FullDrifts.{entry-own}
+use Rattle.fc2.specs.FullPlaces.{filled, entry-at, entry-own}
 
 -- the mean of the number at place q and the counterpart in block b
 abbrev mean : List Float → ℕ → ℕ → Float
-mean xs b q = half (add binary64 (getD xs q nan) (getD xs (b * 9 + turn (q % 9)) nan))
+mean xs b q = half (add binary64 (getD xs q nan) (getD xs (b * 9 + acrossDiagonal (q % 9)) nan))
 
 -- ---- two blocks
 
@@ -37,10 +38,10 @@ module _ (a b : ℕ) (xs : List Float) where
     abbrev m : List Float
     m = averaged (block 9 a xs) (block 9 b xs)
 
-    m-at : (p : ℕ) → p < 9 → getD m p nan ≡ half (add binary64 (getD xs (a * 9 + p) nan) (getD xs (b * 9 + turn p) nan))
+    m-at : (p : ℕ) → p < 9 → getD m p nan ≡ half (add binary64 (getD xs (a * 9 + p) nan) (getD xs (b * 9 + acrossDiagonal p) nan))
     m-at p hp =
-        getD-nine (λ p. half (add binary64 (getD (block 9 a xs) p nan) (getD (block 9 b xs) (turn p) nan))) p hp
-        ∙ ap half (ap₂ (add binary64) (getD-block 9 a xs p hp) (getD-block 9 b xs (turn p) (turn-below p hp)))
+        getD-nine (λ p. half (add binary64 (getD (block 9 a xs) p nan) (getD (block 9 b xs) (acrossDiagonal p) nan))) p hp
+        ∙ ap half (ap₂ (add binary64) (getD-block 9 a xs p hp) (getD-block 9 b xs (acrossDiagonal p) (transposed-below p hp)))
 
     there : q < length (putBlock 9 a m xs)
     there = rw (length-putBlock 9 a m xs) h
@@ -48,24 +49,24 @@ module _ (a b : ℕ) (xs : List Float) where
     pub pair-first : q / 9 ≡ a → getD (pairAt a b xs) q nan ≡ mean xs b q
     unfolding pairAt
     pair-first e =
-        put-outside 9 b (turned m) (putBlock 9 a m xs) q there (λ g. ne (sym e ∙ g))
+        put-outside 9 b (transposed9 m) (putBlock 9 a m xs) q there (λ g. ne (sym e ∙ g))
         ∙ put-inside 9 a m xs q h e ∙ m-at (q % 9) (in-nine q)
-        ∙ ap (λ k. half (add binary64 (getD xs k nan) (getD xs (b * 9 + turn (q % 9)) nan))) (own-place q a e)
+        ∙ ap (λ k. half (add binary64 (getD xs k nan) (getD xs (b * 9 + acrossDiagonal (q % 9)) nan))) (own-place q a e)
 
     pub pair-second : q / 9 ≡ b → getD (pairAt a b xs) q nan ≡ mean xs a q
     unfolding pairAt
     pair-second e =
         let p = q % 9 in
         let hp = in-nine q in
-        let w : b * 9 + turn (turn p) ≡ q = ap (λ k. b * 9 + k) (turn-turn p hp) ∙ own-place q b e in
-        put-inside 9 b (turned m) (putBlock 9 a m xs) q there e
-        ∙ getD-nine (λ p. getD m (turn p) nan) p hp ∙ m-at (turn p) (turn-below p hp)
-        ∙ ap half (add-commutes binary64 (getD xs (a * 9 + turn p) nan) (getD xs (b * 9 + turn (turn p)) nan))
-        ∙ ap (λ k. half (add binary64 (getD xs k nan) (getD xs (a * 9 + turn p) nan))) w
+        let w : b * 9 + acrossDiagonal (acrossDiagonal p) ≡ q = ap (λ k. b * 9 + k) (transposed-twice p hp) ∙ own-place q b e in
+        put-inside 9 b (transposed9 m) (putBlock 9 a m xs) q there e
+        ∙ getD-nine (λ p. getD m (acrossDiagonal p) nan) p hp ∙ m-at (acrossDiagonal p) (transposed-below p hp)
+        ∙ ap half (add-commutes binary64 (getD xs (a * 9 + acrossDiagonal p) nan) (getD xs (b * 9 + acrossDiagonal (acrossDiagonal p)) nan))
+        ∙ ap (λ k. half (add binary64 (getD xs k nan) (getD xs (a * 9 + acrossDiagonal p) nan))) w
 
     pub pair-else : (q / 9 ≡ a → ⊥) → (q / 9 ≡ b → ⊥) → getD (pairAt a b xs) q nan ≡ getD xs q nan
     unfolding pairAt
-    pair-else na nb = put-outside 9 b (turned m) (putBlock 9 a m xs) q there nb ∙ put-outside 9 a m xs q h na
+    pair-else na nb = put-outside 9 b (transposed9 m) (putBlock 9 a m xs) q there nb ∙ put-outside 9 a m xs q h na
 
 module _ (b : ℕ) (xs : List Float) where
   pub length-ownAt : length (ownAt b xs) ≡ length xs
@@ -77,8 +78,8 @@ module _ (b : ℕ) (xs : List Float) where
     unfolding ownAt
     own-in e =
         put-inside 9 b (evened (block 9 b xs)) xs q h e
-        ∙ getD-nine (λ p. cond (eqb (p / 3) (p % 3)) (getD (block 9 b xs) p nan) (half (add binary64 (getD (block 9 b xs) p nan) (getD (block 9 b xs) (turn p) nan)))) (q % 9) (in-nine q)
-        ∙ ap₂ (λ x y. cond (eqb (q % 9 / 3) (q % 9 % 3)) x (half (add binary64 x y))) (block-at b xs q e) (getD-block 9 b xs (turn (q % 9)) (turn-below (q % 9) (in-nine q)))
+        ∙ getD-nine (λ p. cond (eqb (p / 3) (p % 3)) (getD (block 9 b xs) p nan) (half (add binary64 (getD (block 9 b xs) p nan) (getD (block 9 b xs) (acrossDiagonal p) nan)))) (q % 9) (in-nine q)
+        ∙ ap₂ (λ x y. cond (eqb (q % 9 / 3) (q % 9 % 3)) x (half (add binary64 x y))) (block-at b xs q e) (getD-block 9 b xs (acrossDiagonal (q % 9)) (transposed-below (q % 9) (in-nine q)))
 
     pub own-out : (q / 9 ≡ b → ⊥) → getD (ownAt b xs) q nan ≡ getD xs q nan
     unfolding ownAt
@@ -92,7 +93,7 @@ by-size i j x y e g = ⊎-elim (λ (h : x < y). inl (omega arith, omega arith)) 
 
 -- the counterpart of place q
 abbrev mirror : ℕ → ℕ → ℕ
-mirror n q = (atomJ n q * n + atomI n q) * 9 + turn (q % 9)
+mirror n q = (atomJ n q * n + atomI n q) * 9 + acrossDiagonal (q % 9)
 
 -- ---- atom i with the atoms before it
 
@@ -124,8 +125,8 @@ module _ (n i : ℕ) (hi : i < n) (ys : List Float) (e : length ys ≡ n * n * 9
       (λ (a : max (atomI n q) (atomJ n q) ≡ i → ⊥). let b = key-other q a in absurd (omega arith))
       (eq-or-ne (max (atomI n q) (atomJ n q)) i)
 
-  turn-before : (j : ℕ) → j < i → (us : List Float) → Stage nan ys keyB newB j us → Stage nan ys keyB newB (suc j) (pairAt (j * n + i) (i * n + j) us)
-  turn-before j hj us s =
+  pair-before : (j : ℕ) → j < i → (us : List Float) → Stage nan ys keyB newB j us → Stage nan ys keyB newB (suc j) (pairAt (j * n + i) (i * n + j) us)
+  pair-before j hj us s =
       let a = j * n + i in
       let b = i * n + j in
       let hjn : j < n = omega arith in
@@ -133,8 +134,8 @@ module _ (n i : ℕ) (hi : i < n) (ys : List Float) (e : length ys ≡ n * n * 9
       next nan ys keyB newB j us (pairAt a b us) s (length-pairAt a b us)
       (λ q h g.
       let hu : q < length us = rw (s .long) h in
-      let p = turn (q % 9) in
-      let hp : p < 9 = turn-below (q % 9) (in-nine q) in
+      let p = acrossDiagonal (q % 9) in
+      let hp : p < 9 = transposed-below (q % 9) (in-nine q) in
       let own : getD us q nan ≡ getD ys q nan = s .left q h (omega arith) in
       let u : getD us (b * 9 + p) nan ≡ getD ys (b * 9 + p) nan =
       s .left (b * 9 + p) (rw e (place-in n n i j p hi hjn hp)) (let k = key-of i j j p hi hjn hp (omega arith) (omega arith) in omega arith) in
@@ -156,7 +157,7 @@ module _ (n i : ℕ) (hi : i < n) (ys : List Float) (e : length ys ≡ n * n * 9
 
   pub before-state : Stage nan ys keyB newB i (pairsBefore n i ys)
   unfolding pairsBefore
-  before-state = stages nan ys keyB newB i (λ j. pairAt (j * n + i) (i * n + j)) turn-before
+  before-state = stages nan ys keyB newB i (λ j. pairAt (j * n + i) (i * n + j)) pair-before
 
 -- ---- all pairs
 
@@ -169,8 +170,8 @@ module _ (n : ℕ) (xs : List Float) (e : length xs ≡ n * n * 9) where
   newP q =
       cond (eqb (atomI n q) (atomJ n q) && eqb (q % 9 / 3) (q % 9 % 3)) (getD xs q nan) (half (add binary64 (getD xs q nan) (getD xs (mirror n q) nan)))
 
-  turn-pairs : (i : ℕ) → i < n → (ys : List Float) → Stage nan xs keyP newP i ys → Stage nan xs keyP newP (suc i) (ownAt (i * n + i) (pairsBefore n i ys))
-  turn-pairs i hi ys s =
+  pairs-of : (i : ℕ) → i < n → (ys : List Float) → Stage nan xs keyP newP i ys → Stage nan xs keyP newP (suc i) (ownAt (i * n + i) (pairsBefore n i ys))
+  pairs-of i hi ys s =
       let ws = pairsBefore n i ys in
       let b = i * n + i in
       let t = before-state n i hi ys (s .long ∙ e) in
@@ -179,8 +180,8 @@ module _ (n : ℕ) (xs : List Float) (e : length xs ≡ n * n * 9) where
       let hy : q < length ys = rw (s .long) h in
       let hw : q < length ws = rw (t .long) hy in
       let bel = atoms-below n n q (rw e at h) in
-      let p = turn (q % 9) in
-      let hp : p < 9 = turn-below (q % 9) (in-nine q) in
+      let p = acrossDiagonal (q % 9) in
+      let hp : p < 9 = transposed-below (q % 9) (in-nine q) in
       let own : getD ys q nan ≡ getD xs q nan = s .left q h (omega arith) in
       let mir : getD ys (mirror n q) nan ≡ getD xs (mirror n q) nan =
       s .left (mirror n q) (rw e (place-in n n (atomJ n q) (atomI n q) p (bel .1) (bel .0) hp))
@@ -211,35 +212,38 @@ module _ (n : ℕ) (xs : List Float) (e : length xs ≡ n * n * 9) where
 
   -- the counterpart, by atoms and directions
   entry-mirror : (q : ℕ) → entry n xs (atomJ n q) (atomI n q) (q % 9 % 3) (q % 9 / 3) ≡ getD xs (mirror n q) nan
-  unfolding entry
-  entry-mirror q = refl
+  entry-mirror q = entry-at n xs (atomJ n q) (atomI n q) (q % 9 % 3) (q % 9 / 3)
 
   pub pairs-make : pairs n xs ≡ pairAverages n xs
-  unfolding pairs pairAverages fill
+  unfolding pairs pairAverages
   pairs-make =
-      let s = stages nan xs keyP newP n (λ i ys. ownAt (i * n + i) (pairsBefore n i ys)) turn-pairs in
+      let s = stages nan xs keyP newP n (λ i ys. ownAt (i * n + i) (pairsBefore n i ys)) pairs-of in
       is-tab nan (n * n * 9) _ (times n (λ i ys. ownAt (i * n + i) (pairsBefore n i ys)) xs) (s .long ∙ e)
       (λ q h.
       let hx : q < length xs = rw e h in
       let bel = atoms-below n n q h in
       s .made q hx (omega arith)
       ∙ ap₂ (λ x y. cond (eqb (atomI n q) (atomJ n q) && eqb (q % 9 / 3) (q % 9 % 3)) x (half (add binary64 x y))) (sym (entry-own n xs q)) (sym (entry-mirror q)))
+      ∙ sym (filled n _)
 
 -- ---- the diagonal blocks
 
 module _ (n : ℕ) (xs : List Float) (e : length xs ≡ n * n * 9) where
   -- the sums by directions
-  sum-own : (q : ℕ) → othersSum n xs (atomI n q) (q % 9 / 3) (q % 9 % 3) ≡ sumBut n xs (atomI n q) (atomI n q) (q % 9)
-  unfolding othersSum entry
-  sum-own q = ap (sumBut n xs (atomI n q) (atomI n q)) (div-add-mod' (q % 9) 3)
+  by-directions : (i k l : ℕ) → offSiteSum n xs i k l ≡ sumBut n xs i i (k * 3 + l)
+  unfolding offSiteSum
+  by-directions i k l = times-same n _ _ plusZero (λ j hj s. ap (λ x. cond (eqb i j) s (add binary64 s x)) (entry-at n xs i j k l))
 
-  sum-turned : (q : ℕ) → othersSum n xs (atomI n q) (q % 9 % 3) (q % 9 / 3) ≡ sumBut n xs (atomI n q) (atomI n q) (turn (q % 9))
-  unfolding othersSum entry
-  sum-turned q = refl
+  sum-own : (q : ℕ) → offSiteSum n xs (atomI n q) (q % 9 / 3) (q % 9 % 3) ≡ sumBut n xs (atomI n q) (atomI n q) (q % 9)
+  sum-own q = by-directions (atomI n q) (q % 9 / 3) (q % 9 % 3) ∙ ap (sumBut n xs (atomI n q) (atomI n q)) (div-add-mod' (q % 9) 3)
 
-  pub diagonals-make : diagonals n xs ≡ diagonalBlocks n xs
-  unfolding diagonals diagonalBlocks fill
+  sum-transposed : (q : ℕ) → offSiteSum n xs (atomI n q) (q % 9 % 3) (q % 9 / 3) ≡ sumBut n xs (atomI n q) (atomI n q) (acrossDiagonal (q % 9))
+  sum-transposed q = by-directions (atomI n q) (q % 9 % 3) (q % 9 / 3)
+
+  pub diagonals-make : diagonals n xs ≡ onSiteBlocks n xs
+  unfolding diagonals onSiteBlocks
   diagonals-make =
       balances-make n n (λ i. i) (λ i h. h) xs e
       ∙ tab-ext nan (n * n * 9) _ _ (λ q h.
-      ap₂ (cond (eqb (atomI n q) (atomJ n q))) (ap₂ (λ x y. half (neg (add binary64 x y))) (sym (sum-own q)) (sym (sum-turned q))) (sym (entry-own n xs q)))
+      ap₂ (cond (eqb (atomI n q) (atomJ n q))) (ap₂ (λ x y. half (neg (add binary64 x y))) (sym (sum-own q)) (sym (sum-transposed q))) (sym (entry-own n xs q)))
+      ∙ sym (filled n _)

@@ -8,8 +8,12 @@ use lib.Ieee.{Float, nan, add, div, neg, ofBits, binary64}
 use Rattle.lists.specs.Tab.{tab, tabFrom, times}
 use Rattle.blocks.specs.Block.{block}
 use Rattle.tables.specs.declared.Answer.the-variants.{Done}
-use Rattle.lines.specs.Nine.{zero, half, nine, turn}
-use Rattle.fc2.specs.Full.{fill, entry, othersSum, diagonalBlocks, symmetrized, permTransSymmetrizeFc}
+use Rattle.lists.specs.Digits.{horner, room, rest, digits}
+use Rattle.places.specs.Places.{address, size, legsOf, place, at, fill as fillPlaces}
+use Rattle.places.specs.Whole.{whole}
+use Rattle.lines.specs.Nine.{plusZero, half}
+use Rattle.blocks.specs.Nine.{nine, acrossDiagonal}
+use Rattle.fc2.specs.Full.{fill, entry, offSiteSum, onSiteBlocks, symmetrized, permTransSymmetrizeFc}
 use Rattle.fc2.specs.FullWork.{call-within}
 
 -- -0.0, 2.0, 4.0 and -3.0
@@ -26,7 +30,7 @@ abbrev minusThree : Float
 minusThree = ofBits binary64 0xC008_0000_0000_0000
 
 one-atom : (level : ℕ) (xs : List Float) → symmetrized 1 level xs ≡ replicate 9 minusZero
-unfolding symmetrized diagonalBlocks fill tab tabFrom othersSum times ofBits div neg add
+unfolding symmetrized onSiteBlocks fill fillPlaces whole place legsOf rest digits size room tab tabFrom offSiteSum times ofBits div neg add
 one-atom level xs = refl
 
 -- 3: one atom, any level that is not refused, whatever the set holds: nine times -0.0
@@ -35,14 +39,14 @@ sheet3 level xs h e = call-within xs 1 level (lit≤ tt) h e ∙ ap (λ l. (Done
 
 -- block (0, 0) of two atoms at level 0, from block (0, 1)
 fromOther : List Float → List Float
-fromOther b = nine (λ p. half (neg (add binary64 (add binary64 zero (getD b p nan)) (add binary64 zero (getD b (turn p) nan)))))
+fromOther b = nine (λ p. half (neg (add binary64 (add binary64 plusZero (getD b p nan)) (add binary64 plusZero (getD b (acrossDiagonal p) nan)))))
 
 from-other : (xs : List Float) → block 9 0 (symmetrized 2 0 xs) ≡ fromOther (block 9 1 xs)
-unfolding fromOther block symmetrized diagonalBlocks fill tab tabFrom othersSum times entry
+unfolding fromOther block symmetrized onSiteBlocks fill fillPlaces whole place legsOf rest digits size room tab tabFrom offSiteSum times entry at address horner
 from-other xs = refl
 
 abbrev sheet4-given : List Float
-sheet4-given = zero ∷ two ∷ zero ∷ four ∷ zero ∷ zero ∷ zero ∷ zero ∷ zero ∷ []
+sheet4-given = plusZero ∷ two ∷ plusZero ∷ four ∷ plusZero ∷ plusZero ∷ plusZero ∷ plusZero ∷ plusZero ∷ []
 
 abbrev sheet4-wanted : List Float
 sheet4-wanted = minusZero ∷ minusThree ∷ minusZero ∷ minusThree ∷ minusZero ∷ minusZero ∷ minusZero ∷ minusZero ∷ minusZero ∷ []

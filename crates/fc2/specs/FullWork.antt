@@ -8,45 +8,46 @@ use borrow.Author.Tests.{le-ltb, eq-eqb}
 use lib.Ieee.{Float}
 use Rattle.lists.specs.Tab.{times, length-tab}
 use Rattle.tables.specs.declared.Answer.{Answer}
-use Rattle.tables.specs.declared.Answer.the-variants.{Done, CountAboveLimit, WrongLength}
+use Rattle.tables.specs.declared.Answer.the-variants.{Done}
+use Rattle.tables.specs.declared.Refusal.the-variants.{CountAboveLimit, WrongLength}
 use Rattle.tables.specs.Answers.{isRefusal, passed, after-done, after-refusal, is-done}
 use Rattle.tables.specs.Conditions.{anyAbove, anyWrong, or-false, not-above, not-wrong}
 use Rattle.tables.specs.Limits.{limit2, limitLevel}
 use Rattle.lines.specs.Nine.{inverse}
 use Rattle.lines.specs.Lines.{rowDrifts, Sized}
-use Rattle.fc2.specs.Full.{fill, columnDrift, rowDrift, pairAverages, diagonalBlocks, oneLevel, symmetrized, judgedFull, permTransSymmetrizeFc}
+use Rattle.fc2.specs.Full.{fill, withoutColumnDrift, withoutRowDrift, pairAverages, onSiteBlocks, oneLevel, symmetrized, judgedFull, permTransSymmetrizeFc}
+use Rattle.fc2.specs.FullPlaces.{filled}
 use Rattle.fc2.specs.FullLoops.{pairs, diagonals, swept, worked}
 use Rattle.fc2.specs.FullDrifts.{columns-make, row-drifts-make}
 use Rattle.fc2.specs.FullPairs.{pairs-make, diagonals-make}
 
 -- every stage keeps the length
 pub length-fill : (n : ℕ) (f : ℕ → ℕ → ℕ → ℕ → Float) → length (fill n f) ≡ n * n * 9
-unfolding fill
-length-fill n f = length-tab (n * n * 9) _
+length-fill n f = ap length (filled n f) ∙ length-tab (n * n * 9) _
 
 module _ (n : ℕ) where
   pub length-level : (xs : List Float) → length (oneLevel n xs) ≡ n * n * 9
   unfolding oneLevel pairAverages
   length-level xs = length-fill n _
 
-  length-columns : (xs : List Float) → length (columnDrift n xs) ≡ n * n * 9
-  unfolding columnDrift
+  length-columns : (xs : List Float) → length (withoutColumnDrift n xs) ≡ n * n * 9
+  unfolding withoutColumnDrift
   length-columns xs = length-fill n _
 
-  length-rows : (xs : List Float) → length (rowDrift n xs) ≡ n * n * 9
-  unfolding rowDrift
+  length-rows : (xs : List Float) → length (withoutRowDrift n xs) ≡ n * n * 9
+  unfolding withoutRowDrift
   length-rows xs = length-fill n _
 
   pub length-symmetrized : (level : ℕ) (xs : List Float) → length (symmetrized n level xs) ≡ n * n * 9
-  unfolding symmetrized diagonalBlocks
+  unfolding symmetrized onSiteBlocks
   length-symmetrized level xs = length-fill n _
 
   level-make : (xs : List Float) → length xs ≡ n * n * 9 → swept n (inverse n) xs ≡ oneLevel n xs
   unfolding swept oneLevel
   level-make xs e =
       ap (λ l. pairs n (rowDrifts n n (inverse n) l)) (columns-make n xs e)
-      ∙ ap (pairs n) (row-drifts-make n (columnDrift n xs) (length-columns xs))
-      ∙ pairs-make n (rowDrift n (columnDrift n xs)) (length-rows (columnDrift n xs))
+      ∙ ap (pairs n) (row-drifts-make n (withoutColumnDrift n xs) (length-columns xs))
+      ∙ pairs-make n (withoutRowDrift n (withoutColumnDrift n xs)) (length-rows (withoutColumnDrift n xs))
 
   length-levels : (level : ℕ) (xs : List Float) → length xs ≡ n * n * 9 → length (times level (λ _. oneLevel n) xs) ≡ n * n * 9
   unfolding times
@@ -70,8 +71,8 @@ module _ (a : Answer) (xs : List Float) (n level : ℕ) (e : a ≡ judgedFull (l
   -- what is known of a set that is worked on
   pub sized : isRefusal a ≡ false → Sized n n (length xs)
   sized h =
-      let (c, r) = passed (anyAbove limit2 (n ∷ []) || anyAbove limitLevel (level ∷ [])) CountAboveLimit _ refl (sym e ∙ is-done a h) in
-      let (l, _) = passed (anyWrong ((length xs, n * n * 9) ∷ [])) WrongLength Done refl r in
+      let (c, r) = passed (anyAbove limit2 (n ∷ []) || anyAbove limitLevel (level ∷ [])) CountAboveLimit _ (sym e ∙ is-done a h) in
+      let (l, _) = passed (anyWrong ((length xs, n * n * 9) ∷ [])) WrongLength Done r in
       let small = not-above limit2 (n ∷ []) (or-false (anyAbove limit2 (n ∷ [])) (anyAbove limitLevel (level ∷ [])) c .0) .0 in
       record {
         few = small;

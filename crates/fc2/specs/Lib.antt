@@ -1,4 +1,5 @@
 pub mod Full
+pub mod FullPlaces
 pub mod FullLoops
 pub mod FullLaws
 pub mod FullDrifts
@@ -9,3 +10,4 @@ pub mod FullSheets
 pub mod Drift
 pub mod DriftLoops
 pub mod DriftLaws
+pub mod DriftWorst

@@ -1,73 +1,89 @@
-// The column drift of a full set. Eight columns are taken at a time: their 72 numbers of a row stand side by side, where those of one column alone are
-// less than two lines of memory in each row. Each of the 72 sums has the same terms in the same order as if its column stood alone.
+// The column drift of a full set. Eight columns are taken at a time: their eight blocks of a row stand side by side, where the block of one column
+// alone is less than two lines of memory in each row. Each of the eight 3 by 3 sums has the same terms in the same order as if its column stood alone.
+use lines::nine::less;
+use lines::nine::more;
+use lines::nine::scaled;
+use places::full2;
+use tables::atoms::SuperAtom;
 ghost use mathlib.Core.Path.{_≡_};
 ghost use mathlib.Core.List.{List};
 ghost use Prim.Native.Nat.{ℕ, _+_, _*_, _≤_, _<_};
-ghost use lib.ListN.{length, getD};
-ghost use lib.Ieee.{Float, nan, add, mul, sub, binary64};
+ghost use lib.ListN.{length};
+ghost use lib.Ieee.{Float};
 ghost use Rattle.lines.specs.Lines.{Sized};
 ghost use Rattle.fc2.specs.FullLoops as loops;
-ghost use Rattle.fc2.specs.Columns.{Changed, Summed, Taken, Drifted, Columns as ColumnsDone};
+ghost use Rattle.fc2.specs.Columns.{Columns as ColumnsDone};
 
-// Adds the 72 numbers from place at on to the sums.
-fn add72(s: &mut [f64], fc: &[f64], at: usize)
-    requires { ⌜ (length (now s) ≡ 72) × (at + 72 ≤ length (now fc)) ⌝ }
-    ensures { λ _. ⌜ Changed (λ k y. add binary64 y (getD (now (fc .entry)) (at + k) nan)) 0 (now (s .entry)) 72 (now (s .exit)) ⌝ }
+// Eight 3 by 3 sums, and one block more for each: the eight blocks from block b on.
+fn add8(s: [[[f64; 3]; 3]; 8], fc: &[f64], b: usize) -> [[[f64; 3]; 3]; 8]
+    requires { ⌜ b * 9 + 72 ≤ length (now fc) ⌝ }
+    ensures { λ r. ⌜ r ≡ loops.added8 s b (now (fc .entry)) ⌝ }
 {
-    for k in 0..72usize {
-        s[k] = s[k] + fc[at + k];
+    let mut r = [[[0.0f64; 3]; 3]; 8];
+    for c in 0..8usize {
+        let v = blocks::read9(fc, b + c);
+        let m = more(s[c], v);
+        r[c] = m;
     }
+    r
 }
 
-fn scale72(s: &mut [f64], x: f64)
-    requires { ⌜ length (now s) ≡ 72 ⌝ }
-    ensures { λ _. ⌜ Changed (λ k y. mul binary64 y x) 0 (now (s .entry)) 72 (now (s .exit)) ⌝ }
+fn scale8(s: [[[f64; 3]; 3]; 8], x: f64) -> [[[f64; 3]; 3]; 8]
+    ensures { λ r. ⌜ r ≡ loops.scaled8 s x ⌝ }
 {
-    for k in 0..72usize {
-        s[k] = s[k] * x;
+    let mut r = [[[0.0f64; 3]; 3]; 8];
+    for c in 0..8usize {
+        let m = scaled(s[c], x);
+        r[c] = m;
     }
+    r
 }
 
-// Takes d from the 72 numbers from place at on.
-fn take72(fc: &mut [f64], at: usize, d: &[f64; 72])
-    requires { ⌜ at + 72 ≤ length (now fc) ⌝ }
-    ensures { λ _. ⌜ Changed (λ k y. sub binary64 y (getD (now (d .entry)) k nan)) at (now (fc .entry)) 72 (now (fc .exit)) ⌝ }
+// Takes the eight drifts d from the eight blocks from block b on.
+fn take8(fc: &mut [f64], b: usize, d: [[[f64; 3]; 3]; 8])
+    requires { ⌜ b * 9 + 72 ≤ length (now fc) ⌝ }
+    ensures { λ _. ⌜ now (fc .exit) ≡ loops.less8 d b (now (fc .entry)) ⌝ }
 {
-    for k in 0..72usize {
-        fc[at + k] = fc[at + k] - d[k];
+    for c in 0..8usize {
+        let v = blocks::read9(fc, b + c);
+        let w = less(v, d[c]);
+        blocks::write9(fc, b + c, w);
     }
 }
 
 // The sums of columns j to j + 7.
-fn panel_sums(fc: &[f64], n: usize, j: usize) -> [f64; 72]
+fn panel_sums(fc: &[f64], n: usize, j: usize) -> [[[f64; 3]; 3]; 8]
     requires { ⌜ Sized n n (length (now fc)) × (j + 8 ≤ n) ⌝ }
-    ensures { λ r. ⌜ Summed n j n (now (fc .entry)) r ⌝ }
+    ensures { λ r. ⌜ r ≡ loops.panelSums n j n (now (fc .entry)) ⌝ }
 {
-    let mut s = [0.0f64; 72];
+    let mut s = [[[0.0f64; 3]; 3]; 8];
     for i in 0..n {
-        add72(&mut s, fc, (i * n + j) * 9);
+        let b = full2(SuperAtom(i), SuperAtom(j), n);
+        let m = add8(s, fc, b);
+        s = m;
     }
     s
 }
 
 // Takes d from columns j to j + 7.
-fn take_panel(fc: &mut [f64], d: &[f64; 72], n: usize, j: usize)
+fn take_panel(fc: &mut [f64], d: [[[f64; 3]; 3]; 8], n: usize, j: usize)
     requires { ⌜ Sized n n (length (now fc)) × (j + 8 ≤ n) ⌝ }
-    ensures { λ _. ⌜ Taken n j (now (d .entry)) (now (fc .entry)) n (now (fc .exit)) ⌝ }
+    ensures { λ _. ⌜ now (fc .exit) ≡ loops.panelLess n j d n (now (fc .entry)) ⌝ }
 {
     for i in 0..n {
-        take72(fc, (i * n + j) * 9, d);
+        let b = full2(SuperAtom(i), SuperAtom(j), n);
+        take8(fc, b, d);
     }
 }
 
 // Takes their drift from columns j to j + 7.
 fn panel_drift(fc: &mut [f64], n: usize, j: usize, inv_n: f64)
     requires { ⌜ Sized n n (length (now fc)) × (j + 8 ≤ n) ⌝ }
-    ensures { λ _. ⌜ Drifted n j «inv_n» (now (fc .entry)) (now (fc .exit)) ⌝ }
+    ensures { λ _. ⌜ now (fc .exit) ≡ loops.panelDrift n j «inv_n» (now (fc .entry)) ⌝ }
 {
-    let mut s = panel_sums(fc, n, j);
-    scale72(&mut s, inv_n);
-    take_panel(fc, &s, n, j);
+    let s = panel_sums(fc, n, j);
+    let d = scale8(s, inv_n);
+    take_panel(fc, d, n, j);
 }
 
 // The first count panels of eight columns.

@@ -1,5 +1,9 @@
 // The drift report of a full set (document 01, "Drift report").
+use places::last_leg;
+use places::legs_before;
+use places::with_leg;
 use tables::Answer;
+use tables::Refusal;
 ghost use mathlib.Core.Path.{_≡_};
 ghost use Prim.Native.Nat.{_*_, _<_};
 ghost use lib.ListN.{length};
@@ -24,7 +28,7 @@ pub struct DriftReport {
 
 pub enum DriftAnswer {
     Report(DriftReport),
-    Refused(Answer),
+    Refused(Refusal),
 }
 
 // A number for each case.
@@ -55,7 +59,7 @@ pub fn answer(r: DriftAnswer) -> Answer
 {
     match r {
         DriftAnswer::Report(_) => Answer::Done,
-        DriftAnswer::Refused(a) => a,
+        DriftAnswer::Refused(r) => Answer::Refused(r),
     }
 }
 
@@ -108,14 +112,14 @@ fn look(r: usize, x: f64, c: Seen) -> Seen
 }
 
 // Looks at the nine sums of atom i.
-fn look_row(i: usize, s: [f64; 9], c: Seen) -> Seen
+fn look_row(i: usize, s: [[f64; 3]; 3], c: Seen) -> Seen
     requires { ⌜ i < 1024 ⌝ }
     ensures { λ r. ⌜ r ≡ loops.lookRow i s c ⌝ }
 {
     let mut seen = c;
     for p in 0..9usize {
-        let x = s[p];
-        let more = look(i * 9 + p, x, seen);
+        let x = s[legs_before(p, 3)][last_leg(p, 3)];
+        let more = look(with_leg(i, 9, p), x, seen);
         seen = more;
     }
     seen
@@ -132,7 +136,7 @@ fn scan(fc: &[f64], n: usize) -> Seen
         at: 0,
     };
     for i in 0..n {
-        let s = lines::line_sums(fc, [0.0f64; 9], i * n, 1, n);
+        let s = lines::line_sums(fc, [[0.0f64; 3]; 3], with_leg(i, n, 0), 1, n);
         let more = look_row(i, s, seen);
         seen = more;
     }
@@ -145,9 +149,9 @@ fn report_at(d: Drift, r: usize) -> DriftReport
 {
     DriftReport {
         drift: d,
-        atom: r / 9,
-        k: r % 9 / 3,
-        l: r % 9 % 3,
+        atom: legs_before(r, 9),
+        k: legs_before(last_leg(r, 9), 3),
+        l: last_leg(last_leg(r, 9), 3),
     }
 }
 
@@ -167,10 +171,10 @@ fn judge_drift(len: usize, n: usize) -> Answer
     ensures { λ r. ⌜ r ≡ judgedDrift «len» n ⌝ }
 {
     if n > tables::limits::LIMIT2 {
-        return Answer::CountAboveLimit;
+        return Answer::Refused(Refusal::CountAboveLimit);
     }
     if len != n * n * 9 {
-        return Answer::WrongLength;
+        return Answer::Refused(Refusal::WrongLength);
     }
     Answer::Done
 }
@@ -180,9 +184,11 @@ pub fn drift_report(fc: &[f64], n_satom: usize) -> DriftAnswer
     ensures { λ r. ⌜ Reported (now (fc .entry)) «n_satom» r ⌝ }
 {
     let a = judge_drift(fc.len(), n_satom);
-    if tables::is_refusal(a) {
-        return DriftAnswer::Refused(a);
+    match a {
+        Answer::Refused(r) => DriftAnswer::Refused(r),
+        Answer::Done => {
+            let seen = scan(fc, n_satom);
+            DriftAnswer::Report(conclude(seen))
+        }
     }
-    let seen = scan(fc, n_satom);
-    DriftAnswer::Report(conclude(seen))
 }

@@ -1,7 +1,10 @@
 // The full symmetrizer of second order (fc2.rs, perm_trans_symmetrize_fc).
 use crate::columns::column_drift;
 use lines::nine::balance;
+use places::full2;
 use tables::Answer;
+use tables::Refusal;
+use tables::atoms::SuperAtom;
 ghost use mathlib.Core.Path.{_≡_};
 ghost use Prim.Native.Nat.{_<_};
 ghost use lib.ListN.{length};
@@ -9,7 +12,7 @@ ghost use Rattle.fc2.specs.Full.{judgedFull, symmetrized, permTransSymme
 ghost use Rattle.fc2.specs.FullLoops as loops;
 ghost use Rattle.lines.specs.Lines.{Inside, Sized};
 
-// The mean of a diagonal block and itself transposed; its own diagonal is left alone, as in the Rust.
+// The mean of an on-site block and itself transposed; its own diagonal is left alone, as in the Rust.
 fn evened(b: [f64; 9]) -> [f64; 9]
     ensures { λ r. ⌜ r ≡ loops.evened b ⌝ }
 {
@@ -26,7 +29,9 @@ fn average_before(fc: &mut [f64], n: usize, i: usize)
     ensures { λ _. ⌜ now (fc .exit) ≡ loops.pairsBefore n i (now (fc .entry)) ⌝ }
 {
     for j in 0..i {
-        lines::average_pair(fc, j * n + i, i * n + j);
+        let b = full2(SuperAtom(j), SuperAtom(i), n);
+        let c = full2(SuperAtom(i), SuperAtom(j), n);
+        lines::average_pair(fc, b, c);
     }
 }
 
@@ -44,18 +49,20 @@ fn set_index_permutation_symmetry_fc(fc: &mut [f64], n: usize)
 {
     for i in 0..n {
         average_before(fc, n, i);
-        average_own(fc, i * n + i);
+        let b = full2(SuperAtom(i), SuperAtom(i), n);
+        average_own(fc, b);
     }
 }
 
-// The diagonal blocks, each from the sums over the other atoms.
+// The on-site blocks by the acoustic sum rule, each from the sums over the other atoms.
 fn set_translational_symmetry_fc(fc: &mut [f64], n: usize)
     requires { ⌜ Sized n n (length (now fc)) ⌝ }
     ensures { λ _. ⌜ now (fc .exit) ≡ loops.diagonals n (now (fc .entry)) ⌝ }
 {
     for i in 0..n {
-        let s = lines::other_sums(fc, n, n, i, i);
-        blocks::write9(fc, i * n + i, balance(s));
+        let b = full2(SuperAtom(i), SuperAtom(i), n);
+        let s = lines::other_sums(fc, b, SuperAtom(i), n);
+        blocks::write9(fc, b, balance(s));
     }
 }
 
@@ -83,18 +90,18 @@ fn judge_full(len: usize, n: usize, level: usize) -> Answer
     ensures { λ r. ⌜ r ≡ judgedFull «len» n level ⌝ }
 {
     if n > tables::limits::LIMIT2 {
-        return Answer::CountAboveLimit;
+        return Answer::Refused(Refusal::CountAboveLimit);
     }
     if level > tables::limits::LIMIT_LEVEL {
-        return Answer::CountAboveLimit;
+        return Answer::Refused(Refusal::CountAboveLimit);
     }
     if len != n * n * 9 {
-        return Answer::WrongLength;
+        return Answer::Refused(Refusal::WrongLength);
     }
     Answer::Done
 }
 
-// Symmetrizes a full set (document 01, "Second order"): per level column drift, row drift and pair averages, at the end the diagonal blocks.
+// Symmetrizes a full set (document 01, "Second order"): per level column drift, row drift and pair averages, at the end the on-site blocks.
 pub fn perm_trans_symmetrize_fc(fc: &mut [f64], n_satom: usize, level: usize) -> Answer
     ensures { λ r. ⌜ (r, now (fc .exit)) ≡ permTransSymmetrizeFc (now (fc .entry)) «n_satom» level ⌝ }
 {

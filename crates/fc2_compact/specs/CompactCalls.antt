@@ -9,7 +9,8 @@ use lib.Ieee.{Float}
 use lib.ListN.{length, replicate}
 use Rattle.lists.specs.Digits.{room}
 use Rattle.tables.specs.declared.Answer.{Answer}
-use Rattle.tables.specs.declared.Answer.the-variants.{Done, CountAboveLimit}
+use Rattle.tables.specs.declared.Answer.the-variants.{Done}
+use Rattle.tables.specs.declared.Refusal.the-variants.{CountAboveLimit}
 use Rattle.tables.specs.Answers.{isRefusal, after, is-done, after-refusal, after-done, passed}
 use Rattle.tables.specs.Limits.{limit2, limitLevel}
 use Rattle.tables.specs.Compact.{ShiftTables, shiftsOf, done-compact}
@@ -55,7 +56,7 @@ module _ (l : List Float) (T : ShiftTables) (w : List ℕ) {a : Answer} where
   index-done t e h ev ed = call-done (cond t (transposed (shiftsOf T) l) (averaged (shiftsOf T) l)) l (zerosOf w) w e h ev ed
 
   pub ready-levels : (level : ℕ) → a ≡ judgedLevels l T w level → isRefusal a ≡ false → Ready T (length l)
-  ready-levels level e h = ready-of l T w (passed (ltb limitLevel level) CountAboveLimit (judged2 l T w) refl (sym e ∙ is-done a h) .1)
+  ready-levels level e h = ready-of l T w (passed (ltb limitLevel level) CountAboveLimit (judged2 l T w) (sym e ∙ is-done a h) .1)
 
   pub symmetrize-refused : (level : ℕ) → a ≡ judgedLevels l T w level → isRefusal a ≡ true → (a, l, w) ≡ permTransSymmetrizeCompactFc l T w level
   unfolding permTransSymmetrizeCompactFc

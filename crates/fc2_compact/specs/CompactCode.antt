@@ -17,11 +17,11 @@ use Rattle.tables.specs.Compact.{ShiftTables, shiftsOf, Fit, p2s-is, s2pp-is}
 use Rattle.places.specs.Addresses.{storedBlock}
 use Rattle.places.specs.ReadOuts.{Tables, storedIn, tables, stored-in}
 use Rattle.blocks.specs.Block.{putBlock}
-use Rattle.lines.specs.Nine.{balance, inverse}
-use Rattle.lines.specs.Lines.{Sized, Inside, pairAt, rowDrifts, others, balanceAt, balances}
-use Rattle.fc2_compact.specs.Compact.{transposed, averaged, drifted, onSite}
+use Rattle.lines.specs.Nine.{Sums, balance, inverse}
+use Rattle.lines.specs.Lines.{Sized, Inside, RowOf, row-of, pairAt, rowDrifts, others, balanceAt, balances}
+use Rattle.fc2_compact.specs.Compact.{transposed, averaged, withoutRowDrift, onSite}
 use Rattle.fc2_compact.specs.CompactDrift.{drift-made, site-made}
-use Rattle.fc2_compact.specs.CompactTurns.{mate, swapAt, transposeTurn, averageTurn, mate-is, mate-at, mate-below, transpose-past, average-past, transpose-stays, transpose-put, average-put, transpose-made, average-made}
+use Rattle.fc2_compact.specs.CompactVisits.{mate, swapAt, transposeVisit, averageVisit, mate-is, mate-at, mate-below, transpose-past, average-past, transpose-stays, transpose-put, average-put, transpose-made, average-made}
 
 -- tables that passed the guard, and a set of the stated length
 pub record Ready (T : ShiftTables) (len : ℕ) : Type 0 where
@@ -72,7 +72,7 @@ facts {T} {len} {p} {i} {j} r =
 pub p2s-read : {T : ShiftTables} {len : ℕ} → Ready T len → (p : ℕ) → p < T .nPatom → Readable (T .p2s) p
 p2s-read {T} r p h = read (r .fit .p2s-fit) p h .0
 
--- ---- the turn of block (p, j)
+-- ---- the visit of block (p, j)
 
 -- the primitive atom of j is there to be read; where it comes before p, the counterpart comes before the block
 module _ (T : ShiftTables) (l : List Float) (p i j : ℕ) (r : ReadyAt T (length l) p i j) where
@@ -90,10 +90,10 @@ module _ (T : ShiftTables) (l : List Float) (p i j : ℕ) (r : ReadyAt T (length
         let m : mate S (p * T .nSatom + j) ≡ q * T .nSatom + k = mate-is S L p j (r .first) (r .second) ∙ ap (λ a. a * T .nSatom + k) (sym f) in
         omega (arith, m, hk, mul-le-mul-right (T .nSatom) h)
 
-    pub transpose-earlier : l ≡ transposeTurn (shiftsOf T) p j l
+    pub transpose-earlier : l ≡ transposeVisit (shiftsOf T) p j l
     transpose-earlier = transpose-past (shiftsOf T) p j l earlier
 
-    pub average-earlier : l ≡ averageTurn (shiftsOf T) p j l
+    pub average-earlier : l ≡ averageVisit (shiftsOf T) p j l
     average-earlier = average-past (shiftsOf T) p j l earlier
 
 -- the same by the numbers b and c of the block and its counterpart as they are worked out
@@ -111,8 +111,8 @@ module _ (T : ShiftTables) (l : List Float) (p i j : ℕ) (r : ReadyAt T (length
   c-is : c ≡ mate S u
   c-is = ec ∙ facts r .mate-told
 
-  pub turn-in : Inside b c (length l)
-  turn-in = record { one = rw b-is (facts r .block-in); other = rw c-is (facts r .mate-in) }
+  pub visit-in : Inside b c (length l)
+  visit-in = record { one = rw b-is (facts r .block-in); other = rw c-is (facts r .mate-in) }
 
   before : c < b → mate S u < u
   before h = omega (arith, b-is, c-is)
@@ -120,16 +120,16 @@ module _ (T : ShiftTables) (l : List Float) (p i j : ℕ) (r : ReadyAt T (length
   after : b ≤ c → u ≤ mate S u
   after h = omega (arith, b-is, c-is)
 
-  pub transpose-late : c < b → l ≡ transposeTurn S p j l
+  pub transpose-late : c < b → l ≡ transposeVisit S p j l
   transpose-late h = transpose-past S p j l (before h)
 
-  pub average-late : c < b → l ≡ averageTurn S p j l
+  pub average-late : c < b → l ≡ averageVisit S p j l
   average-late h = average-past S p j l (before h)
 
-  pub transpose-none : c ≡ b → (j ≡ i → ⊥) → l ≡ transposeTurn S p j l
+  pub transpose-none : c ≡ b → (j ≡ i → ⊥) → l ≡ transposeVisit S p j l
   transpose-none e n = transpose-stays S (r .ready .rules) p j (r .first) (r .second) l (sym c-is ∙ e ∙ b-is) (λ f. n (sym f ∙ sym (r .own)))
 
-  pub transpose-done : {w : List Float} → b ≤ c → (c ≡ b → ⊥) ⊎ (j ≡ i) → w ≡ swapAt b c l → w ≡ transposeTurn S p j l
+  pub transpose-done : {w : List Float} → b ≤ c → (c ≡ b → ⊥) ⊎ (j ≡ i) → w ≡ swapAt b c l → w ≡ transposeVisit S p j l
   transpose-done h m e =
       e ∙ ap₂ (λ b c. swapAt b c l) b-is c-is
       ∙ transpose-put S (r .ready .rules) p j (r .first) (r .second) l (after h) (moving m)
@@ -138,19 +138,19 @@ module _ (T : ShiftTables) (l : List Float) (p i j : ℕ) (r : ReadyAt T (length
       moving (inl n) = inl (λ f. n (c-is ∙ f ∙ sym b-is))
       moving (inr f) = inr (sym (r .own) ∙ sym f)
 
-  pub average-done : {w : List Float} → b ≤ c → w ≡ pairAt b c l → w ≡ averageTurn S p j l
+  pub average-done : {w : List Float} → b ≤ c → w ≡ pairAt b c l → w ≡ averageVisit S p j l
   average-done h e = e ∙ ap₂ (λ b c. pairAt b c l) b-is c-is ∙ average-put S (r .ready .rules) p j (r .first) (r .second) l (after h)
 
 -- ---- the passes
 
 module _ {T : ShiftTables} (l : List Float) (r : Ready T (length l)) where
-  pub transpose-all : times (T .nPatom) (λ p. times (T .nSatom) (transposeTurn (shiftsOf T) p)) l ≡ transposed (shiftsOf T) l
+  pub transpose-all : times (T .nPatom) (λ p. times (T .nSatom) (transposeVisit (shiftsOf T) p)) l ≡ transposed (shiftsOf T) l
   transpose-all = transpose-made (shiftsOf T) (r .rules) l (r .has)
 
-  pub average-all : times (T .nPatom) (λ p. times (T .nSatom) (averageTurn (shiftsOf T) p)) l ≡ averaged (shiftsOf T) l
+  pub average-all : times (T .nPatom) (λ p. times (T .nSatom) (averageVisit (shiftsOf T) p)) l ≡ averaged (shiftsOf T) l
   average-all = average-made (shiftsOf T) (r .rules) l (r .has)
 
-  pub drift-all : rowDrifts (T .nPatom) (T .nSatom) (inverse (T .nSatom)) l ≡ drifted (shiftsOf T) l
+  pub drift-all : rowDrifts (T .nPatom) (T .nSatom) (inverse (T .nSatom)) l ≡ withoutRowDrift (shiftsOf T) l
   drift-all = drift-made (shiftsOf T) l (r .has)
 
   pub site-all : times (T .nPatom) (balanceAt (T .nSatom) (p2sAt (shiftsOf T))) l ≡ onSite (shiftsOf T) l
@@ -164,7 +164,7 @@ ready-same e r = record { fit = r .fit; rules = r .rules; has = e ∙ r .has }
 pub ready-at : {T : ShiftTables} {m n p i j : ℕ} → m ≡ n → Ready T n → p < T .nPatom → i ≡ indexAt (T .p2s) p → j < T .nSatom → ReadyAt T m p i j
 ready-at {T} {p = p} e r h f g = record { ready = ready-same e r; first = h; own = f ∙ p2s-is T p; second = g }
 
--- the block of p with itself is one of the row
+-- the on-site block of p is one of the row
 pub own-at : {T : ShiftTables} {len p i : ℕ} → Ready T len → p < T .nPatom → i ≡ indexAt (T .p2s) p → ReadyAt T len p i i
 own-at {T} {p = p} r h e = let f : _ ≡ p2sAt (shiftsOf T) p = e ∙ p2s-is T p in record { ready = r; first = h; own = f; second = rw f (r .rules .p2s-below p h) }
 
@@ -172,11 +172,17 @@ pub own-in : {T : ShiftTables} {len p i b : ℕ} → ReadyAt T len p i i → b �
 unfolding horner
 own-in r e = rw e (facts r .block-in)
 
--- what is written for the block of p with itself
-pub site-row-is : {i b : ℕ} {s v w : List Float} (T : ShiftTables) (p : ℕ) (l : List Float)
-    → i ≡ indexAt (T .p2s) p → b ≡ horner (T .nSatom) p (i ∷ []) → s ≡ others (T .nSatom) p i l → v ≡ balance s
+-- the row of p, by its on-site block
+pub own-row : {T : ShiftTables} {len p i b : ℕ} → ReadyAt T len p i i → b ≡ horner (T .nSatom) p (i ∷ []) → RowOf b i (T .nSatom) len
+unfolding horner
+own-row {T} {len} {p} {i} r e = rw e (row-of (sized (r .ready)) p i (r .first) (r .second))
+
+-- what is written for the on-site block of p
+pub site-row-is : {i b : ℕ} {s : Sums} {v w : List Float} (T : ShiftTables) (p : ℕ) (l : List Float)
+    → i ≡ indexAt (T .p2s) p → b ≡ horner (T .nSatom) p (i ∷ []) → s ≡ others (T .nSatom) b i l → v ≡ balance s
     → w ≡ putBlock 9 b v l → w ≡ balanceAt (T .nSatom) (p2sAt (shiftsOf T)) p l
 unfolding balanceAt horner
-site-row-is T p l ei eb es ev ew =
-    ew ∙ ap₂ (λ b v. putBlock 9 b v l) eb (ev ∙ ap balance es)
-    ∙ ap (λ i. putBlock 9 (p * T .nSatom + i) (balance (others (T .nSatom) p i l)) l) (ei ∙ p2s-is T p)
+site-row-is {i} {b} T p l ei eb es ev ew =
+    ew ∙ ap (λ v. putBlock 9 b v l) (ev ∙ ap balance es)
+    ∙ ap (λ b. putBlock 9 b (balance (others (T .nSatom) b i l)) l) eb
+    ∙ ap (λ i. putBlock 9 (p * T .nSatom + i) (balance (others (T .nSatom) (p * T .nSatom + i) i l)) l) (ei ∙ p2s-is T p)

@@ -1,4 +1,4 @@
--- The row drift, and the blocks of an atom with itself: the loops over rows make what Compact.antt says. Assumes nothing.
+-- The row drift, and the on-site blocks: the loops over rows make what Compact.antt says. Assumes nothing.
 use mathlib.Core.Path.{_≡_, sym, ap, ap₂, _∙_}
 use mathlib.Core.Bool.{cond}
 use mathlib.Core.List.{List}
@@ -9,12 +9,12 @@ use lib.ListN.{length, getD}
 use lib.Ieee.{Float, nan, binary64, neg, add, sub, mul}
 use Rattle.lists.specs.Tab.{times-same}
 use Rattle.tables.specs.Shifts.{Shifts, Laws, p2sAt}
-use Rattle.lines.specs.Nine.{zero, half, inverse}
+use Rattle.lines.specs.Nine.{plusZero, half, inverse}
 use Rattle.lines.specs.Lines.{rowDrifts, balances}
 use Rattle.lines.specs.Drifts.{sumRow, rows-make}
 use Rattle.lines.specs.Others.{sumBut, balances-make}
-use Rattle.fc2_compact.specs.Compact.{rowSum, otherSum, drifted, onSite}
-use Rattle.fc2_compact.specs.CompactPlaces.{fill-is, at-is, own-at}
+use Rattle.fc2_compact.specs.Compact.{rowSum, offSiteSum, withoutRowDrift, onSite}
+use Rattle.lines.specs.Legs.{fill-is, at-is, own-at}
 
 module _ (S : Shifts) (set : List Float) where
   abbrev atoms : ℕ
@@ -23,15 +23,15 @@ module _ (S : Shifts) (set : List Float) where
   -- the sums of the definition
   row-is : (p k l : ℕ) → rowSum S set (p, k) l ≡ sumRow atoms set p (k * 3 + l)
   unfolding rowSum
-  row-is p k l = times-same atoms _ _ zero (λ j h s. ap (add binary64 s) (at-is S set p k j l))
+  row-is p k l = times-same atoms _ _ plusZero (λ j h s. ap (add binary64 s) (at-is S set p k j l))
 
-  other-is : (p k l : ℕ) → otherSum S set (p, k) l ≡ sumBut atoms set p (p2sAt S p) (k * 3 + l)
-  unfolding otherSum
-  other-is p k l = times-same atoms _ _ zero (λ j h s. ap (λ x. cond (eqb (p2sAt S p) j) s (add binary64 s x)) (at-is S set p k j l))
+  other-is : (p k l : ℕ) → offSiteSum S set (p, k) l ≡ sumBut atoms set p (p2sAt S p) (k * 3 + l)
+  unfolding offSiteSum
+  other-is p k l = times-same atoms _ _ plusZero (λ j h s. ap (λ x. cond (eqb (p2sAt S p) j) s (add binary64 s x)) (at-is S set p k j l))
 
   module _ (e : length set ≡ S .nPatom * atoms * 9) where
-    pub drift-made : rowDrifts (S .nPatom) atoms (inverse atoms) set ≡ drifted S set
-    unfolding drifted
+    pub drift-made : rowDrifts (S .nPatom) atoms (inverse atoms) set ≡ withoutRowDrift S set
+    unfolding withoutRowDrift
     drift-made =
         rows-make (S .nPatom) atoms (inverse atoms) set e
         ∙ sym (fill-is S _ _ (λ q h.

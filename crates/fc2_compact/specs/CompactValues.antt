@@ -12,7 +12,7 @@ use Rattle.tables.specs.Shifts.{Shifts, row, p2sAt, s2ppAt, nsymAt, isNull}
 use Rattle.places.specs.Places.{shift, stored, opened, address, size, legsOf, place, fill, at}
 use Rattle.places.specs.Moves.{source, stays, traded, transposed2}
 use Rattle.places.specs.Values.{pair, three}
-use Rattle.fc2_compact.specs.Compact.{symmetrized, onSite, otherSum}
+use Rattle.fc2_compact.specs.Compact.{symmetrized, onSite, offSiteSum}
 
 -- two atoms, rows 0 1 / 1 0: block (0, 0) is transposed, the half-shift block (0, 1) stays
 half-shift : transposed2 0 pair (tab 18 (λ k. k))
@@ -33,5 +33,5 @@ one : Shifts
 one = record { nSatom = 1; nPatom = 1; numTrans = 1; perms = 0 ∷ []; p2s = 0 ∷ []; s2pp = 0 ∷ []; nsymList = 0 ∷ [] }
 
 one-atom : (level : ℕ) (set : List Float) → symmetrized one level set ≡ replicate 9 (ofBits binary64 0x8000_0000_0000_0000)
-unfolding one symmetrized onSite otherSum fill tab times place legsOf rest digits size room p2sAt ofBits div neg add
+unfolding one symmetrized onSite offSiteSum fill tab times place legsOf rest digits size room p2sAt ofBits div neg add
 one-atom level set = refl

@@ -1,7 +1,8 @@
 pub mod Compact
-pub mod CompactPlaces
 pub mod CompactDrift
-pub mod CompactTurns
+pub mod CompactVisits
 pub mod CompactCode
 pub mod CompactCalls
 pub mod CompactValues
+pub mod Doubles
+pub mod CompactMeans

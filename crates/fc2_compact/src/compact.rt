@@ -13,8 +13,9 @@ use super::compact_pairs::average_pass;
 use super::compact_pairs::transpose_pass;
 use super::compact_rows::drift_pass;
 use super::compact_rows::site_pass;
+use shifts::judge_compact;
 use tables::Answer;
-use tables::guard::judge_compact;
+use tables::Refusal;
 use tables::limits::LIMIT_LEVEL;
 use tables::limits::LIMIT2;
 
@@ -153,10 +154,10 @@ fn judge_levels(
     num_trans: usize,
     level: usize,
 ) -> Answer
-    ensures { λ r. ⌜ r ≡ refuseIf (ltb limitLevel level) Answer.CountAboveLimit (judgedCompact limit2 1 «set_len» 1 «work_len» (shiftTables (now (p2s .entry)) (now (s2pp .entry)) (now («nsym_list» .entry)) (now (perms .entry)) «n_satom» «n_patom» «num_trans»)) ⌝ }
+    ensures { λ r. ⌜ r ≡ refuseIf (ltb limitLevel level) Refusal.CountAboveLimit (judgedCompact limit2 1 «set_len» 1 «work_len» (shiftTables (now (p2s .entry)) (now (s2pp .entry)) (now («nsym_list» .entry)) (now (perms .entry)) «n_satom» «n_patom» «num_trans»)) ⌝ }
 {
     if level > LIMIT_LEVEL {
-        return Answer::CountAboveLimit;
+        return Answer::Refused(Refusal::CountAboveLimit);
     }
     judge(
         set_len,
@@ -216,7 +217,7 @@ pub fn set_index_permutation_symmetry_compact_fc(
     Answer::Done
 }
 
-// Symmetrizes a compact set: per level twice the transpose and the row drift, then the averages; at the end the blocks of the atoms with themselves.
+// Symmetrizes a compact set: per level twice the transpose and the row drift, then the averages; at the end the on-site blocks.
 pub fn perm_trans_symmetrize_compact_fc(
     fc: &mut [f64],
     p2s: &[i64],

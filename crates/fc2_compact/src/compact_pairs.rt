@@ -3,12 +3,12 @@ ghost use mathlib.Core.Path.{_≡_};
 ghost use Prim.Native.Nat.{_<_};
 ghost use lib.ListN.{length};
 ghost use Rattle.lines.specs.Lines.{Inside};
-ghost use Rattle.fc2_compact.specs.CompactTurns.{swapAt, transposeTurn, averageTurn};
+ghost use Rattle.fc2_compact.specs.CompactVisits.{swapAt, transposeVisit, averageVisit};
 ghost use Rattle.fc2_compact.specs.CompactCode.{Ready, ReadyAt};
 ghost use Rattle.fc2_compact.specs.Compact.{transposed, averaged};
 ghost use Rattle.tables.specs.Compact.{shiftTables, shiftsOf};
 ghost use Rattle.lists.specs.Tab.{times};
-use lines::nine::turned;
+use blocks::transposed9;
 use tables::atoms::PrimAtom;
 use tables::atoms::SuperAtom;
 use tables::atoms::p2s_at;
@@ -21,14 +21,14 @@ fn swap_blocks(fc: &mut [f64], b: usize, c: usize)
 {
     let x = blocks::read9(fc, b);
     let y = blocks::read9(fc, c);
-    blocks::write9(fc, b, turned(y));
-    blocks::write9(fc, c, turned(x));
+    blocks::write9(fc, b, transposed9(y));
+    blocks::write9(fc, c, transposed9(x));
 }
 
-// The turn of block (p, j) in the transpose: it and its counterpart, the read-out block of atoms j and i, change places, transposed, if it is the
+// The visit of block (p, j) in the transpose: it and its counterpart, the read-out block of atoms j and i, change places, transposed, if it is the
 // one with the smaller number. A block that is its own counterpart is transposed if it is that of i with itself; a half-shift block stays.
 // Where j's primitive atom comes before p, so does the counterpart, whatever the rows say.
-fn transpose_turn(
+fn transpose_visit(
     fc: &mut [f64],
     p2s: &[i64],
     s2pp: &[i64],
@@ -42,7 +42,7 @@ fn transpose_turn(
     j: SuperAtom,
 )
     requires { ⌜ ReadyAt (shiftTables (now p2s) (now s2pp) (now «nsym_list») (now perms) «n_satom» «n_patom» «num_trans») (length (now fc)) (p .0) (i .0) (j .0) ⌝ }
-    ensures { λ _. ⌜ now (fc .exit) ≡ transposeTurn (shiftsOf (shiftTables (now (p2s .entry)) (now (s2pp .entry)) (now («nsym_list» .entry)) (now (perms .entry)) «n_satom» «n_patom» «num_trans»)) (p .0) (j .0) (now (fc .entry)) ⌝ }
+    ensures { λ _. ⌜ now (fc .exit) ≡ transposeVisit (shiftsOf (shiftTables (now (p2s .entry)) (now (s2pp .entry)) (now («nsym_list» .entry)) (now (perms .entry)) «n_satom» «n_patom» «num_trans»)) (p .0) (j .0) (now (fc .entry)) ⌝ }
 {
     if s2pp_at(s2pp, j).0 < p.0 {
         return;
@@ -60,8 +60,8 @@ fn transpose_turn(
     swap_blocks(fc, b, c);
 }
 
-// The turn of block (p, j) in the averaging: it and its counterpart become their mean, if it is the one with the smaller number.
-fn average_turn(
+// The visit of block (p, j) in the averaging: it and its counterpart become their mean, if it is the one with the smaller number.
+fn average_visit(
     fc: &mut [f64],
     p2s: &[i64],
     s2pp: &[i64],
@@ -75,7 +75,7 @@ fn average_turn(
     j: SuperAtom,
 )
     requires { ⌜ ReadyAt (shiftTables (now p2s) (now s2pp) (now «nsym_list») (now perms) «n_satom» «n_patom» «num_trans») (length (now fc)) (p .0) (i .0) (j .0) ⌝ }
-    ensures { λ _. ⌜ now (fc .exit) ≡ averageTurn (shiftsOf (shiftTables (now (p2s .entry)) (now (s2pp .entry)) (now («nsym_list» .entry)) (now (perms .entry)) «n_satom» «n_patom» «num_trans»)) (p .0) (j .0) (now (fc .entry)) ⌝ }
+    ensures { λ _. ⌜ now (fc .exit) ≡ averageVisit (shiftsOf (shiftTables (now (p2s .entry)) (now (s2pp .entry)) (now («nsym_list» .entry)) (now (perms .entry)) «n_satom» «n_patom» «num_trans»)) (p .0) (j .0) (now (fc .entry)) ⌝ }
 {
     if s2pp_at(s2pp, j).0 < p.0 {
         return;
@@ -88,7 +88,7 @@ fn average_turn(
     lines::average_pair(fc, b, c);
 }
 
-// The turns of the blocks of primitive atom p in the transpose.
+// The visits of the blocks of primitive atom p in the transpose.
 fn transpose_row(
     fc: &mut [f64],
     p2s: &[i64],
@@ -101,12 +101,12 @@ fn transpose_row(
     p: usize,
 )
     requires { ⌜ Ready (shiftTables (now p2s) (now s2pp) (now «nsym_list») (now perms) «n_satom» «n_patom» «num_trans») (length (now fc)) × (p < «n_patom») ⌝ }
-    ensures { λ _. ⌜ now (fc .exit) ≡ times «n_satom» (transposeTurn (shiftsOf (shiftTables (now (p2s .entry)) (now (s2pp .entry)) (now («nsym_list» .entry)) (now (perms .entry)) «n_satom» «n_patom» «num_trans»)) p) (now (fc .entry)) ⌝ }
+    ensures { λ _. ⌜ now (fc .exit) ≡ times «n_satom» (transposeVisit (shiftsOf (shiftTables (now (p2s .entry)) (now (s2pp .entry)) (now («nsym_list» .entry)) (now (perms .entry)) «n_satom» «n_patom» «num_trans»)) p) (now (fc .entry)) ⌝ }
 {
     let i = p2s_at(p2s, PrimAtom(p));
     let mut j = 0;
     while j < n_satom {
-        transpose_turn(
+        transpose_visit(
             fc,
             p2s,
             s2pp,
@@ -154,7 +154,7 @@ pub fn transpose_pass(
     }
 }
 
-// The turns of the blocks of primitive atom p in the averaging.
+// The visits of the blocks of primitive atom p in the averaging.
 fn average_row(
     fc: &mut [f64],
     p2s: &[i64],
@@ -167,12 +167,12 @@ fn average_row(
     p: usize,
 )
     requires { ⌜ Ready (shiftTables (now p2s) (now s2pp) (now «nsym_list») (now perms) «n_satom» «n_patom» «num_trans») (length (now fc)) × (p < «n_patom») ⌝ }
-    ensures { λ _. ⌜ now (fc .exit) ≡ times «n_satom» (averageTurn (shiftsOf (shiftTables (now (p2s .entry)) (now (s2pp .entry)) (now («nsym_list» .entry)) (now (perms .entry)) «n_satom» «n_patom» «num_trans»)) p) (now (fc .entry)) ⌝ }
+    ensures { λ _. ⌜ now (fc .exit) ≡ times «n_satom» (averageVisit (shiftsOf (shiftTables (now (p2s .entry)) (now (s2pp .entry)) (now («nsym_list» .entry)) (now (perms .entry)) «n_satom» «n_patom» «num_trans»)) p) (now (fc .entry)) ⌝ }
 {
     let i = p2s_at(p2s, PrimAtom(p));
     let mut j = 0;
     while j < n_satom {
-        average_turn(
+        average_visit(
             fc,
             p2s,
             s2pp,

@@ -1,17 +1,17 @@
-// The rows of a compact set: the blocks of the atoms with themselves, and the row drift.
+// The rows of a compact set: the on-site blocks, and the row drift.
 ghost use mathlib.Core.Path.{_≡_};
 ghost use Prim.Native.Nat.{_<_};
 ghost use lib.ListN.{length};
 ghost use Rattle.lines.specs.Lines.{balanceAt};
 ghost use Rattle.tables.specs.Shifts.{p2sAt};
 ghost use Rattle.tables.specs.Compact.{shiftTables, shiftsOf};
-ghost use Rattle.fc2_compact.specs.Compact.{drifted, onSite};
+ghost use Rattle.fc2_compact.specs.Compact.{withoutRowDrift, onSite};
 ghost use Rattle.fc2_compact.specs.CompactCode.{Ready};
 use lines::nine::balance;
 use tables::atoms::PrimAtom;
 use tables::atoms::p2s_at;
 
-// The block of primitive atom p with itself, from the sums over the other atoms.
+// The on-site block of primitive atom p by the acoustic sum rule, from the sums over the other atoms.
 fn site_row(
     fc: &mut [f64],
     p2s: &[i64],
@@ -27,11 +27,12 @@ fn site_row(
     ensures { λ _. ⌜ now (fc .exit) ≡ balanceAt «n_satom» (p2sAt (shiftsOf (shiftTables (now (p2s .entry)) (now (s2pp .entry)) (now («nsym_list» .entry)) (now (perms .entry)) «n_satom» «n_patom» «num_trans»))) p (now (fc .entry)) ⌝ }
 {
     let i = p2s_at(p2s, PrimAtom(p));
-    let s = lines::other_sums(fc, n_patom, n_satom, p, i.0);
-    blocks::write9(fc, places::block2(PrimAtom(p), i, n_satom), balance(s));
+    let b = places::block2(PrimAtom(p), i, n_satom);
+    let s = lines::other_sums(fc, b, i, n_satom);
+    blocks::write9(fc, b, balance(s));
 }
 
-// The blocks of all primitive atoms with themselves.
+// The on-site blocks of all primitive atoms.
 pub fn site_pass(
     fc: &mut [f64],
     p2s: &[i64],
@@ -74,7 +75,7 @@ pub fn drift_pass(
     num_trans: usize,
 )
     requires { ⌜ Ready (shiftTables (now p2s) (now s2pp) (now «nsym_list») (now perms) «n_satom» «n_patom» «num_trans») (length (now fc)) ⌝ }
-    ensures { λ _. ⌜ now (fc .exit) ≡ drifted (shiftsOf (shiftTables (now (p2s .entry)) (now (s2pp .entry)) (now («nsym_list» .entry)) (now (perms .entry)) «n_satom» «n_patom» «num_trans»)) (now (fc .entry)) ⌝ }
+    ensures { λ _. ⌜ now (fc .exit) ≡ withoutRowDrift (shiftsOf (shiftTables (now (p2s .entry)) (now (s2pp .entry)) (now («nsym_list» .entry)) (now (perms .entry)) «n_satom» «n_patom» «num_trans»)) (now (fc .entry)) ⌝ }
 {
     let inv_n = 1.0 / (n_satom as f64);
     lines::row_drift(fc, n_patom, n_satom, inv_n);

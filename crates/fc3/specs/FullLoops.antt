@@ -16,21 +16,21 @@ use Rattle.lists.specs.Digits.{horner, room, in-row}
 use Rattle.lists.specs.Members.{In}
 use Rattle.tables.specs.Limits.{limit3}
 use Rattle.tables.specs.declared.Answer.{Answer}
-use Rattle.tables.specs.declared.Answer.the-variants.{Done, CountAboveLimit, WrongLength}
+use Rattle.tables.specs.declared.Answer.the-variants.{Done, Refused}
+use Rattle.tables.specs.declared.Refusal.the-variants.{CountAboveLimit, WrongLength}
 use Rattle.tables.specs.Answers.{isRefusal, after, is-done, passed, after-refusal, after-done}
 use Rattle.tables.specs.Conditions.{not-above, not-wrong}
 use Rattle.places.specs.Places.{size}
-use Rattle.places.specs.Orders.{six, six-group}
+use Rattle.places.specs.Permutations.{six, six-group}
 use Rattle.places.specs.Whole.{whole, whole-laws, size-whole}
 use Rattle.places.specs.Addresses.{block-below}
 use Rattle.orbits.specs.Transposed.{counterpart}
 use Rattle.orbits.specs.AtBlocks.{storedOf, whole-block, whole-counterpart}
-use Rattle.orbits.specs.Groups.{groupBlocks, meanBlock, spreadBlock}
-use Rattle.orbits.specs.Scatter.{Distinct}
+use Rattle.orbits.specs.Groups.{groupBlocks, meanBlock, spreadBlock, Distinct}
 use Rattle.orbits.specs.Symmetric.{symmetrized}
 use Rattle.orbits.specs.GroupLoop.{worked, firstVisit, isFirst, visit-first, visit-later, lowest-leaves}
-use Rattle.orbits.specs.AnyOrder.{visits-commute}
-use Rattle.fc3.specs.Mean.{mean6, Blocks6}
+use Rattle.orbits.proofs.AnyOrder.{visits-commute}
+use Rattle.fc3_groups.specs.Mean.{mean6, Blocks6}
 use Rattle.fc3.specs.Loops.{plain3, six-same}
 use Rattle.fc3.specs.Symmetrize.{judgedFull3, setPermutationSymmetryFc3}
 
@@ -323,11 +323,11 @@ full-size n = size-whole n 2 ∙ go n
 
 -- the guard by its two tests
 module _ (lenSet n : ℕ) where
-  pub judged-above : limit3 < n → CountAboveLimit ≡ judgedFull3 lenSet n
+  pub judged-above : limit3 < n → Refused CountAboveLimit ≡ judgedFull3 lenSet n
   unfolding judgedFull3
   judged-above h = simp (lt-ltb _ _ h)
 
-  pub judged-wrong : n ≤ limit3 → (lenSet ≡ n * n * n * 27 → ⊥) → WrongLength ≡ judgedFull3 lenSet n
+  pub judged-wrong : n ≤ limit3 → (lenSet ≡ n * n * n * 27 → ⊥) → Refused WrongLength ≡ judgedFull3 lenSet n
   unfolding judgedFull3
   judged-wrong h d = simp (le-ltb _ _ h, ne-eqb _ _ d)
 
@@ -347,8 +347,8 @@ module _ (set : List Float) (n : ℕ) (a : Answer) (e : a ≡ judgedFull3 (lengt
   pub full-ready : isRefusal a ≡ false → FullReady (length set) n
   unfolding judgedFull3
   full-ready r =
-      let (q1, e1) = passed _ _ _ refl (sym e ∙ is-done a r) in
-      let (q2, e2) = passed _ _ _ refl e1 in
+      let (q1, e1) = passed _ _ _ (sym e ∙ is-done a r) in
+      let (q2, e2) = passed _ _ _ e1 in
       let (h, _) = not-above limit3 (n ∷ []) q1 in
       let (ls, _) = not-wrong ((length set, n * n * n * 27) ∷ []) q2 in
       record { atoms = h; set-length = ls ∙ sym (full-size n) }

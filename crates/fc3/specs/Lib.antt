@@ -1,5 +1,3 @@
-pub mod Mean
 pub mod Symmetrize
-pub mod Spread
 pub mod Loops
 pub mod FullLoops

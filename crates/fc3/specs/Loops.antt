@@ -21,7 +21,7 @@ use Rattle.tables.specs.Answers.{isRefusal, after, is-done, refused-call, done-
 use Rattle.tables.specs.Conditions.{Readable, indexAt, read}
 use Rattle.tables.specs.Compact.{ShiftTables, shiftsOf, Compact, judgedCompact, done-compact, p2s-is}
 use Rattle.places.specs.Places.{size}
-use Rattle.places.specs.Orders.{six, six-group}
+use Rattle.places.specs.Permutations.{six, six-group}
 use Rattle.places.specs.Addresses.{storedBlock, fits3, block-below}
 use Rattle.places.specs.ReadOuts.{Tables, tables, storedIn, stored-in, stored-below}
 use Rattle.orbits.specs.Transposed.{counterpart}
@@ -30,7 +30,7 @@ use Rattle.orbits.specs.Groups.{groupBlocks, meanBlock, spreadBlock}
 use Rattle.orbits.specs.Spread.{setAll}
 use Rattle.orbits.specs.Symmetric.{symmetrized}
 use Rattle.orbits.specs.GroupLoop.{State, worked, markedVisit, marked-leaves}
-use Rattle.fc3.specs.Mean.{mean6, Blocks6}
+use Rattle.fc3_groups.specs.Mean.{mean6, Blocks6}
 use Rattle.fc3.specs.Symmetrize.{setPermutationSymmetryCompactFc3}
 
 -- a compact set of third order that passed the guard, and a work slice of k atoms' places

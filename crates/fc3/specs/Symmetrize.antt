@@ -4,15 +4,16 @@ use Prim.Native.Nat.{ℕ, _*_}
 use lib.ListN.{length, replicate}
 use lib.Ieee.{Float, nan}
 use Rattle.tables.specs.declared.Answer.{Answer}
-use Rattle.tables.specs.declared.Answer.the-variants.{Done, CountAboveLimit, WrongLength}
+use Rattle.tables.specs.declared.Answer.the-variants.{Done}
+use Rattle.tables.specs.declared.Refusal.the-variants.{CountAboveLimit, WrongLength}
 use Rattle.tables.specs.Answers.{after, refuseIf}
 use Rattle.tables.specs.Conditions.{anyAbove, anyWrong}
 use Rattle.tables.specs.Compact.{ShiftTables, shiftsOf, judgedCompact}
 use Rattle.tables.specs.Limits.{limit3}
-use Rattle.places.specs.Orders.{six}
+use Rattle.places.specs.Permutations.{six}
 use Rattle.places.specs.Whole.{whole}
 use Rattle.orbits.specs.Symmetric.{symmetrized}
-use Rattle.fc3.specs.Mean.{mean6}
+use Rattle.fc3_groups.specs.Mean.{mean6}
 
 -- the compact set: n_patom × n_satom² × 27 numbers, n_patom × n_satom² bytes of work
 unfoldable pub setPermutationSymmetryCompactFc3 : List Float → ShiftTables → List ℕ → Answer × List Float × List ℕ

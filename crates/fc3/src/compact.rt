@@ -7,15 +7,15 @@ ghost use Rattle.tables.specs.Compact.{shiftTables};
 ghost use Rattle.orbits.specs.Spread.{setAll};
 ghost use Rattle.fc3.specs.Symmetrize.{setPermutationSymmetryCompactFc3};
 ghost use Rattle.fc3.specs.Loops.{Ready, Atoms, at3, Marks6, takenAt, visitAt, row3, slab3, all3};
-use crate::spread::work_group;
+use fc3_groups::spread::work_group;
 use lists::clear_bytes;
 use places::block3;
 use places::read_out3;
+use shifts::judge_compact;
 use tables::Answer;
 use tables::atoms::PrimAtom;
 use tables::atoms::SuperAtom;
 use tables::atoms::p2s_at;
-use tables::guard::judge_compact;
 use tables::is_refusal;
 use tables::limits::LIMIT3;
 
@@ -207,7 +207,7 @@ fn slabs(
     }
 }
 
-// The set is symmetrized: all six orders of any three legs read out the same number. The done table comes in with anything and is left with zeros.
+// The set is symmetrized: all six permutations of any three legs read out the same number. The done table comes in with anything and is left with zeros.
 pub fn set_permutation_symmetry_compact_fc3(
     fc3: &mut [f64],
     p2s: &[i64],

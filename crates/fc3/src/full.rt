@@ -6,9 +6,10 @@ ghost use Prim.Native.Nat.{_+_, _<_, _≤_, min};
 ghost use lib.ListN.{length};
 ghost use Rattle.fc3.specs.Symmetrize.{judgedFull3, setPermutationSymmetryFc3};
 ghost use Rattle.fc3.specs.FullLoops.{FullReady, Sorted, groupAt, bunchOf, rowOf, tileOf, slabsOf};
-use crate::spread::work_known;
+use fc3_groups::spread::work_known;
 use places::full3;
 use tables::Answer;
+use tables::Refusal;
 use tables::atoms::SuperAtom;
 use tables::is_refusal;
 use tables::limits::LIMIT3;
@@ -23,7 +24,7 @@ fn rising(a: SuperAtom, b: SuperAtom, c: SuperAtom) -> bool
     false
 }
 
-// The group of atoms a <= b <= c: all six orders of them. Three different atoms have six different blocks.
+// The group of atoms a <= b <= c: all six permutations of them. Three different atoms have six different blocks.
 fn full_group(fc3: &mut [f64], num_atom: usize, a: SuperAtom, b: SuperAtom, c: SuperAtom)
     requires { ⌜ FullReady (length (now fc3)) «num_atom» × Sorted «num_atom» (a .0) (b .0) (c .0) ⌝ }
     ensures { λ _. ⌜ now (fc3 .exit) ≡ groupAt «num_atom» (a .0) (b .0) (c .0) (now (fc3 .entry)) ⌝ }
@@ -105,15 +106,15 @@ fn judge_full(set_len: usize, num_atom: usize) -> Answer
     ensures { λ r. ⌜ r ≡ judgedFull3 «set_len» «num_atom» ⌝ }
 {
     if num_atom > LIMIT3 {
-        return Answer::CountAboveLimit;
+        return Answer::Refused(Refusal::CountAboveLimit);
     }
     if set_len != num_atom * num_atom * num_atom * 27 {
-        return Answer::WrongLength;
+        return Answer::Refused(Refusal::WrongLength);
     }
     Answer::Done
 }
 
-// The set is symmetrized: all six orders of any three legs hold the same number.
+// The set is symmetrized: all six permutations of any three legs hold the same number.
 pub fn set_permutation_symmetry_fc3(fc3: &mut [f64], num_atom: usize) -> Answer
     ensures { λ r. ⌜ (r, now (fc3 .exit)) ≡ setPermutationSymmetryFc3 (now (fc3 .entry)) «num_atom» ⌝ }
 {

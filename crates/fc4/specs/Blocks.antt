@@ -14,7 +14,7 @@ use Rattle.tables.specs.Conditions.{Readable, indexAt, read}
 use Rattle.tables.specs.Compact.{ShiftTables, shiftsOf, Fit, p2s-is}
 use Rattle.blocks.specs.Block.{fits}
 use Rattle.places.specs.Places.{size}
-use Rattle.places.specs.Orders.{twentyFour}
+use Rattle.places.specs.Permutations.{twentyFour}
 use Rattle.places.specs.Whole.{whole}
 use Rattle.places.specs.Addresses.{storedBlock}
 use Rattle.places.specs.ReadOuts.{Tables, tables, storedIn, stored-in}
@@ -22,10 +22,10 @@ use Rattle.orbits.specs.Blockwise.{blockAtoms, storedAtoms, openedAtoms, atomsA
 use Rattle.orbits.specs.Transposed.{counterpart, counterpart-below, size-blocks}
 use Rattle.orbits.specs.AtBlocks.{whole-p2s, whole-block}
 use Rattle.orbits.specs.Groups.{groupBlocks}
-use Rattle.fc4.specs.Positions.{orderAt, in81, is-order}
-use Rattle.fc4.specs.Mean.{Blocks24, count24}
+use Rattle.fc4_groups.specs.Positions.{permutationAt, in81, is-permutation}
+use Rattle.fc4_groups.specs.Mean.{Blocks24, count24}
 
--- the six orders that begin with atom w; f gives the block of a first atom and the three others
+-- the six permutations that begin with atom w; f gives the block of a first atom and the three others
 abbrev pub sixFrom : (ℕ → List ℕ → ℕ) → ℕ → ℕ → ℕ → ℕ → List ℕ
 sixFrom f w x y z =
     f w (x ∷ y ∷ z ∷ []) ∷ f w (x ∷ z ∷ y ∷ []) ∷ f w (y ∷ x ∷ z ∷ []) ∷ f w (y ∷ z ∷ x ∷ []) ∷ f w (z ∷ x ∷ y ∷ []) ∷ f w (z ∷ y ∷ x ∷ []) ∷ []
@@ -52,12 +52,12 @@ group-are S b = refl
 -- ---- where they lie
 
 module _ (S : Shifts) (L : Laws S) (b : ℕ) (h : b < room (S .nSatom) 3 (S .nPatom)) where
-  at-order : (s : ℕ) → s < 24 → getD (groupBlocks S 3 twentyFour b) s 0 ≡ counterpart S 3 (orderAt s) b
-  unfolding groupBlocks orderAt
-  at-order s hs = getD-map (λ σ. counterpart S 3 σ b) twentyFour s [] 0 (rw count24 hs)
+  at-permutation : (s : ℕ) → s < 24 → getD (groupBlocks S 3 twentyFour b) s 0 ≡ counterpart S 3 (permutationAt s) b
+  unfolding groupBlocks permutationAt
+  at-permutation s hs = getD-map (λ σ. counterpart S 3 σ b) twentyFour s [] 0 (rw count24 hs)
 
   pub marks-in : (s : ℕ) → s < 24 → getD (groupBlocks S 3 twentyFour b) s 0 < room (S .nSatom) 3 (S .nPatom)
-  marks-in s hs = rw (at-order s hs) (counterpart-below S L 3 (orderAt s) (is-order s hs) b h)
+  marks-in s hs = rw (at-permutation s hs) (counterpart-below S L 3 (permutationAt s) (is-permutation s hs) b h)
 
   pub blocks-in : (len : ℕ) → len ≡ size S 3 → Blocks24 len (groupBlocks S 3 twentyFour b)
   blocks-in len e = record {
@@ -98,6 +98,15 @@ module _ (T : ShiftTables) (F : Fit limit4 T) (b : ℕ) (h : b < room (T .nSatom
       let n = T .nSatom in
       ap₂ (λ f i. blocksOf f i (b / n / n % n) (b / n % n) (b % n)) (fun-ext (λ i. fun-ext (λ js. stored-in T i js))) (e ∙ p2s-is T (b / n / n / n))
       ∙ sym (group-are (shiftsOf T) b)
+
+-- the atoms of a block leg by leg, from the last: l, then k and j, and p is left
+pub legs-are : (b n : ℕ) {x y j k p : ℕ} → x ≡ b / n → k ≡ x % n → y ≡ x / n → j ≡ y % n → p ≡ y / n → (p ≡ b / n / n / n) × (j ≡ b / n / n % n) × (k ≡ b / n % n)
+legs-are b n {y = y} ex ek ey ej ep =
+    let e : y ≡ b / n / n = ey ∙ ap (λ x. x / n) ex in
+    (ep ∙ ap (λ y. y / n) e, ej ∙ ap (λ y. y % n) e, ek ∙ ap (λ x. x % n) ex)
+
+pub same-atoms : (f : ℕ → List ℕ → ℕ) {i j k l i′ j′ k′ l′ : ℕ} → i ≡ i′ → j ≡ j′ → k ≡ k′ → l ≡ l′ → blocksOf f i j k l ≡ blocksOf f i′ j′ k′ l′
+same-atoms f ei ej ek el = rw (ei, ej, ek, el) refl
 
 -- what the program joins
 pub joined-are : (f : ℕ → List ℕ → ℕ) (i j k l : ℕ) {a b c d r : List ℕ}

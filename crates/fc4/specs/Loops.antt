@@ -6,7 +6,7 @@ use native.Mathlib.Nat.{mul-le-mul, le-refl}
 use native.Mathlib.Omega.{arith}
 use mathlib.Core.List.{List, [], _∷_}
 use lib.Dec.{eqb}
-use lib.ListN.{length, getD, replicate, length-replicate, getD-replicate}
+use lib.ListN.{length, getD, set, replicate, length-replicate, getD-replicate}
 use lib.Ieee.{Float, nan}
 use borrow.Author.Tests.{eq-eqb, ne-eqb, lt-ltb}
 use Rattle.lists.specs.Tab.{times}
@@ -14,18 +14,20 @@ use Rattle.lists.specs.Digits.{room}
 use Rattle.tables.specs.Shifts.{Shifts, Laws}
 use Rattle.tables.specs.Limits.{limit4}
 use Rattle.tables.specs.declared.Answer.{Answer}
-use Rattle.tables.specs.declared.Answer.the-variants.{Done, CountAboveLimit, WrongLength}
+use Rattle.tables.specs.declared.Answer.the-variants.{Done, Refused}
+use Rattle.tables.specs.declared.Refusal.the-variants.{CountAboveLimit, WrongLength}
 use Rattle.tables.specs.Answers.{isRefusal, after, is-done, passed, refused-call, done-call}
 use Rattle.tables.specs.Conditions.{not-above, not-wrong}
 use Rattle.tables.specs.Compact.{ShiftTables, shiftsOf, Compact, judgedCompact, done-compact}
 use Rattle.places.specs.Places.{size}
-use Rattle.places.specs.Orders.{twentyFour, twentyFour-group}
+use Rattle.places.specs.Permutations.{twentyFour, twentyFour-group}
 use Rattle.places.specs.Whole.{whole, whole-laws, size-whole}
 use Rattle.orbits.specs.Groups.{groupBlocks, meanBlock, spreadBlock}
 use Rattle.orbits.specs.Spread.{setAll}
 use Rattle.orbits.specs.Symmetric.{symmetrized}
 use Rattle.orbits.specs.GroupLoop.{State, worked, markedVisit, marked-leaves}
-use Rattle.fc4.specs.Mean.{mean24, Blocks24}
+use Rattle.fc4_groups.specs.Mean24.{mean24}
+use Rattle.fc4_groups.specs.Mean.{Blocks24, times-front}
 use Rattle.fc4.specs.Blocks.{blocks-in, marks-in}
 use Rattle.fc4.specs.Symmetrize.{setPermutationSymmetryCompactFc4, judgedFull4, setPermutationSymmetryFc4}
 
@@ -37,6 +39,15 @@ Ready lenSet k lenWork T = Compact limit4 3 lenSet k lenWork T
 pub record Marks24 (n : ℕ) (bs : List ℕ) : Type 0 where
   pub count : length bs ≡ 24
   pub inside : (s : ℕ) → s < 24 → getD bs s 0 < n
+
+-- the marks of a group, set one after the other
+setAll-times : {A : Type 0} (rs : List ℕ) (v : A) (l : List A) → setAll rs v l ≡ times (length rs) (λ s l. set l (getD rs s 0) v) l
+unfolding setAll
+setAll-times [] v l = unfold times in refl
+setAll-times (r ∷ rs) v l = setAll-times rs v (set l r v) ∙ sym (times-front (length rs) (λ s l. set l (getD (r ∷ rs) s 0) v) l)
+
+pub stored-marks : (bs done : List ℕ) → length bs ≡ 24 → times 24 (λ s l. set l (getD bs s 0) 1) done ≡ setAll bs 1 done
+stored-marks bs done e = ap (λ n. times n (λ s l. set l (getD bs s 0) 1) done) (sym e) ∙ sym (setAll-times bs 1 done)
 
 -- of a set and its done table: the group with the blocks bs marked, worked out and written
 unfoldable pub takenBlocks : List ℕ → State → State
@@ -141,7 +152,7 @@ small n h =
     (omega arith, omega arith, omega arith)
 
 -- the guard's first test
-pub judged-above : (lenSet lenWork n : ℕ) → limit4 < n → CountAboveLimit ≡ judgedFull4 lenSet lenWork n
+pub judged-above : (lenSet lenWork n : ℕ) → limit4 < n → Refused CountAboveLimit ≡ judgedFull4 lenSet lenWork n
 unfolding judgedFull4
 judged-above lenSet lenWork n h = simp (lt-ltb _ _ h)
 
@@ -153,8 +164,8 @@ module _ (set : List Float) (work : List ℕ) (n : ℕ) (a : Answer) (e : a ≡ 
   pub full-ready : isRefusal a ≡ false → FullReady (length set) (length work) n
   unfolding judgedFull4
   full-ready r =
-      let (q1, e1) = passed _ _ _ refl (sym e ∙ is-done a r) in
-      let (q2, e2) = passed _ _ _ refl e1 in
+      let (q1, e1) = passed _ _ _ (sym e ∙ is-done a r) in
+      let (q2, e2) = passed _ _ _ e1 in
       let (h, _) = not-above limit4 (n ∷ []) q1 in
       let (ls, (lw, _)) = not-wrong ((length set, n * n * n * n * 81) ∷ ((length work, n * n * n * n) ∷ [])) q2 in
       record { atoms = h; set-length = ls ∙ sym (full-size n); work-length = lw ∙ sym (full-blocks n) }

@@ -4,15 +4,15 @@ ghost use Prim.Native.Nat.{_<_};
 ghost use lib.ListN.{length};
 ghost use Rattle.lists.specs.Tab.{times};
 ghost use Rattle.tables.specs.Compact.{shiftTables, shiftsOf};
-ghost use Rattle.fc4.specs.Positions.{placeTable};
+ghost use Rattle.fc4_groups.specs.Positions.{addressTable};
 ghost use Rattle.fc4.specs.Symmetrize.{setPermutationSymmetryCompactFc4};
 ghost use Rattle.fc4.specs.Loops.{Ready, visitAt};
 use crate::group::group_blocks;
 use crate::group::take;
-use crate::positions::places;
+use fc4_groups::positions::addresses;
 use lists::clear_bytes;
+use shifts::judge_compact;
 use tables::Answer;
-use tables::guard::judge_compact;
 use tables::is_refusal;
 use tables::limits::LIMIT4;
 
@@ -31,7 +31,7 @@ fn visit(
     b: usize,
 )
     requires { ⌜ Ready (length (now fc4)) 3 (length (now done)) (shiftTables (now p2s) (now s2pp) (now «nsym_list») (now perms) «n_satom» «n_patom» «num_trans») ⌝ }
-    requires { ⌜ (now t ≡ placeTable) × (b < length (now done)) ⌝ }
+    requires { ⌜ (now t ≡ addressTable) × (b < length (now done)) ⌝ }
     ensures { λ _. ⌜ (now (fc4 .exit), now (done .exit)) ≡ visitAt (shiftsOf (shiftTables (now (p2s .entry)) (now (s2pp .entry)) (now («nsym_list» .entry)) (now (perms .entry)) «n_satom» «n_patom» «num_trans»)) b (now (fc4 .entry), now (done .entry)) ⌝ }
 {
     if done[b] == 0 {
@@ -54,7 +54,7 @@ fn all_blocks(
     t: &[u8; 1944],
 )
     requires { ⌜ Ready (length (now fc4)) 3 (length (now done)) (shiftTables (now p2s) (now s2pp) (now «nsym_list») (now perms) «n_satom» «n_patom» «num_trans») ⌝ }
-    requires { ⌜ now t ≡ placeTable ⌝ }
+    requires { ⌜ now t ≡ addressTable ⌝ }
     ensures { λ _. ⌜ (now (fc4 .exit), now (done .exit)) ≡ times (length (now (done .entry))) (visitAt (shiftsOf (shiftTables (now (p2s .entry)) (now (s2pp .entry)) (now («nsym_list» .entry)) (now (perms .entry)) «n_satom» «n_patom» «num_trans»))) (now (fc4 .entry), now (done .entry)) ⌝ }
 {
     let mut b = 0;
@@ -76,7 +76,7 @@ fn all_blocks(
     }
 }
 
-// The set is symmetrized: all 24 orders of any four legs read out the same number. The done table comes in with anything and is left with zeros.
+// The set is symmetrized: all 24 permutations of any four legs read out the same number. The done table comes in with anything and is left with zeros.
 pub fn set_permutation_symmetry_compact_fc4(
     fc4: &mut [f64],
     p2s: &[i64],
@@ -107,7 +107,7 @@ pub fn set_permutation_symmetry_compact_fc4(
     if is_refusal(a) {
         return a;
     }
-    let t = places();
+    let t = addresses();
     clear_bytes(done);
     all_blocks(
         fc4,

@@ -4,20 +4,21 @@ ghost use Prim.Native.Nat.{_<_};
 ghost use lib.ListN.{length};
 ghost use Rattle.lists.specs.Tab.{times};
 ghost use Rattle.places.specs.Whole.{whole};
-ghost use Rattle.fc4.specs.Positions.{placeTable};
+ghost use Rattle.fc4_groups.specs.Positions.{addressTable};
 ghost use Rattle.fc4.specs.Symmetrize.{judgedFull4, setPermutationSymmetryFc4};
 ghost use Rattle.fc4.specs.Loops.{FullReady, visitAt};
 use crate::group::full_group_blocks;
 use crate::group::take;
-use crate::positions::places;
+use fc4_groups::positions::addresses;
 use lists::clear_bytes;
 use tables::Answer;
+use tables::Refusal;
 use tables::is_refusal;
 use tables::limits::LIMIT4;
 
 // One visit, as in a compact set.
 fn full_visit(fc4: &mut [f64], done: &mut [u8], num_atom: usize, t: &[u8; 1944], b: usize)
-    requires { ⌜ FullReady (length (now fc4)) (length (now done)) «num_atom» × (now t ≡ placeTable) × (b < length (now done)) ⌝ }
+    requires { ⌜ FullReady (length (now fc4)) (length (now done)) «num_atom» × (now t ≡ addressTable) × (b < length (now done)) ⌝ }
     ensures { λ _. ⌜ (now (fc4 .exit), now (done .exit)) ≡ visitAt (whole «num_atom») b (now (fc4 .entry), now (done .entry)) ⌝ }
 {
     if done[b] == 0 {
@@ -28,7 +29,7 @@ fn full_visit(fc4: &mut [f64], done: &mut [u8], num_atom: usize, t: &[u8; 1944],
 
 // All blocks.
 fn full_blocks(fc4: &mut [f64], done: &mut [u8], num_atom: usize, t: &[u8; 1944])
-    requires { ⌜ FullReady (length (now fc4)) (length (now done)) «num_atom» × (now t ≡ placeTable) ⌝ }
+    requires { ⌜ FullReady (length (now fc4)) (length (now done)) «num_atom» × (now t ≡ addressTable) ⌝ }
     ensures { λ _. ⌜ (now (fc4 .exit), now (done .exit)) ≡ times (length (now (done .entry))) (visitAt (whole «num_atom»)) (now (fc4 .entry), now (done .entry)) ⌝ }
 {
     let mut b = 0;
@@ -43,19 +44,19 @@ fn judge_full(set_len: usize, work_len: usize, num_atom: usize) -> Answer
     ensures { λ r. ⌜ r ≡ judgedFull4 «set_len» «work_len» «num_atom» ⌝ }
 {
     if num_atom > LIMIT4 {
-        return Answer::CountAboveLimit;
+        return Answer::Refused(Refusal::CountAboveLimit);
     }
     let blocks = num_atom * num_atom * num_atom * num_atom;
     if set_len != blocks * 81 {
-        return Answer::WrongLength;
+        return Answer::Refused(Refusal::WrongLength);
     }
     if work_len != blocks {
-        return Answer::WrongLength;
+        return Answer::Refused(Refusal::WrongLength);
     }
     Answer::Done
 }
 
-// The set is symmetrized: all 24 orders of any four legs hold the same number. The done table comes in with anything and is left with zeros.
+// The set is symmetrized: all 24 permutations of any four legs hold the same number. The done table comes in with anything and is left with zeros.
 pub fn set_permutation_symmetry_fc4(fc4: &mut [f64], done: &mut [u8], num_atom: usize) -> Answer
     ensures { λ r. ⌜ (r, now (fc4 .exit), now (done .exit)) ≡ setPermutationSymmetryFc4 (now (fc4 .entry)) (now (done .entry)) «num_atom» ⌝ }
 {
@@ -63,7 +64,7 @@ pub fn set_permutation_symmetry_fc4(fc4: &mut [f64], done: &mut [u8], num_atom: 
     if is_refusal(a) {
         return a;
     }
-    let t = places();
+    let t = addresses();
     clear_bytes(done);
     full_blocks(fc4, done, num_atom, &t);
     clear_bytes(done);

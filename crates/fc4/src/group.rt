@@ -5,23 +5,25 @@ ghost use lib.ListN.{length};
 ghost use Rattle.lists.specs.Digits.{horner, room};
 ghost use Rattle.tables.specs.Limits.{limit4};
 ghost use Rattle.tables.specs.Compact.{shiftTables, shiftsOf, Fit};
-ghost use Rattle.places.specs.Orders.{twentyFour};
+ghost use Rattle.places.specs.Permutations.{twentyFour};
 ghost use Rattle.places.specs.Whole.{whole};
 ghost use Rattle.places.specs.ReadOuts.{Tables, storedIn};
 ghost use Rattle.orbits.specs.Groups.{groupBlocks};
 ghost use Rattle.orbits.specs.Spread.{setAll};
-ghost use Rattle.fc4.specs.Positions.{placeTable};
-ghost use Rattle.fc4.specs.Mean.{Blocks24};
+ghost use Rattle.fc4_groups.specs.Positions.{addressTable};
+ghost use Rattle.fc4_groups.specs.Mean.{Blocks24};
 ghost use Rattle.fc4.specs.Blocks.{sixFrom, joinedOf};
 ghost use Rattle.fc4.specs.Loops.{Marks24, takenBlocks};
-use crate::spread::work_group;
+use fc4_groups::work_group;
 use places::full4;
+use places::last_leg;
+use places::legs_before;
 use places::read_out4;
 use tables::atoms::PrimAtom;
 use tables::atoms::SuperAtom;
 use tables::atoms::p2s_at;
 
-// The blocks of the orders that begin with atom w: the other atoms in the orders xyz, xzy, yxz, yzx, zxy, zyx.
+// The blocks of the permutations that begin with atom w: the other atoms as xyz, xzy, yxz, yzx, zxy, zyx.
 fn six_from(
     s2pp: &[i64],
     nsym_list: &[i64],
@@ -90,7 +92,7 @@ fn joined(a: [usize; 6], b: [usize; 6], c: [usize; 6], d: [usize; 6]) -> [usize;
     ]
 }
 
-// The blocks of the group of block b of a compact set, one for each of the 24 orders.
+// The blocks of the group of block b of a compact set, one for each of the 24 permutations.
 pub fn group_blocks(
     p2s: &[i64],
     s2pp: &[i64],
@@ -104,10 +106,12 @@ pub fn group_blocks(
     requires { ⌜ Fit limit4 (shiftTables (now p2s) (now s2pp) (now «nsym_list») (now perms) «n_satom» «n_patom» «num_trans») × (b < room «n_satom» 3 «n_patom») ⌝ }
     ensures { λ r. ⌜ r ≡ groupBlocks (shiftsOf (shiftTables (now (p2s .entry)) (now (s2pp .entry)) (now («nsym_list» .entry)) (now (perms .entry)) «n_satom» «n_patom» «num_trans»)) 3 twentyFour b ⌝ }
 {
-    let l = SuperAtom(b % n_satom);
-    let k = SuperAtom(b / n_satom % n_satom);
-    let j = SuperAtom(b / n_satom / n_satom % n_satom);
-    let p = PrimAtom(b / n_satom / n_satom / n_satom);
+    let l = SuperAtom(last_leg(b, n_satom));
+    let pjk = legs_before(b, n_satom);
+    let k = SuperAtom(last_leg(pjk, n_satom));
+    let pj = legs_before(pjk, n_satom);
+    let j = SuperAtom(last_leg(pj, n_satom));
+    let p = PrimAtom(legs_before(pj, n_satom));
     let i = p2s_at(p2s, p);
     let from_i = six_from(s2pp, nsym_list, perms, i, j, k, l, n_satom);
     let from_j = six_from(s2pp, nsym_list, perms, j, i, k, l, n_satom);
@@ -121,10 +125,12 @@ pub fn full_group_blocks(n: usize, b: usize) -> [usize; 24]
     requires { ⌜ (n ≤ 64) × (b < room n 3 n) ⌝ }
     ensures { λ r. ⌜ r ≡ groupBlocks (whole n) 3 twentyFour b ⌝ }
 {
-    let l = SuperAtom(b % n);
-    let k = SuperAtom(b / n % n);
-    let j = SuperAtom(b / n / n % n);
-    let i = SuperAtom(b / n / n / n);
+    let l = SuperAtom(last_leg(b, n));
+    let ijk = legs_before(b, n);
+    let k = SuperAtom(last_leg(ijk, n));
+    let ij = legs_before(ijk, n);
+    let j = SuperAtom(last_leg(ij, n));
+    let i = SuperAtom(legs_before(ij, n));
     let from_i = full_six_from(i, j, k, l, n);
     let from_j = full_six_from(j, i, k, l, n);
     let from_k = full_six_from(k, i, j, l, n);
@@ -147,7 +153,7 @@ fn mark(done: &mut [u8], bs: &[usize; 24])
 
 // A group marked, worked out and written.
 pub fn take(fc4: &mut [f64], done: &mut [u8], bs: &[usize; 24], t: &[u8; 1944])
-    requires { ⌜ Blocks24 (length (now fc4)) (now bs) × Marks24 (length (now done)) (now bs) × (now t ≡ placeTable) ⌝ }
+    requires { ⌜ Blocks24 (length (now fc4)) (now bs) × Marks24 (length (now done)) (now bs) × (now t ≡ addressTable) ⌝ }
     ensures { λ _. ⌜ (now (fc4 .exit), now (done .exit)) ≡ takenBlocks (now (bs .entry)) (now (fc4 .entry), now (done .entry)) ⌝ }
 {
     mark(done, bs);

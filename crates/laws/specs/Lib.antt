@@ -1,5 +1,5 @@
 pub mod Sequences
 pub mod Transposes
-pub mod Spelling
 pub mod Symmetrized
 pub mod Sheets
+pub mod Instances

@@ -22,7 +22,7 @@ use Rattle.tables.specs.Shifts.{row, p2sAt, s2ppAt, nsymAt, distinct, isNull, i
 use Rattle.tables.specs.Compact.{ShiftTables, shiftTables, shiftsOf, judgedEntries, judgedTables, judgedCompact}
 use Rattle.blocks.specs.Block.{block}
 use Rattle.places.specs.Places.{shift, stored, opened, address, size, legsOf, place, at, fill}
-use Rattle.places.specs.Orders.{six}
+use Rattle.places.specs.Permutations.{six}
 use Rattle.places.specs.Whole.{whole}
 use Rattle.places.specs.Moves.{source, stays, order, traded, transposed}
 use Rattle.orbits.specs.Blockwise.{inBlock}
@@ -33,10 +33,10 @@ use Rattle.cells.specs.Matching.{computePermutation}
 use Rattle.cells.specs.Sheets as matching
 use Rattle.fc2.specs.Full.{permTransSymmetrizeFc}
 use Rattle.fc2.specs.FullSheets as second
-use Rattle.fc3.specs.Mean.{mean6}
+use Rattle.fc3_groups.specs.Mean.{mean6}
 use Rattle.fc3.specs.Symmetrize.{judgedFull3, setPermutationSymmetryFc3}
 use Rattle.transposes.specs.Fc3.{transposedBy, judgedTranspose, transposeCompactFc3}
-use Rattle.fc4.specs.Mean.{mean24}
+use Rattle.fc4_groups.specs.Mean24.{mean24}
 
 -- ---- how the sheets' data are written
 
@@ -124,7 +124,7 @@ pub record Sheets : Type 0 where
 
 -- ---- sheet 5
 
--- the six positions are one group; its mean is worked out from the last of them, 21, whose orders are they from last to first
+-- the six positions are one group; its mean is worked out from the last of them, 21, whose permutations are they from last to first
 abbrev meanBackwards : List Float → Float
 meanBackwards l = mean6 (pick nan (5 ∷ 4 ∷ 3 ∷ 2 ∷ 1 ∷ 0 ∷ []) l)
 

@@ -1,5 +1,6 @@
 -- The law of sequences for `transpose_compact_fc3`, as document 01 words it ("Lists of transposes"): one claim about a whole list of calls,
--- refused ones among them. Assumes nothing.
+-- refused ones among them. `Law` says it, and `law` at the end proves it. The model of IEEE 754 has one NaN, so of a number that is a NaN it is
+-- proved that a NaN stands there, and "the same bits" are the same up to the payloads of NaNs. Assumes nothing.
 use mathlib.Core.Path.{_≡_, refl, sym, ap, ap₂, _∙_, subst}
 use mathlib.Core.Logic.{_⊎_, inl, inr}
 use mathlib.Core.Bool.{Bool, true, false, not, _&&_, cond}
@@ -18,7 +19,7 @@ use Rattle.tables.specs.Shifts.{Shifts, Laws, NoHalfShift}
 use Rattle.tables.specs.Limits.{limit3}
 use Rattle.tables.specs.Compact.{ShiftTables, shiftsOf, Compact, done-compact}
 use Rattle.places.specs.Places.{Leg, Fit, Legs, readOut, size, length-fill}
-use Rattle.places.specs.Orders.{taken, Order}
+use Rattle.places.specs.Permutations.{taken, Permutation}
 use Rattle.places.specs.Moves.{order, moved, traded, transposed, readOut-transposed}
 use Rattle.transposes.specs.Fc3.{transposedBy, judgedTranspose, transposeCompactFc3}
 use Rattle.laws.specs.Sequences.{Step, leaves, spells, Steps, Onto, stands, one-set}
@@ -56,18 +57,18 @@ unfoldable pub fed : ℕ → List Call → Plain → Plain
 fed n [] t = t
 fed n (c ∷ cs) t = fed n cs (feed n c t)
 
--- the order in which a type takes the three pairs
-unfoldable pub orderOf : ℤ → List ℕ
-orderOf (pos t) = order t
-orderOf (negsuc t) = straight 3
+-- the permutation by which a type takes the three pairs
+unfoldable pub permutationOf : ℤ → List ℕ
+permutationOf (pos t) = order t
+permutationOf (negsuc t) = straight 3
 
--- the numbers of the order that a call exchanges; a refused one leaves them
-unfoldable pub turn : ℕ → Call → List ℕ
-turn n c = cond (refused n c) (straight 3) (orderOf (c .type))
+-- how a call exchanges the numbers of the order that is spelled; a refused one leaves them
+unfoldable pub permutationBy : ℕ → Call → List ℕ
+permutationBy n c = cond (refused n c) (straight 3) (permutationOf (c .type))
 
 -- the order that a list spells: it begins as 0, 1, 2
 unfoldable pub spelled : ℕ → List Call → List ℕ
-spelled n cs = spells (turn n) cs (straight 3)
+spelled n cs = spells (permutationBy n) cs (straight 3)
 
 -- ---- the calls
 
@@ -79,9 +80,13 @@ leftBy c set = transposeCompactFc3 set (c .tables) (c .work) (c .type) .1
 unfoldable pub left : List Call → List Float → List Float
 left cs set = leaves leftBy cs set
 
--- the calls that are not refused bring the set's own counts and tables
+-- A call that is not refused brings the set's own counts and tables; a refused one may bring anything.
+abbrev pub Brings : ShiftTables → ℕ → Call → Type 0
+Brings T n c = refused n c ≡ false → c .tables ≡ T
+
+-- each call of a list
 abbrev pub Own : ShiftTables → ℕ → List Call → Type 0
-Own T n cs = All (λ c. refused n c ≡ false → c .tables ≡ T) cs
+Own T n cs = All (λ c. Brings T n c) cs
 
 -- ---- the law
 
@@ -98,19 +103,22 @@ pub record Law (T : ShiftTables) (set : List Float) (cs : List Call) : Type 0 wh
 
 -- ---- its proof
 
-straight-order : Order 2 (straight 3)
+own-tables : (T : ShiftTables) (n : ℕ) (c : Call) → Brings T n c → refused n c ≡ false → c .tables ≡ T
+own-tables T n c h e = h e
+
+straight-order : Permutation 2 (straight 3)
 unfolding straight tab
 straight-order = (refl, omega arith)
 
-orders : (t : ℕ) → Order 2 (order t)
+orders : (t : ℕ) → Permutation 2 (order t)
 unfolding order straight tab
 orders zero = (refl, omega arith)
 orders (suc zero) = (refl, omega arith)
 orders (suc (suc zero)) = (refl, omega arith)
 orders (suc (suc (suc t))) = (refl, omega arith)
 
-orders-of : (t : ℤ) → Order 2 (orderOf t)
-unfolding orderOf
+orders-of : (t : ℤ) → Permutation 2 (permutationOf t)
+unfolding permutationOf
 orders-of (pos t) = orders t
 orders-of (negsuc t) = straight-order
 
@@ -121,8 +129,8 @@ undone (suc zero) = refl
 undone (suc (suc zero)) = refl
 undone (suc (suc (suc t))) = refl
 
-undone-of : (t : ℤ) → pick 0 (orderOf t) (orderOf t) ≡ straight 3
-unfolding orderOf straight tab pick
+undone-of : (t : ℤ) → pick 0 (permutationOf t) (permutationOf t) ≡ straight 3
+unfolding permutationOf straight tab pick
 undone-of (pos t) = undone t
 undone-of (negsuc t) = refl
 
@@ -160,41 +168,41 @@ module _ (T : ShiftTables) (nh : NoHalfShift (shiftsOf T)) where
   abbrev S : Shifts
   S = shiftsOf T
 
-  read-by : Laws S → (t : ℤ) (set : List Float) (xs : List Leg) → Legs S 2 xs → readOut nan S (transposedBy S t set) xs ≡ readOut nan S set (taken (orderOf t) xs)
-  unfolding transposedBy orderOf
+  read-by : Laws S → (t : ℤ) (set : List Float) (xs : List Leg) → Legs S 2 xs → readOut nan S (transposedBy S t set) xs ≡ readOut nan S set (taken (permutationOf t) xs)
+  unfolding transposedBy permutationOf
   read-by L (pos t) set xs p = readOut-transposed S L nan nh t set xs p
   read-by L (negsuc t) set xs p = ap (readOut nan S set) (sym (pick-straight (0, 0) 3 xs (p .0)))
 
   step-refused : (c : Call) → refused (size S 2) c ≡ true → Step nan S 2 (straight 3) (leftBy c)
   step-refused c e = record {
-    isOrder = straight-order;
+    isPermutation = straight-order;
     twice = λ xs p. ap (taken (straight 3)) (pick-straight (0, 0) 3 xs (p .0)) ∙ pick-straight (0, 0) 3 xs (p .0);
     keeps = λ set l. rw (left-refused c set (rw l e)) l;
     reads = λ set xs l p. rw (left-refused c set (rw l e), pick-straight (0, 0) 3 xs (p .0));
   }
 
-  step-accepted : (c : Call) → refused (size S 2) c ≡ false → c .tables ≡ T → Step nan S 2 (orderOf (c .type)) (leftBy c)
+  step-accepted : (c : Call) → refused (size S 2) c ≡ false → c .tables ≡ T → Step nan S 2 (permutationOf (c .type)) (leftBy c)
   step-accepted c e q =
       let done : (set : List Float) → length set ≡ size S 2 → leftBy c set ≡ transposedBy S (c .type) set =
       λ set l. left-accepted c set (rw l e) ∙ ap (λ T. transposedBy (shiftsOf T) (c .type) set) q in
       let L : Laws S = rw q at (accepted (size S 2) c e) in
       let o = orders-of (c .type) in
       record {
-        isOrder = o;
-        twice = λ xs p. pick-pick (0, 0) (orderOf (c .type)) (orderOf (c .type)) xs (rw (o .0) (o .1)) ∙ ap (λ o. taken o xs) (undone-of (c .type)) ∙ pick-straight (0, 0) 3 xs (p .0);
+        isPermutation = o;
+        twice = λ xs p. pick-pick (0, 0) (permutationOf (c .type)) (permutationOf (c .type)) xs (rw (o .0) (o .1)) ∙ ap (λ o. taken o xs) (undone-of (c .type)) ∙ pick-straight (0, 0) 3 xs (p .0);
         keeps = λ set l. ap length (done set l) ∙ length-by S (c .type) set l;
         reads = λ set xs l p. ap (λ s. readOut nan S s xs) (done set l) ∙ read-by L (c .type) set xs p;
       }
 
-  step : (c : Call) → (refused (size S 2) c ≡ false → c .tables ≡ T) → Step nan S 2 (turn (size S 2) c) (leftBy c)
-  unfolding turn
+  step : (c : Call) → Brings T (size S 2) c → Step nan S 2 (permutationBy (size S 2) c) (leftBy c)
+  unfolding permutationBy
   step c own = go (split (refused (size S 2) c))
     where
-      go : (refused (size S 2) c ≡ true) ⊎ (refused (size S 2) c ≡ false) → Step nan S 2 (turn (size S 2) c) (leftBy c)
+      go : (refused (size S 2) c ≡ true) ⊎ (refused (size S 2) c ≡ false) → Step nan S 2 (permutationBy (size S 2) c) (leftBy c)
       go (inl e) = rw e (step-refused c e)
-      go (inr e) = rw e (step-accepted c e (own e))
+      go (inr e) = rw e (step-accepted c e (own-tables T (size S 2) c own e))
 
-  steps : (cs : List Call) → Own T (size S 2) cs → Steps nan S 2 (turn (size S 2)) leftBy cs
+  steps : (cs : List Call) → Own T (size S 2) cs → Steps nan S 2 (permutationBy (size S 2)) leftBy cs
   steps [] o = tt
   steps (c ∷ cs) o = (step c (o .0), steps cs (o .1))
 
@@ -203,15 +211,15 @@ module _ (T : ShiftTables) (nh : NoHalfShift (shiftsOf T)) where
   Same set t = (x y w : Leg) → Fit S x → Fit S y → Fit S w → readOut nan S set (x ∷ y ∷ w ∷ []) ≡ t x y w
 
   exchange-reads : (k : ℤ) (set : List Float) (t : Plain) → Same set t
-      → (x y w : Leg) → Fit S x → Fit S y → Fit S w → readOut nan S set (taken (orderOf k) (x ∷ y ∷ w ∷ [])) ≡ exchange k t x y w
-  unfolding Same orderOf order exchange pick straight tab
+      → (x y w : Leg) → Fit S x → Fit S y → Fit S w → readOut nan S set (taken (permutationOf k) (x ∷ y ∷ w ∷ [])) ≡ exchange k t x y w
+  unfolding Same permutationOf order exchange pick straight tab
   exchange-reads (pos zero) set t h x y w p q r = h y x w q p r
   exchange-reads (pos (suc zero)) set t h x y w p q r = h w y x r q p
   exchange-reads (pos (suc (suc zero))) set t h x y w p q r = h x w y p r q
   exchange-reads (pos (suc (suc (suc k)))) set t h x y w p q r = h x y w p q r
   exchange-reads (negsuc k) set t h x y w p q r = h x y w p q r
 
-  feed-same : (c : Call) (set : List Float) (t : Plain) → (refused (size S 2) c ≡ false → c .tables ≡ T) → length set ≡ size S 2
+  feed-same : (c : Call) (set : List Float) (t : Plain) → Brings T (size S 2) c → length set ≡ size S 2
       → Same set t → Same (leftBy c set) (feed (size S 2) c t)
   unfolding Same feed
   feed-same c set t own l h x y w p q r = go (split (refused (size S 2) c))
@@ -220,7 +228,7 @@ module _ (T : ShiftTables) (nh : NoHalfShift (shiftsOf T)) where
           → readOut nan S (leftBy c set) (x ∷ y ∷ w ∷ []) ≡ feed (size S 2) c t x y w
       go (inl e) = rw (e, left-refused c set (rw l e)) (h x y w p q r)
       go (inr e) =
-          step-accepted c e (own e) .reads set (x ∷ y ∷ w ∷ []) l (refl, (p, (q, (r, tt))))
+          step-accepted c e (own-tables T (size S 2) c own e) .reads set (x ∷ y ∷ w ∷ []) l (refl, (p, (q, (r, tt))))
           ∙ exchange-reads (c .type) set t h x y w p q r ∙ ap (λ b. cond b t (exchange (c .type) t) x y w) (sym e)
 
   fed-same : (cs : List Call) (set : List Float) (t : Plain) → Own T (size S 2) cs → length set ≡ size S 2
@@ -237,12 +245,12 @@ module _ (T : ShiftTables) (nh : NoHalfShift (shiftsOf T)) where
   working (c ∷ cs) set o l = go (split (refused (size S 2) c)) (working cs set (o .1) l)
     where
       go : (refused (size S 2) c ≡ true) ⊎ (refused (size S 2) c ≡ false) → Laws S ⊎ (leaves leftBy cs set ≡ set) → Laws S ⊎ (leaves leftBy cs (leftBy c set) ≡ set)
-      go (inr e) r = inl (rw (o .0 e) at (accepted (size S 2) c e))
+      go (inr e) r = inl (rw (own-tables T (size S 2) c (o .0) e) at (accepted (size S 2) c e))
       go (inl e) (inl L) = inl L
       go (inl e) (inr f) = inr (ap (leaves leftBy cs) (left-refused c set (rw l e)) ∙ f)
 
-  straight-onto : Onto nan S 2 (turn (size S 2)) leftBy (straight 3)
-  straight-onto = record { isOrder = straight-order; onto = λ ys p. (ys, p, pick-straight (0, 0) 3 ys (p .0)) }
+  straight-onto : Onto nan S 2 (permutationBy (size S 2)) leftBy (straight 3)
+  straight-onto = record { isPermutation = straight-order; onto = λ ys p. (ys, p, pick-straight (0, 0) 3 ys (p .0)) }
 
   module _ (set : List Float) (l : length set ≡ size S 2) where
     at-start : (xs : List Leg) → Legs S 2 xs → readOut nan S set (taken (straight 3) xs) ≡ readOut nan S set xs
@@ -251,19 +259,20 @@ module _ (T : ShiftTables) (nh : NoHalfShift (shiftsOf T)) where
     one : (cs ds : List Call) → Own T (size S 2) cs → Own T (size S 2) ds → spelled (size S 2) cs ≡ spelled (size S 2) ds
         → Laws S ⊎ (leaves leftBy cs set ≡ set) → Laws S ⊎ (leaves leftBy ds set ≡ set) → leaves leftBy cs set ≡ leaves leftBy ds set
     unfolding spelled
-    one cs ds o q e (inl L) r = one-set nan S 2 (turn (size S 2)) leftBy L cs ds (straight 3) set (steps cs o) (steps ds q) straight-onto l at-start e
-    one cs ds o q e (inr f) (inl L) = one-set nan S 2 (turn (size S 2)) leftBy L cs ds (straight 3) set (steps cs o) (steps ds q) straight-onto l at-start e
+    one cs ds o q e (inl L) r = one-set nan S 2 (permutationBy (size S 2)) leftBy L cs ds (straight 3) set (steps cs o) (steps ds q) straight-onto l at-start e
+    one cs ds o q e (inr f) (inl L) = one-set nan S 2 (permutationBy (size S 2)) leftBy L cs ds (straight 3) set (steps cs o) (steps ds q) straight-onto l at-start e
     one cs ds o q e (inr f) (inr g) = f ∙ sym g
 
-  -- THE LAW OF SEQUENCES: for any compact set of the stated length, where only the null shift is its own inverse
-  pub law : (set : List Float) (cs : List Call) → length set ≡ size S 2 → Own T (length set) cs → Law T set cs
-  unfolding left spelled Same
-  law set cs l o =
-      let o′ : Own T (size S 2) cs = rw l at o in
-      record {
-        table = rw l (fed-same cs set (λ x y w. readOut nan S set (x ∷ y ∷ w ∷ [])) o′ l (λ x y w p q r. refl));
-        stands-at = rw l (stands nan S 2 (turn (size S 2)) leftBy cs (straight 3) set set (steps cs o′) straight-onto l (at-start set l));
-        same-bits = λ ds own e.
-            let own′ : Own T (size S 2) ds = rw l at own in
-            one set l cs ds o′ own′ (rw l at e) (working cs set o′ l) (working ds set own′ l);
-      }
+-- THE LAW OF SEQUENCES: for any compact set of the stated length and any list of calls, of which those that are not refused bring the set's own
+-- tables, where only the null shift is its own inverse
+pub law : (T : ShiftTables) (set : List Float) (cs : List Call) → NoHalfShift (shiftsOf T) → length set ≡ size (shiftsOf T) 2 → Own T (length set) cs → Law T set cs
+unfolding left spelled Same
+law T set cs nh l o =
+    let o′ : Own T (size (shiftsOf T) 2) cs = rw l at o in
+    record {
+      table = rw l (fed-same T nh cs set (λ x y w. readOut nan (shiftsOf T) set (x ∷ y ∷ w ∷ [])) o′ l (λ x y w p q r. refl));
+      stands-at = rw l (stands nan (shiftsOf T) 2 (permutationBy (size (shiftsOf T) 2)) leftBy cs (straight 3) set set (steps T nh cs o′) (straight-onto T nh) l (at-start T nh set l));
+      same-bits = λ ds own e.
+          let own′ : Own T (size (shiftsOf T) 2) ds = rw l at own in
+          one T nh set l cs ds o′ own′ (rw l at e) (working T nh cs set o′ l) (working T nh ds set own′ l);
+    }

@@ -13,45 +13,48 @@ use Rattle.lists.specs.Digits.{in-row, pos-of}
 use Rattle.lists.specs.Cases.{eq-or-ne}
 use Rattle.lists.specs.Stages.{Stage, next, stages}
 use Rattle.blocks.specs.Block.{block, length-putBlock, put-inside, put-outside, block-of, getD-block}
-use Rattle.lines.specs.Nine.{zero as zeroF, scaled, less, zeros, getD-nine, in-nine, block-at}
+use Rattle.lines.specs.Nine.{Sums, plusZero, sumIn, scaled, less, zeros, getD-nine, sum-in, in-nine, block-at}
 use Rattle.lines.specs.Lines.{lineSums, lessAt, lineLess, lineDrift, rowDrifts, atomI}
 
 -- ---- the sums of a line, number by number
 
-pub line-sum : (a d c : ℕ) (xs s : List Float) (p : ℕ) → p < 9
-    → getD (lineSums a d c xs s) p nan ≡ times c (λ k t. add binary64 t (getD xs ((a + k * d) * 9 + p) nan)) (getD s p nan)
+pub line-sum : (a d c : ℕ) (xs : List Float) (s : Sums) (p : ℕ) → p < 9
+    → sumIn (lineSums a d c xs s) p ≡ times c (λ k t. add binary64 t (getD xs ((a + k * d) * 9 + p) nan)) (sumIn s p)
 unfolding lineSums times
 line-sum a d zero xs s p h = refl
 line-sum a d (suc c) xs s p h =
     let t = lineSums a d c xs s in
     let b = block 9 (a + c * d) xs in
-    getD-nine (λ p. add binary64 (getD t p nan) (getD b p nan)) p h
+    sum-in (λ p. add binary64 (sumIn t p) (getD b p nan)) p h
     ∙ ap₂ (add binary64) (line-sum a d c xs s p h) (getD-block 9 (a + c * d) xs p h)
 
--- ---- a line less nine numbers
+pub zeros-in : (p : ℕ) → p < 9 → sumIn zeros p ≡ plusZero
+zeros-in p h = sum-in (λ _. plusZero) p h
 
-pub length-lessAt : (v : List Float) (b : ℕ) (xs : List Float) → length (lessAt v b xs) ≡ length xs
+-- ---- a line less a drift
+
+pub length-lessAt : (v : Sums) (b : ℕ) (xs : List Float) → length (lessAt v b xs) ≡ length xs
 unfolding lessAt
 length-lessAt v b xs = length-putBlock 9 b _ xs
 
-pub length-lineLess : (a d c : ℕ) (v xs : List Float) → length (lineLess a d c v xs) ≡ length xs
+pub length-lineLess : (a d c : ℕ) (v : Sums) (xs : List Float) → length (lineLess a d c v xs) ≡ length xs
 unfolding lineLess times
 length-lineLess a d zero v xs = refl
 length-lineLess a d (suc c) v xs = length-lessAt v (a + c * d) (lineLess a d c v xs) ∙ length-lineLess a d c v xs
 
-module _ (v : List Float) (b : ℕ) (xs : List Float) (q : ℕ) (h : q < length xs) where
-  less-in : q / 9 ≡ b → getD (lessAt v b xs) q nan ≡ sub binary64 (getD xs q nan) (getD v (q % 9) nan)
+module _ (v : Sums) (b : ℕ) (xs : List Float) (q : ℕ) (h : q < length xs) where
+  pub less-in : q / 9 ≡ b → getD (lessAt v b xs) q nan ≡ sub binary64 (getD xs q nan) (sumIn v (q % 9))
   unfolding lessAt
   less-in e =
       put-inside 9 b (less (block 9 b xs) v) xs q h e
-      ∙ getD-nine (λ p. sub binary64 (getD (block 9 b xs) p nan) (getD v p nan)) (q % 9) (in-nine q)
-      ∙ ap (λ x. sub binary64 x (getD v (q % 9) nan)) (block-at b xs q e)
+      ∙ getD-nine (λ p. sub binary64 (getD (block 9 b xs) p nan) (sumIn v p)) (q % 9) (in-nine q)
+      ∙ ap (λ x. sub binary64 x (sumIn v (q % 9))) (block-at b xs q e)
 
-  less-out : (q / 9 ≡ b → ⊥) → getD (lessAt v b xs) q nan ≡ getD xs q nan
+  pub less-out : (q / 9 ≡ b → ⊥) → getD (lessAt v b xs) q nan ≡ getD xs q nan
   unfolding lessAt
   less-out n = put-outside 9 b (less (block 9 b xs) v) xs q h n
 
-module _ (a d : ℕ) (hd : 0 < d) (v xs : List Float) (q : ℕ) (h : q < length xs) where
+module _ (a d : ℕ) (hd : 0 < d) (v : Sums) (xs : List Float) (q : ℕ) (h : q < length xs) where
   here : (c : ℕ) → q < length (lineLess a d c v xs)
   here c = rw (length-lineLess a d c v xs) h
 
@@ -63,14 +66,14 @@ module _ (a d : ℕ) (hd : 0 < d) (v xs : List Float) (q : ℕ) (h : q < length 
   apart : (m c : ℕ) → m < c → a + m * d ≡ a + c * d → ⊥
   apart m c l e = let g = in-row c d m 0 l hd in omega arith
 
-  pub line-on : (c m : ℕ) → m < c → q / 9 ≡ a + m * d → getD (lineLess a d c v xs) q nan ≡ sub binary64 (getD xs q nan) (getD v (q % 9) nan)
+  pub line-on : (c m : ℕ) → m < c → q / 9 ≡ a + m * d → getD (lineLess a d c v xs) q nan ≡ sub binary64 (getD xs q nan) (sumIn v (q % 9))
   unfolding lineLess times
   line-on zero m l e = absurd (not-suc-le-zero l)
   line-on (suc c) m l e =
       ⊎-elim
       (λ (g : m ≡ c).
       less-in v (a + c * d) (lineLess a d c v xs) q (here c) (e ∙ ap (λ k. a + k * d) g)
-      ∙ ap (λ x. sub binary64 x (getD v (q % 9) nan)) (line-off c (λ k u w. apart k c u (sym w ∙ e ∙ ap (λ k. a + k * d) g))))
+      ∙ ap (λ x. sub binary64 x (sumIn v (q % 9))) (line-off c (λ k u w. apart k c u (sym w ∙ e ∙ ap (λ k. a + k * d) g))))
       (λ (g : m ≡ c → ⊥).
       less-out v (a + c * d) (lineLess a d c v xs) q (here c) (λ w. apart m c (omega arith) (sym e ∙ w)) ∙ line-on c m (omega arith) e)
       (eq-or-ne m c)
@@ -92,7 +95,7 @@ length-lineDrift a d c x xs = length-lineLess a d c _ xs
 module _ (m n d : ℕ) (first line index : ℕ → ℕ) (L : Lines m n d first line index) (x : Float) (xs : List Float) (e : length xs ≡ m * n * 9) where
   -- the sum of line j at number p
   abbrev sumOf : ℕ → ℕ → Float
-  sumOf j p = times n (λ k t. add binary64 t (getD xs ((first j + k * d) * 9 + p) nan)) zeroF
+  sumOf j p = times n (λ k t. add binary64 t (getD xs ((first j + k * d) * 9 + p) nan)) plusZero
 
   abbrev new : ℕ → Float
   new q = sub binary64 (getD xs q nan) (mul binary64 (sumOf (line (q / 9)) (q % 9)) x)
@@ -104,9 +107,9 @@ module _ (m n d : ℕ) (first line index : ℕ → ℕ) (L : Lines m n d first l
   block-below q h = div-lt-iff-lt-mul (lit< tt) .1 (rw e at h)
 
   -- line j less its drift, when the lines before it are done
-  pub turn-of : (j : ℕ) → j < m → (ys : List Float) → Stage nan xs key new j ys → Stage nan xs key new (suc j) (lineDrift (first j) d n x ys)
+  pub line-taken : (j : ℕ) → j < m → (ys : List Float) → Stage nan xs key new j ys → Stage nan xs key new (suc j) (lineDrift (first j) d n x ys)
   unfolding lineDrift
-  turn-of j hj ys s =
+  line-taken j hj ys s =
       let v = scaled (lineSums (first j) d n ys zeros) x in
       next nan xs key new j ys (lineLess (first j) d n v ys) s (length-lineLess (first j) d n v ys)
       (λ q h g.
@@ -116,19 +119,16 @@ module _ (m n d : ℕ) (first line index : ℕ → ℕ) (L : Lines m n d first l
       line-on (first j) d hd v ys q hy n (index (q / 9)) (L .index-below (q / 9) b)
       (L .stands (q / 9) b ∙ ap (λ k. first k + index (q / 9) * d) g)
       ∙ ap₂ (sub binary64) (s .left q h (omega arith))
-      (getD-nine (λ p. mul binary64 (getD (lineSums (first j) d n ys zeros) p nan) x) (q % 9) (in-nine q)
+      (sum-in (λ p. mul binary64 (sumIn (lineSums (first j) d n ys zeros) p) x) (q % 9) (in-nine q)
       ∙ ap (λ t. mul binary64 t x)
-      (line-sum (first j) d n ys zeros (q % 9) (in-nine q) ∙ ap (λ t. times n (λ k t. add binary64 t (getD ys ((first j + k * d) * 9 + q % 9) nan)) t) (zero-at (q % 9) (in-nine q))
-      ∙ times-same n _ _ zeroF (λ k hk t. ap (add binary64 t) (old k hk (q % 9) (in-nine q)))
+      (line-sum (first j) d n ys zeros (q % 9) (in-nine q) ∙ ap (λ t. times n (λ k t. add binary64 t (getD ys ((first j + k * d) * 9 + q % 9) nan)) t) (zeros-in (q % 9) (in-nine q))
+      ∙ times-same n _ _ plusZero (λ k hk t. ap (add binary64 t) (old k hk (q % 9) (in-nine q)))
       ∙ ap (λ l. sumOf l (q % 9)) (sym g))))
       (λ q h g.
       let hy : q < length ys = rw (s .long) h in
       let hd = L .step (pos-of n m (q / 9) (block-below q h)) in
       line-off (first j) d hd v ys q hy n (λ k l w. g (ap line w ∙ L .of-line j k hj l)))
     where
-      zero-at : (p : ℕ) → p < 9 → getD zeros p nan ≡ zeroF
-      zero-at p h = getD-nine (λ _. zeroF) p h
-
       old : (k : ℕ) → k < n → (p : ℕ) → p < 9 → getD ys ((first j + k * d) * 9 + p) nan ≡ getD xs ((first j + k * d) * 9 + p) nan
       old k hk p hp =
           let b = first j + k * d in
@@ -137,7 +137,7 @@ module _ (m n d : ℕ) (first line index : ℕ → ℕ) (L : Lines m n d first l
 
   pub lines-make : times m (λ j. lineDrift (first j) d n x) xs ≡ tab (m * n * 9) new
   lines-make =
-      let s = stages nan xs key new m (λ j. lineDrift (first j) d n x) turn-of in
+      let s = stages nan xs key new m (λ j. lineDrift (first j) d n x) line-taken in
       is-tab nan (m * n * 9) new (times m (λ j. lineDrift (first j) d n x) xs) (s .long ∙ e)
       (λ q h. let hx : q < length xs = rw e h in s .made q hx (L .line-below (q / 9) (block-below q hx)))
 
@@ -156,19 +156,19 @@ by-rows m n =
 
 -- the sum over the second atom, at number p of the blocks of row i
 abbrev pub sumRow : ℕ → List Float → ℕ → ℕ → Float
-sumRow n xs i p = times n (λ j s. add binary64 s (getD xs ((i * n + j) * 9 + p) nan)) zeroF
+sumRow n xs i p = times n (λ j s. add binary64 s (getD xs ((i * n + j) * 9 + p) nan)) plusZero
 
-pub sum-row : (n : ℕ) (xs : List Float) (i p : ℕ) → times n (λ k t. add binary64 t (getD xs ((i * n + k * 1) * 9 + p) nan)) zeroF ≡ sumRow n xs i p
+pub sum-row : (n : ℕ) (xs : List Float) (i p : ℕ) → times n (λ k t. add binary64 t (getD xs ((i * n + k * 1) * 9 + p) nan)) plusZero ≡ sumRow n xs i p
 sum-row n xs i p =
-    times-same n _ _ zeroF (λ k hk t.
+    times-same n _ _ plusZero (λ k hk t.
     let w : (i * n + k * 1) * 9 + p ≡ (i * n + k) * 9 + p = omega arith in
     ap (λ r. add binary64 t (getD xs r nan)) w)
 
 -- the nine sums of row i
-pub row-sums : (n : ℕ) (xs : List Float) (i p : ℕ) → p < 9 → getD (lineSums (i * n) 1 n xs zeros) p nan ≡ sumRow n xs i p
+pub row-sums : (n : ℕ) (xs : List Float) (i p : ℕ) → p < 9 → sumIn (lineSums (i * n) 1 n xs zeros) p ≡ sumRow n xs i p
 row-sums n xs i p h =
     line-sum (i * n) 1 n xs zeros p h
-    ∙ ap (λ z. times n (λ k t. add binary64 t (getD xs ((i * n + k * 1) * 9 + p) nan)) z) (getD-nine (λ _. zeroF) p h)
+    ∙ ap (λ z. times n (λ k t. add binary64 t (getD xs ((i * n + k * 1) * 9 + p) nan)) z) (zeros-in p h)
     ∙ sum-row n xs i p
 
 pub rows-make : (m n : ℕ) (x : Float) (xs : List Float) → length xs ≡ m * n * 9

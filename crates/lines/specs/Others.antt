@@ -13,17 +13,18 @@ use Rattle.lists.specs.Tab.{tab, times, is-tab, times-same, times-add}
 use Rattle.lists.specs.Cases.{eq-or-ne}
 use Rattle.lists.specs.Stages.{Stage, next, stages}
 use Rattle.blocks.specs.Block.{length-putBlock, put-inside, put-outside}
-use Rattle.lines.specs.Nine.{zero as zeroF, half, turn, zeros, balance, getD-nine, in-nine, turn-below}
+use Rattle.lines.specs.Nine.{plusZero, half, sumIn, zeros, balance, getD-nine, in-nine, transposed-below}
+use Rattle.blocks.specs.Nine.{acrossDiagonal}
 use Rattle.lines.specs.Lines.{lineSums, others, balanceAt, balances, atomI, atomJ, of-atoms, atoms-of, atoms-at, place-in, atoms-below}
-use Rattle.lines.specs.Drifts.{line-sum}
+use Rattle.lines.specs.Drifts.{line-sum, zeros-in}
 
 -- the sum over the atoms other than o, at number p of the blocks of row i
 abbrev pub sumBut : ℕ → List Float → ℕ → ℕ → ℕ → Float
-sumBut n xs i o p = times n (λ j s. cond (eqb o j) s (add binary64 s (getD xs ((i * n + j) * 9 + p) nan))) zeroF
+sumBut n xs i o p = times n (λ j s. cond (eqb o j) s (add binary64 s (getD xs ((i * n + j) * 9 + p) nan))) plusZero
 
 -- what the block of atom o in row i gets at number p
 abbrev pub balanced : ℕ → List Float → ℕ → ℕ → ℕ → Float
-balanced n xs i o p = half (neg (add binary64 (sumBut n xs i o p) (sumBut n xs i o (turn p))))
+balanced n xs i o p = half (neg (add binary64 (sumBut n xs i o p) (sumBut n xs i o (acrossDiagonal p))))
 
 -- it is taken in two runs: before the atom and after it
 module _ (n i o : ℕ) (ho : o < n) (xs ys : List Float) (p : ℕ) (hp : p < 9)
@@ -34,36 +35,38 @@ module _ (n i o : ℕ) (ho : o < n) (xs ys : List Float) (p : ℕ) (hp : p < 9)
   step-other : (j : ℕ) → j < n → (o ≡ j → ⊥) → (s : Float) → add binary64 s (getD ys ((i * n + j) * 9 + p) nan) ≡ step j s
   step-other j hj g s = rw (ne-eqb o j g) (ap (add binary64 s) (same j hj g))
 
-  first-run : getD (lineSums (i * n) 1 o ys zeros) p nan ≡ times o step zeroF
+  first-run : sumIn (lineSums (i * n + o - o) 1 o ys zeros) p ≡ times o step plusZero
   first-run =
-      line-sum (i * n) 1 o ys zeros p hp
-      ∙ ap (λ z. times o (λ k t. add binary64 t (getD ys ((i * n + k * 1) * 9 + p) nan)) z) (getD-nine (λ _. zeroF) p hp)
-      ∙ times-same o _ step zeroF (λ k hk t.
+      let w : i * n + o - o ≡ i * n = omega arith in
+      ap (λ a. sumIn (lineSums a 1 o ys zeros) p) w
+      ∙ line-sum (i * n) 1 o ys zeros p hp
+      ∙ ap (λ z. times o (λ k t. add binary64 t (getD ys ((i * n + k * 1) * 9 + p) nan)) z) (zeros-in p hp)
+      ∙ times-same o _ step plusZero (λ k hk t.
       let w : (i * n + k * 1) * 9 + p ≡ (i * n + k) * 9 + p = omega arith in
       ap (λ r. add binary64 t (getD ys r nan)) w ∙ step-other k (omega arith) (λ g. omega arith) t)
 
   own-step : (s : Float) → step o s ≡ s
   own-step s = rw (eq-eqb o o refl)
 
-  one-more : times (o + 1) step zeroF ≡ times o step zeroF
+  one-more : times (o + 1) step plusZero ≡ times o step plusZero
   unfolding times
-  one-more = times-add o 1 step zeroF ∙ own (times o step zeroF)
+  one-more = times-add o 1 step plusZero ∙ own (times o step plusZero)
     where
       own : (s : Float) → step (o + 0) s ≡ s
       own s = let z : o + 0 ≡ o = omega arith in ap (λ j. step j s) z ∙ own-step s
 
-  pub others-sum : getD (others n i o ys) p nan ≡ sumBut n xs i o p
+  pub others-sum : sumIn (others n (i * n + o) o ys) p ≡ sumBut n xs i o p
   unfolding others
   others-sum =
       let c = n - o - 1 in
       let z : o + 1 + c ≡ n = omega arith in
-      line-sum (i * n + o + 1) 1 c ys (lineSums (i * n) 1 o ys zeros) p hp
+      line-sum (i * n + o + 1) 1 c ys (lineSums (i * n + o - o) 1 o ys zeros) p hp
       ∙ ap (λ s. times c (λ k t. add binary64 t (getD ys ((i * n + o + 1 + k * 1) * 9 + p) nan)) s) (first-run ∙ sym one-more)
-      ∙ times-same c _ (λ k. step (o + 1 + k)) (times (o + 1) step zeroF) (λ k hk t.
+      ∙ times-same c _ (λ k. step (o + 1 + k)) (times (o + 1) step plusZero) (λ k hk t.
       let w : (i * n + o + 1 + k * 1) * 9 + p ≡ (i * n + (o + 1 + k)) * 9 + p = omega arith in
       ap (λ r. add binary64 t (getD ys r nan)) w ∙ step-other (o + 1 + k) (omega arith) (λ g. omega arith) t)
-      ∙ sym (times-add (o + 1) c step zeroF)
-      ∙ ap (λ m. times m step zeroF) z
+      ∙ sym (times-add (o + 1) c step plusZero)
+      ∙ ap (λ m. times m step plusZero) z
 
 -- ---- the block of atom o in row i
 
@@ -74,15 +77,15 @@ module _ (n i : ℕ) (own : ℕ → ℕ) (ys : List Float) where
 
   module _ (q : ℕ) (h : q < length ys) where
     balance-in : q / 9 ≡ i * n + own i
-        → getD (balanceAt n own i ys) q nan ≡ half (neg (add binary64 (getD (others n i (own i) ys) (q % 9) nan) (getD (others n i (own i) ys) (turn (q % 9)) nan)))
+        → getD (balanceAt n own i ys) q nan ≡ half (neg (add binary64 (sumIn (others n (i * n + own i) (own i) ys) (q % 9)) (sumIn (others n (i * n + own i) (own i) ys) (acrossDiagonal (q % 9)))))
     unfolding balanceAt
     balance-in e =
-        put-inside 9 (i * n + own i) (balance (others n i (own i) ys)) ys q h e
-        ∙ getD-nine (λ p. half (neg (add binary64 (getD (others n i (own i) ys) p nan) (getD (others n i (own i) ys) (turn p) nan)))) (q % 9) (in-nine q)
+        put-inside 9 (i * n + own i) (balance (others n (i * n + own i) (own i) ys)) ys q h e
+        ∙ getD-nine (λ p. half (neg (add binary64 (sumIn (others n (i * n + own i) (own i) ys) p) (sumIn (others n (i * n + own i) (own i) ys) (acrossDiagonal p))))) (q % 9) (in-nine q)
 
     balance-out : (q / 9 ≡ i * n + own i → ⊥) → getD (balanceAt n own i ys) q nan ≡ getD ys q nan
     unfolding balanceAt
-    balance-out g = put-outside 9 (i * n + own i) (balance (others n i (own i) ys)) ys q h g
+    balance-out g = put-outside 9 (i * n + own i) (balance (others n (i * n + own i) (own i) ys)) ys q h g
 
 -- ---- all rows
 
@@ -100,8 +103,8 @@ module _ (m n : ℕ) (own : ℕ → ℕ) (below : (i : ℕ) → i < m → own i 
   key-off : (q : ℕ) → (own (atomI n q) ≡ atomJ n q → ⊥) → key q ≡ m
   key-off q g = rw (ne-eqb (own (atomI n q)) (atomJ n q) g)
 
-  turn-of : (i : ℕ) → i < m → (ys : List Float) → Stage nan xs key new i ys → Stage nan xs key new (suc i) (balanceAt n own i ys)
-  turn-of i hi ys s =
+  row-balanced : (i : ℕ) → i < m → (ys : List Float) → Stage nan xs key new i ys → Stage nan xs key new (suc i) (balanceAt n own i ys)
+  row-balanced i hi ys s =
       next nan xs key new i ys (balanceAt n own i ys) s (length-balanceAt n i own ys)
       (λ q h g.
       let hy : q < length ys = rw (s .long) h in
@@ -110,11 +113,11 @@ module _ (m n : ℕ) (own : ℕ → ℕ) (below : (i : ℕ) → i < m → own i 
       let wi : atomI n q ≡ i = sym (key-own q w) ∙ g in
       let wj : atomJ n q ≡ own i = sym w ∙ ap own wi in
       let hp = in-nine q in
-      let ht = turn-below (q % 9) hp in
+      let ht = transposed-below (q % 9) hp in
       balance-in n i own ys q hy (of-atoms n q i (own i) wi wj)
       ∙ ap (λ x. half (neg x))
       (ap₂ (add binary64) (others-sum n i (own i) (below i hi) xs ys (q % 9) hp (old (q % 9) hp))
-      (others-sum n i (own i) (below i hi) xs ys (turn (q % 9)) ht (old (turn (q % 9)) ht)))
+      (others-sum n i (own i) (below i hi) xs ys (acrossDiagonal (q % 9)) ht (old (acrossDiagonal (q % 9)) ht)))
       ∙ ap (λ k. balanced n xs k (own k) (q % 9)) (sym wi))
       (λ (w : own (atomI n q) ≡ atomJ n q → ⊥). let k = key-off q w in absurd (omega arith))
       (eq-or-ne (own (atomI n q)) (atomJ n q)))
@@ -131,7 +134,7 @@ module _ (m n : ℕ) (own : ℕ → ℕ) (below : (i : ℕ) → i < m → own i 
       ≡ tab (m * n * 9) (λ q. cond (eqb (own (atomI n q)) (atomJ n q)) (balanced n xs (atomI n q) (own (atomI n q)) (q % 9)) (getD xs q nan))
   unfolding balances
   balances-make =
-      let s = stages nan xs key new m (balanceAt n own) turn-of in
+      let s = stages nan xs key new m (balanceAt n own) row-balanced in
       is-tab nan (m * n * 9) _ (times m (balanceAt n own) xs) (s .long ∙ e)
       (λ q h.
       let hx : q < length xs = rw e h in

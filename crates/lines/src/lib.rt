@@ -2,38 +2,44 @@
 // line less its drift.
 pub mod nine;
 
-use nine::added;
 use nine::averaged;
 use nine::less;
+use nine::more;
 use nine::scaled;
-use nine::turned;
+use places::with_leg;
+use tables::atoms::SuperAtom;
 ghost use mathlib.Core.Path.{_≡_};
-ghost use Prim.Native.Nat.{_<_};
 ghost use lib.ListN.{length};
 ghost use Rattle.lines.specs.Lines as lines;
-ghost use Rattle.lines.specs.Lines.{Inside, Line, Sized};
+ghost use Rattle.lines.specs.Lines.{Inside, Line, RowOf, Sized};
 
-// The sums s, to which the blocks of a line are added one after another: blocks first, first + step, ..
-pub fn line_sums(fc: &[f64], s: [f64; 9], first: usize, step: usize, count: usize) -> [f64; 9]
+// The 3 by 3 sums s, to which the blocks of a line are added one after another: blocks first, first + step, ..
+pub fn line_sums(
+    fc: &[f64],
+    s: [[f64; 3]; 3],
+    first: usize,
+    step: usize,
+    count: usize,
+) -> [[f64; 3]; 3]
     requires { ⌜ Line first step count (length (now fc)) ⌝ }
     ensures { λ r. ⌜ r ≡ lines.lineSums first step count (now (fc .entry)) s ⌝ }
 {
     let mut sums = s;
     for k in 0..count {
-        let b = blocks::read9(fc, first + k * step);
-        let more = added(sums, b);
-        sums = more;
+        let b = blocks::read9(fc, with_leg(k, step, first));
+        let next = more(sums, b);
+        sums = next;
     }
     sums
 }
 
 // Takes d from each block of a line.
-fn take_drift(fc: &mut [f64], d: [f64; 9], first: usize, step: usize, count: usize)
+fn take_drift(fc: &mut [f64], d: [[f64; 3]; 3], first: usize, step: usize, count: usize)
     requires { ⌜ Line first step count (length (now fc)) ⌝ }
     ensures { λ _. ⌜ now (fc .exit) ≡ lines.lineLess first step count d (now (fc .entry)) ⌝ }
 {
     for k in 0..count {
-        let at = first + k * step;
+        let at = with_leg(k, step, first);
         let b = blocks::read9(fc, at);
         blocks::write9(fc, at, less(b, d));
     }
@@ -44,7 +50,7 @@ pub fn line_drift(fc: &mut [f64], first: usize, step: usize, count: usize, inv_n
     requires { ⌜ Line first step count (length (now fc)) ⌝ }
     ensures { λ _. ⌜ now (fc .exit) ≡ lines.lineDrift first step count «inv_n» (now (fc .entry)) ⌝ }
 {
-    let s = line_sums(fc, [0.0f64; 9], first, step, count);
+    let s = line_sums(fc, [[0.0f64; 3]; 3], first, step, count);
     let d = scaled(s, inv_n);
     take_drift(fc, d, first, step, count);
 }
@@ -55,7 +61,7 @@ pub fn row_drift(fc: &mut [f64], rows: usize, n: usize, inv_n: f64)
     ensures { λ _. ⌜ now (fc .exit) ≡ lines.rowDrifts rows n «inv_n» (now (fc .entry)) ⌝ }
 {
     for i in 0..rows {
-        line_drift(fc, i * n, 1, n, inv_n);
+        line_drift(fc, with_leg(i, n, 0), 1, n, inv_n);
     }
 }
 
@@ -68,15 +74,15 @@ pub fn average_pair(fc: &mut [f64], a: usize, b: usize)
     let other = blocks::read9(fc, b);
     let m = averaged(one, other);
     blocks::write9(fc, a, m);
-    blocks::write9(fc, b, turned(m));
+    blocks::write9(fc, b, blocks::transposed9(m));
 }
 
-// The sums of row i, the block of atom own left out.
-pub fn other_sums(fc: &[f64], rows: usize, n: usize, i: usize, own: usize) -> [f64; 9]
-    requires { ⌜ Sized rows n (length (now fc)) ⌝ }
-    requires { ⌜ (i < rows) × (own < n) ⌝ }
-    ensures { λ r. ⌜ r ≡ lines.others n i own (now (fc .entry)) ⌝ }
+// The off-site sums of a row of n blocks: block b, that of atom own in the row, is left out.
+pub fn other_sums(fc: &[f64], b: usize, own: SuperAtom, n: usize) -> [[f64; 3]; 3]
+    requires { ⌜ RowOf b (own .0) n (length (now fc)) ⌝ }
+    ensures { λ r. ⌜ r ≡ lines.others n b (own .0) (now (fc .entry)) ⌝ }
 {
-    let before = line_sums(fc, [0.0f64; 9], i * n, 1, own);
-    line_sums(fc, before, i * n + own + 1, 1, n - own - 1)
+    let before = own.0;
+    let s = line_sums(fc, [[0.0f64; 3]; 3], b - before, 1, before);
+    line_sums(fc, s, b + 1, 1, n - before - 1)
 }

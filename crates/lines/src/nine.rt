@@ -1,8 +1,8 @@
-// Blocks of nine numbers as whole values: one 3 by 3 matrix each, its rows one after another.
+// Blocks of nine numbers as whole values, one 3 by 3 matrix each with its rows one after another, and 3 by 3 sums of blocks.
 ghost use mathlib.Core.Path.{_≡_};
 ghost use Rattle.lines.specs.Nine as nine;
 
-// Nine running sums and one block more.
+// Two blocks, number by number.
 pub fn added(s: [f64; 9], b: [f64; 9]) -> [f64; 9]
     ensures { λ r. ⌜ r ≡ nine.added s b ⌝ }
 {
@@ -19,44 +19,42 @@ pub fn added(s: [f64; 9], b: [f64; 9]) -> [f64; 9]
     ]
 }
 
-pub fn scaled(s: [f64; 9], x: f64) -> [f64; 9]
+// 3 by 3 sums and one block more.
+pub fn more(s: [[f64; 3]; 3], b: [f64; 9]) -> [[f64; 3]; 3]
+    ensures { λ r. ⌜ r ≡ nine.more s b ⌝ }
+{
+    [
+        [s[0][0] + b[0], s[0][1] + b[1], s[0][2] + b[2]],
+        [s[1][0] + b[3], s[1][1] + b[4], s[1][2] + b[5]],
+        [s[2][0] + b[6], s[2][1] + b[7], s[2][2] + b[8]],
+    ]
+}
+
+pub fn scaled(s: [[f64; 3]; 3], x: f64) -> [[f64; 3]; 3]
     ensures { λ r. ⌜ r ≡ nine.scaled s x ⌝ }
 {
     [
-        s[0] * x,
-        s[1] * x,
-        s[2] * x,
-        s[3] * x,
-        s[4] * x,
-        s[5] * x,
-        s[6] * x,
-        s[7] * x,
-        s[8] * x,
+        [s[0][0] * x, s[0][1] * x, s[0][2] * x],
+        [s[1][0] * x, s[1][1] * x, s[1][2] * x],
+        [s[2][0] * x, s[2][1] * x, s[2][2] * x],
     ]
 }
 
-// A block less nine numbers.
-pub fn less(b: [f64; 9], d: [f64; 9]) -> [f64; 9]
+// A block less a 3 by 3 drift.
+pub fn less(b: [f64; 9], d: [[f64; 3]; 3]) -> [f64; 9]
     ensures { λ r. ⌜ r ≡ nine.less b d ⌝ }
 {
     [
-        b[0] - d[0],
-        b[1] - d[1],
-        b[2] - d[2],
-        b[3] - d[3],
-        b[4] - d[4],
-        b[5] - d[5],
-        b[6] - d[6],
-        b[7] - d[7],
-        b[8] - d[8],
+        b[0] - d[0][0],
+        b[1] - d[0][1],
+        b[2] - d[0][2],
+        b[3] - d[1][0],
+        b[4] - d[1][1],
+        b[5] - d[1][2],
+        b[6] - d[2][0],
+        b[7] - d[2][1],
+        b[8] - d[2][2],
     ]
-}
-
-// The block transposed.
-pub fn turned(b: [f64; 9]) -> [f64; 9]
-    ensures { λ r. ⌜ r ≡ nine.turned b ⌝ }
-{
-    [b[0], b[3], b[6], b[1], b[4], b[7], b[2], b[5], b[8]]
 }
 
 // The mean of a block and another one transposed.
@@ -76,20 +74,19 @@ pub fn averaged(a: [f64; 9], b: [f64; 9]) -> [f64; 9]
     ]
 }
 
-// The block of an atom with itself, from the sums over the other atoms: -(sums + transposed sums) / 2.
-pub fn balance(s: [f64; 9]) -> [f64; 9]
+// The on-site block by the acoustic sum rule, from the sums over the other atoms: -(sums + transposed sums) / 2.
+pub fn balance(s: [[f64; 3]; 3]) -> [f64; 9]
     ensures { λ r. ⌜ r ≡ nine.balance s ⌝ }
 {
-    let sums = [[s[0], s[1], s[2]], [s[3], s[4], s[5]], [s[6], s[7], s[8]]];
     [
-        -(sums[0][0] + sums[0][0]) / 2.0,
-        -(sums[0][1] + sums[1][0]) / 2.0,
-        -(sums[0][2] + sums[2][0]) / 2.0,
-        -(sums[1][0] + sums[0][1]) / 2.0,
-        -(sums[1][1] + sums[1][1]) / 2.0,
-        -(sums[1][2] + sums[2][1]) / 2.0,
-        -(sums[2][0] + sums[0][2]) / 2.0,
-        -(sums[2][1] + sums[1][2]) / 2.0,
-        -(sums[2][2] + sums[2][2]) / 2.0,
+        -(s[0][0] + s[0][0]) / 2.0,
+        -(s[0][1] + s[1][0]) / 2.0,
+        -(s[0][2] + s[2][0]) / 2.0,
+        -(s[1][0] + s[0][1]) / 2.0,
+        -(s[1][1] + s[1][1]) / 2.0,
+        -(s[1][2] + s[2][1]) / 2.0,
+        -(s[2][0] + s[0][2]) / 2.0,
+        -(s[2][1] + s[1][2]) / 2.0,
+        -(s[2][2] + s[2][2]) / 2.0,
     ]
 }

@@ -1,4 +1,4 @@
--- The counterpart of a block that is given by its atoms: the stored block of the atoms in another order. This is how a program finds it from the
+-- The counterpart of a block that is given by its atoms: the stored block of the atoms permuted. This is how a program finds it from the
 -- tables. Assumes nothing.
 use mathlib.Core.Path.{_≡_, refl, sym, ap, ap₂, _∙_}
 use Prim.Native.Nat.{ℕ, zero, suc, _+_, _*_, _<_}

@@ -8,7 +8,7 @@ use Rattle.lists.specs.Digits.{horner, room, rest, digits, rest-div, rest-horne
 use Rattle.tables.specs.Shifts.{Shifts, row, p2sAt, s2ppAt, nsymAt}
 use Rattle.places.specs.Places.{Leg, atom, dir, Place, shift, stored, opened, address, place, legsOf, size, dirs-below, atoms-legsOf, dirs-legsOf}
 
--- how many numbers a block of order m + 1 has
+-- how many numbers a block of rank m + 1 has
 unfoldable pub inBlock : ℕ → ℕ
 inBlock m = room 3 (suc m) 1
 

@@ -1,6 +1,6 @@
 -- A set in blocks, each with a counterpart, worked over pair by pair: block b and its counterpart are read, and both are written from what was read.
 -- Transposes exchange the two (`join` takes the other number), averages take their mean. Blocks that stay are passed over.
--- The loop visits the blocks in order and works at the lower block of each pair; what it leaves is said place by place from the old set only.
+-- The loop visits the blocks from first to last and works at the lower block of each pair; what it leaves is said place by place from the old set only.
 -- Assumes nothing.
 use mathlib.Core.Path.{_≡_, refl, sym, ap, ap₂, _∙_, subst}
 use mathlib.Core.Logic.{_⊎_, inl, inr}
@@ -23,7 +23,7 @@ pub record Blocks : Type 0 where
   pub B : ℕ
   pub c : ℕ
   pub other : ℕ → ℕ
-  pub turned : ℕ → ℕ
+  pub permuted : ℕ → ℕ
   pub stays : ℕ → Bool
 
 -- the counterparts come in pairs
@@ -31,12 +31,12 @@ pub record Paired (G : Blocks) : Type 0 where
   pub pos : 0 < G .c
   pub other-below : (b : ℕ) → b < G .B → G .other b < G .B
   pub other-undo : (b : ℕ) → b < G .B → G .other (G .other b) ≡ b
-  pub turned-below : (k : ℕ) → k < G .c → G .turned k < G .c
+  pub permuted-below : (k : ℕ) → k < G .c → G .permuted k < G .c
   pub stays-other : (b : ℕ) → b < G .B → G .stays (G .other b) ≡ G .stays b
 
 -- the place that trades with q
 unfoldable pub across : Blocks → ℕ → ℕ
-across G q = G .other (q / G .c) * G .c + G .turned (q % G .c)
+across G q = G .other (q / G .c) * G .c + G .permuted (q % G .c)
 
 module _ {A : Type 0} (z : A) (join : A → A → A) (G : Blocks) where
   -- what place q holds when its block and the counterpart are worked over
@@ -62,20 +62,20 @@ module _ {A : Type 0} (z : A) (join : A → A → A) (G : Blocks) where
 -- ---- the loop leaves that set
 
 module _ {A : Type 0} (z : A) (join : A → A → A) (G : Blocks) (P : Paired G) where
-  open Blocks G using (B, c, other, turned, stays)
+  open Blocks G using (B, c, other, permuted, stays)
 
   block-below : (q : ℕ) → q < B * c → q / c < B
   block-below q h = div-lt-iff-lt-mul (P .pos) .1 h
 
   across-below : (q : ℕ) → q < B * c → across G q < B * c
   unfolding across
-  across-below q h = in-row B c (other (q / c)) (turned (q % c)) (P .other-below (q / c) (block-below q h)) (P .turned-below (q % c) (mod-lt q (P .pos)))
+  across-below q h = in-row B c (other (q / c)) (permuted (q % c)) (P .other-below (q / c) (block-below q h)) (P .permuted-below (q % c) (mod-lt q (P .pos)))
 
   across-block : (q : ℕ) → across G q / c ≡ other (q / c)
   unfolding across
   across-block q =
-      mul-add-div-right (P .pos) (other (q / c)) (turned (q % c))
-      ∙ ap (λ x. other (q / c) + x) (div-eq-of-lt (P .turned-below (q % c) (mod-lt q (P .pos)))) ∙ add-zero (other (q / c))
+      mul-add-div-right (P .pos) (other (q / c)) (permuted (q % c))
+      ∙ ap (λ x. other (q / c) + x) (div-eq-of-lt (P .permuted-below (q % c) (mod-lt q (P .pos)))) ∙ add-zero (other (q / c))
 
   -- the visit at which place q is worked over
   abbrev first : ℕ → ℕ

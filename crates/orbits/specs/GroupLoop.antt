@@ -17,7 +17,7 @@ use Rattle.lists.specs.Elements.{All}
 use Rattle.lists.specs.Members.{In, all-in, least, least-le, least-in}
 use Rattle.tables.specs.Shifts.{Shifts, Laws}
 use Rattle.places.specs.Places.{size}
-use Rattle.places.specs.Orders.{Group}
+use Rattle.places.specs.Permutations.{Group}
 use Rattle.orbits.specs.Blockwise.{inBlock}
 use Rattle.orbits.specs.Symmetric.{firstBlock, symmetrized}
 use Rattle.orbits.specs.Symmetrizer.{imgs, groups, orbits, symmetrizes}

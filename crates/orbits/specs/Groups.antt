@@ -1,4 +1,4 @@
--- A group of blocks as a program works on it: the block of each order, the spots at which the orders' terms of one mean stand, the means of
+-- A group of blocks as a program works on it: the block of each permutation, the spots at which the permutations' terms of one mean stand, the means of
 -- a block, and the means written to all their spots. Assumes nothing.
 use mathlib.Core.Path.{_≡_, refl, sym, ap, ap₂, _∙_}
 use mathlib.Core.Bool.{false}
@@ -13,24 +13,33 @@ use Rattle.lists.specs.Digits.{room, quotient, remainder, in-row}
 use Rattle.lists.specs.Members.{In, in-all}
 use Rattle.tables.specs.Shifts.{Shifts, Laws}
 use Rattle.places.specs.Places.{Leg, stored, opened, address, place, size}
-use Rattle.places.specs.Orders.{taken, Order, Group}
+use Rattle.places.specs.Permutations.{taken, Permutation, Group}
 use Rattle.places.specs.Moves.{source}
 use Rattle.orbits.specs.Blockwise.{inBlock}
 use Rattle.orbits.specs.Counterparts.{across}
-use Rattle.orbits.specs.Transposed.{counterpart, turned, blocksBy, across-is, turned-is-below, in-block-pos, size-blocks}
+use Rattle.orbits.specs.Transposed.{counterpart, blocksBy, across-is, permuted-is-below, in-block-pos, size-blocks}
+use Rattle.blocks.specs.Permuted.{permuted}
 use Rattle.orbits.specs.Symmetric.{images}
 use Rattle.orbits.specs.Symmetrizer.{imgs, groups}
 use Rattle.orbits.specs.Spread.{setAll, meanOf, spread, blocksOf}
 
--- the blocks of the group of block n, one for each order
+-- the blocks of the group of block n, one for each permutation
 unfoldable pub groupBlocks : Shifts → ℕ → List (List ℕ) → ℕ → List ℕ
 groupBlocks S m os n = map (λ σ. counterpart S m σ n) os
 
--- where the terms of the mean at position k of the first block stand: in the block of each order, at the position turned by it
+-- b is none of the blocks
+abbrev pub Apart : ℕ → List ℕ → Type 0
+Apart b bs = All (λ a. a ≡ b → ⊥) bs
+
+abbrev pub Distinct : List ℕ → Type 0
+Distinct [] = Unit {0}
+Distinct (b ∷ bs) = Apart b bs × Distinct bs
+
+-- where the terms of the mean at position k of the first block stand: in the block of each permutation, at the position permuted by it
 unfoldable pub spots : ℕ → List (List ℕ) → List ℕ → ℕ → List ℕ
 spots m [] bs k = []
 spots m (σ ∷ os) [] k = []
-spots m (σ ∷ os) (b ∷ bs) k = (b * inBlock m + turned m σ k) ∷ spots m os bs k
+spots m (σ ∷ os) (b ∷ bs) k = (b * inBlock m + permuted m σ k) ∷ spots m os bs k
 
 -- the means of all positions
 unfoldable pub meanBlock : (List Float → Float) → ℕ → List (List ℕ) → List ℕ → List Float → List Float
@@ -45,17 +54,17 @@ spreadBlock m os bs v xs = times (inBlock m) (λ k. setAll (spots m os bs k) (ge
 -- ---- that is what the mean of a group is made of
 
 module _ (S : Shifts) (L : Laws S) (m : ℕ) (os : List (List ℕ)) (G : Group m os) where
-  -- the addresses of the legs at q in every order
-  pub images-are : (q : ℕ) → q < size S m → imgs S L m os G q ≡ map (λ σ. counterpart S m σ (q / inBlock m) * inBlock m + turned m σ (q % inBlock m)) os
+  -- the addresses of the legs at q in every permutation
+  pub images-are : (q : ℕ) → q < size S m → imgs S L m os G q ≡ map (λ σ. counterpart S m σ (q / inBlock m) * inBlock m + permuted m σ (q % inBlock m)) os
   unfolding images across source
   images-are q h =
-      map-same (Order m) (λ σ. address S (stored S (taken σ (opened S (place S m q))))) (λ σ. counterpart S m σ (q / inBlock m) * inBlock m + turned m σ (q % inBlock m)) os
-      (λ σ o. sym (across-is S L m σ o (λ b. false) q h)) (in-all (Order m) os (G .each))
+      map-same (Permutation m) (λ σ. address S (stored S (taken σ (opened S (place S m q))))) (λ σ. counterpart S m σ (q / inBlock m) * inBlock m + permuted m σ (q % inBlock m)) os
+      (λ σ o. sym (across-is S L m σ o (λ b. false) q h)) (in-all (Permutation m) os (G .each))
 
-  spots-are : (n k : ℕ) (rs : List (List ℕ)) → spots m rs (groupBlocks S m rs n) k ≡ map (λ σ. counterpart S m σ n * inBlock m + turned m σ k) rs
+  spots-are : (n k : ℕ) (rs : List (List ℕ)) → spots m rs (groupBlocks S m rs n) k ≡ map (λ σ. counterpart S m σ n * inBlock m + permuted m σ k) rs
   unfolding spots groupBlocks
   spots-are n k [] = refl
-  spots-are n k (σ ∷ rs) = ap (λ l. (counterpart S m σ n * inBlock m + turned m σ k) ∷ l) (spots-are n k rs)
+  spots-are n k (σ ∷ rs) = ap (λ l. (counterpart S m σ n * inBlock m + permuted m σ k) ∷ l) (spots-are n k rs)
 
   module _ (n : ℕ) (hn : n < room (S .nSatom) m (S .nPatom)) where
     place-below : (k : ℕ) → k < inBlock m → n * inBlock m + k < size S m
@@ -64,7 +73,7 @@ module _ (S : Shifts) (L : Laws S) (m : ℕ) (os : List (List ℕ)) (G : Group m
     pub images-spots : (k : ℕ) → k < inBlock m → imgs S L m os G (n * inBlock m + k) ≡ spots m os (groupBlocks S m os n) k
     images-spots k h =
         images-are (n * inBlock m + k) (place-below k h)
-        ∙ ap₂ (λ b j. map (λ σ. counterpart S m σ b * inBlock m + turned m σ j) os) (quotient (inBlock m) n k h) (remainder (inBlock m) n k h)
+        ∙ ap₂ (λ b j. map (λ σ. counterpart S m σ b * inBlock m + permuted m σ j) os) (quotient (inBlock m) n k h) (remainder (inBlock m) n k h)
         ∙ sym (spots-are n k os)
 
     -- the group worked out and written
@@ -88,11 +97,11 @@ module _ (S : Shifts) (L : Laws S) (m : ℕ) (os : List (List ℕ)) (G : Group m
     -- the blocks that are marked
     pub marked-are : blocksOf (groups S L m os G) n ≡ groupBlocks S m os n
     unfolding groupBlocks
-    marked-are = ap (map (λ r. r / inBlock m)) (start n ∙ images-spots 0 (in-block-pos m) ∙ spots-are n 0 os) ∙ each os (in-all (Order m) os (G .each))
+    marked-are = ap (map (λ r. r / inBlock m)) (start n ∙ images-spots 0 (in-block-pos m) ∙ spots-are n 0 os) ∙ each os (in-all (Permutation m) os (G .each))
       where
         start : (n : ℕ) → imgs S L m os G (n * inBlock m) ≡ imgs S L m os G (n * inBlock m + 0)
         start n = ap (imgs S L m os G) (omega arith)
 
-        each : (rs : List (List ℕ)) → All (Order m) rs → map (λ r. r / inBlock m) (map (λ σ. counterpart S m σ n * inBlock m + turned m σ 0) rs) ≡ map (λ σ. counterpart S m σ n) rs
+        each : (rs : List (List ℕ)) → All (Permutation m) rs → map (λ r. r / inBlock m) (map (λ σ. counterpart S m σ n * inBlock m + permuted m σ 0) rs) ≡ map (λ σ. counterpart S m σ n) rs
         each [] o = refl
-        each (σ ∷ rs) o = ap₂ _∷_ (quotient (inBlock m) (counterpart S m σ n) (turned m σ 0) (turned-is-below m σ 0 (o .0) (in-block-pos m))) (each rs (o .1))
+        each (σ ∷ rs) o = ap₂ _∷_ (quotient (inBlock m) (counterpart S m σ n) (permuted m σ 0) (permuted-is-below m σ 0 (o .0) (in-block-pos m))) (each rs (o .1))

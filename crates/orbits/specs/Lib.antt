@@ -4,11 +4,9 @@ pub mod BlockPairs
 pub mod Transposed
 pub mod Trading
 pub mod Symmetric
+pub mod Mean
 pub mod Spread
 pub mod Symmetrizer
-pub mod Turns
 pub mod Groups
 pub mod GroupLoop
-pub mod Scatter
 pub mod AtBlocks
-pub mod AnyOrder

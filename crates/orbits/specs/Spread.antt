@@ -1,6 +1,6 @@
--- The symmetrizer's loop, as the program runs it: over blocks in order, with a table of blocks that are done; a group is worked out at its first block
+-- The symmetrizer's loop, as the program runs it: over blocks from first to last, with a table of blocks that are done; a group is worked out at its first block
 -- and written to all its places, direction by direction. The invariant says in closed form what the set and the table hold after n blocks.
--- It is all about addresses: `imgs q` are the addresses of the legs at q in every order. Assumes nothing.
+-- It is all about addresses: `imgs q` are the addresses of the legs at q in every permutation. Assumes nothing.
 use mathlib.Core.Path.{_≡_, refl, sym, ap, ap₂, _∙_, subst}
 use mathlib.Core.Logic.{_⊎_, inl, inr}
 use mathlib.Core.Bool.{Bool, true, false, not, _&&_, _||_, cond}
@@ -16,8 +16,8 @@ use borrow.Author.Tests.{eqb-true, eq-eqb, ne-eqb, eqb-false, ltb-true, ltb-fals
 use Rattle.lists.specs.Tests.{and-fst, and-snd, both, split, not-both, refuted, same-test}
 use Rattle.lists.specs.Cases.{later}
 use Rattle.lists.specs.Elements.{All, map-same}
-use Rattle.lists.specs.Members.{In, Sub, all-in, in-all, keep, in-keep, keep-in, in-map, map-in, map-sub, least, greatest, least-le, least-in, least-same, greatest-le, greatest-in, oneOf, one-of, one-of-in}
-use Rattle.orbits.specs.Symmetric.{firstBlock, leader, leader-same}
+use Rattle.lists.specs.Members.{In, Sub, all-in, in-all, in-map, map-in, map-sub, least, greatest, least-le, least-in, least-same, oneOf, one-of, one-of-in}
+use Rattle.orbits.specs.Symmetric.{firstBlock, leader, leader-in, leader-block, leader-last, leader-same}
 
 -- a byte of the done table
 abbrev pub flag : Bool → ℕ
@@ -71,7 +71,7 @@ module _ {A : Type 0} where
       go (no e) true = rw (ne-eqb q r e)
       go (no e) false = rw (ne-eqb q r e) (getD-set-other l r q v d e)
 
--- ---- the groups: N addresses in B blocks of c; imgs q are the addresses of the legs at q in every order
+-- ---- the groups: N addresses in B blocks of c; imgs q are the addresses of the legs at q in every permutation
 
 pub record Groups : Type 0 where
   pub N : ℕ
@@ -154,21 +154,14 @@ module _ (G : Groups) (O : Orbits G) where
       least-same (map (λ a. a / c) (imgs q)) (map (λ a. a / c) (imgs r)) (O .blocks q r hq hr e) (O .blocks r q hr hq (sym e))
 
   -- the leader is one of the images, it lies in the first block, and no other image in that block is later
-  lead-kept : (q : ℕ) → q < N → In (lead q) (keep (λ a. eqb (a / c) (fb q)) (imgs q))
-  unfolding leader firstBlock
-  lead-kept q h =
-      let (a, i, e) = map-in (λ a. a / c) (imgs q) (fb q) (least-in (map (λ a. a / c) (imgs q)) (q / c) (in-map (λ a. a / c) (imgs q) q (O .own q h))) in
-      greatest-in (keep (λ a. eqb (a / c) (fb q)) (imgs q)) a (in-keep (λ a. eqb (a / c) (fb q)) (imgs q) a i (eq-eqb (a / c) (fb q) (sym e)))
-
   lead-in : (q : ℕ) → q < N → In (lead q) (imgs q)
-  lead-in q h = keep-in (λ a. eqb (a / c) (fb q)) (imgs q) (lead q) (lead-kept q h) .0
+  lead-in q h = leader-in c (imgs q) q (O .own q h)
 
   lead-block : (q : ℕ) → q < N → lead q / c ≡ fb q
-  lead-block q h = eqb-true (lead q / c) (fb q) (keep-in (λ a. eqb (a / c) (fb q)) (imgs q) (lead q) (lead-kept q h) .1)
+  lead-block q h = leader-block c (imgs q) q (O .own q h)
 
-  lead-last : (q r : ℕ) → In r (imgs q) → r / c ≡ fb q → r ≤ lead q
-  unfolding leader
-  lead-last q r i e = greatest-le (keep (λ a. eqb (a / c) (fb q)) (imgs q)) r (in-keep (λ a. eqb (a / c) (fb q)) (imgs q) r i (eq-eqb (r / c) (fb q) e))
+  lead-last : (q r : ℕ) → q < N → In r (imgs q) → r / c ≡ fb q → r ≤ lead q
+  lead-last q r h i e = leader-last c (imgs q) q (O .own q h) r i (e ∙ sym (lead-block q h))
 
   -- A group whose first block is n has n itself for its first block.
   fb-first : (q : ℕ) → q < N → fb (fb q * c) ≡ fb q
@@ -257,7 +250,7 @@ module _ (G : Groups) (O : Orbits G) where
                 let i : In q (imgs (n * c + d)) = rw s (O .back q p h (lead-in q h) q (O .own q h)) in
                 spread-at c d q h (mod-lt p (O .pos)) i (λ j a hj k.
                 let hq = place-below n j hn hj in
-                let t : n * c + j ≤ p = lead-last q (n * c + j) (O .back (n * c + j) q hq k (n * c + j) (O .own (n * c + j) hq)) (in-block n j hj ∙ sym e) in
+                let t : n * c + j ≤ p = lead-last q (n * c + j) h (O .back (n * c + j) q hq k (n * c + j) (O .own (n * c + j) hq)) (in-block n j hj ∙ sym e) in
                 omega arith)
                 ∙ mean-old d (mod-lt p (O .pos)) ∙ ap (meanOf z mean c imgs old) s
                 ∙ ap (λ b. cond b (new q) (getD old q z)) (sym (lt-ltb (fb q) (suc n) (omega arith)))

@@ -1,5 +1,5 @@
--- The symmetrizers, for every order of the set at once: what each place holds afterwards, and that all orders of any legs then read out the same.
--- `os` lists the orders in which the legs are read, in the program's order; `mean` makes one number of those reads. Assumes nothing.
+-- The symmetrizers, for every rank at once: what each place holds afterwards, and that all permutations of any legs then read out the same.
+-- `os` lists the permutations of the legs, in the order of the sum's terms; `mean` makes one number of those reads. Assumes nothing.
 use mathlib.Core.Path.{_≡_, refl, sym, ap, ap₂, _∙_, subst}
 use mathlib.Core.Logic.{_⊎_, inl, inr}
 use mathlib.Core.Bool.{Bool, true, false, not, _&&_, _||_, cond}
@@ -14,15 +14,15 @@ use Rattle.tables.specs.Shifts.{Shifts, Laws}
 use Rattle.lists.specs.Tab.{tab}
 use Rattle.lists.specs.Elements.{All, Below, pick, pick-pick, straight, pick-straight, map-same}
 use Rattle.lists.specs.Digits.{room}
-use Rattle.lists.specs.Members.{In, Sub, all-in, in-all, keep, in-keep, keep-in, in-map, map-in, map-sub, least, greatest, least-same, greatest-same, allOf, oneOf, alike, alike-true, all-of, one-of, members-say}
+use Rattle.lists.specs.Members.{In, Sub, all-in, in-all, keep, in-keep, keep-in, in-map, map-in, map-sub, least, greatest, least-le, least-in, greatest-le, greatest-in, least-same, greatest-same, allOf, oneOf, alike, alike-true, all-of, one-of, members-say}
 use Rattle.places.specs.Places.{Leg, Legs, Place, stored, opened, address, place, readOut, fill, size, readOut-fill, stored-place}
 use Rattle.orbits.specs.Blockwise.{inBlock}
-use Rattle.places.specs.Orders.{taken, Order, taken-legs, Group}
+use Rattle.places.specs.Permutations.{taken, Permutation, taken-legs, Group}
 use Rattle.places.specs.Moves.{source, source-stored}
 
 -- ---- what a place holds afterwards
 
--- the addresses of the legs in each of the orders
+-- the addresses of the legs in each of the permutations
 unfoldable pub images : Shifts → List (List ℕ) → List Leg → List ℕ
 images S os xs = map (λ σ. address S (stored S (taken σ xs))) os
 
@@ -34,6 +34,29 @@ firstBlock c qs = least (map (λ q. q / c) qs)
 unfoldable pub leader : ℕ → List ℕ → ℕ
 leader c qs = greatest (keep (λ q. eqb (q / c) (firstBlock c qs)) qs)
 
+-- It is one of the addresses, none of them lies in an earlier block, and none in its block is later.
+module _ (c : ℕ) (qs : List ℕ) (a : ℕ) (h : In a qs) where
+  leader-kept : In (leader c qs) (keep (λ q. eqb (q / c) (firstBlock c qs)) qs)
+  unfolding leader firstBlock
+  leader-kept =
+      let bs = map (λ q. q / c) qs in
+      let (q, i, e) = map-in (λ q. q / c) qs (least bs) (least-in bs (a / c) (in-map (λ q. q / c) qs a h)) in
+      greatest-in (keep (λ q. eqb (q / c) (least bs)) qs) q (in-keep (λ q. eqb (q / c) (least bs)) qs q i (eq-eqb (q / c) (least bs) (sym e)))
+
+  pub leader-in : In (leader c qs) qs
+  leader-in = keep-in (λ q. eqb (q / c) (firstBlock c qs)) qs (leader c qs) leader-kept .0
+
+  pub leader-block : leader c qs / c ≡ firstBlock c qs
+  leader-block = eqb-true (leader c qs / c) (firstBlock c qs) (keep-in (λ q. eqb (q / c) (firstBlock c qs)) qs (leader c qs) leader-kept .1)
+
+  pub leader-first : (q : ℕ) → In q qs → leader c qs / c ≤ q / c
+  leader-first q i = rw leader-block (unfold firstBlock in least-le (map (λ q. q / c) qs) (q / c) (in-map (λ q. q / c) qs q i))
+
+  pub leader-last : (q : ℕ) → In q qs → q / c ≡ leader c qs / c → q ≤ leader c qs
+  unfolding leader
+  leader-last q i e =
+      greatest-le (keep (λ q. eqb (q / c) (firstBlock c qs)) qs) q (in-keep (λ q. eqb (q / c) (firstBlock c qs)) qs q i (eq-eqb (q / c) (firstBlock c qs) (e ∙ leader-block)))
+
 module _ {A : Type 0} (z : A) (mean : List A → A) where
   -- the mean worked out from the legs at an address
   unfoldable pub meanAt : Shifts → ℕ → List (List ℕ) → List A → ℕ → A
@@ -43,9 +66,9 @@ module _ {A : Type 0} (z : A) (mean : List A → A) where
   unfoldable pub symmetrized : Shifts → ℕ → List (List ℕ) → List A → List A
   symmetrized S m os set = fill S m (λ ys. meanAt S m os set (leader (inBlock m) (images S os (opened S ys))))
 
--- ---- demand 3: all orders of any legs read out the same
+-- ---- demand 3: all permutations of any legs read out the same
 
--- what the leader is depends on the addresses, not on their order
+-- what the leader is depends on which addresses there are, not on how they are listed
 pub leader-same : (c : ℕ) (l k : List ℕ) → Sub l k → Sub k l → leader c l ≡ leader c k
 unfolding leader firstBlock
 leader-same c l k s t =
@@ -59,7 +82,7 @@ leader-same c l k s t =
         in-keep (λ q. eqb (q / c) (firstBlock c k)) b q (h q j) e
 
 module _ (S : Shifts) (L : Laws S) (m : ℕ) (os : List (List ℕ)) (G : Group m os) where
-  -- the addresses of legs in another order are the same addresses
+  -- the addresses of permuted legs are the same addresses
   pub images-sub : (τ : List ℕ) (xs : List Leg) → In τ os → Legs S m xs → Sub (images S os (taken τ xs)) (images S os xs)
   unfolding images
   images-sub τ xs t p q i =
@@ -79,8 +102,8 @@ module _ (S : Shifts) (L : Laws S) (m : ℕ) (os : List (List ℕ)) (G : Group m
   pub images-stored : (xs : List Leg) → Legs S m xs → images S os (opened S (stored S xs)) ≡ images S os xs
   unfolding images source
   images-stored xs p =
-      map-same (Order m) (λ σ. address S (stored S (taken σ (opened S (stored S xs))))) (λ σ. address S (stored S (taken σ xs))) os
-      (λ σ o. ap (address S) (source-stored S L m σ xs o p)) (in-all (Order m) os (G .each))
+      map-same (Permutation m) (λ σ. address S (stored S (taken σ (opened S (stored S xs))))) (λ σ. address S (stored S (taken σ xs))) os
+      (λ σ o. ap (address S) (source-stored S L m σ xs o p)) (in-all (Permutation m) os (G .each))
 
   module _ {A : Type 0} (z : A) (mean : List A → A) where
     pub symmetric : (set : List A) (τ : List ℕ) (xs : List Leg) → In τ os → Legs S m xs

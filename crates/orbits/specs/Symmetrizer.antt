@@ -14,7 +14,7 @@ use Rattle.lists.specs.Elements.{All, Below, pick, pick-map, straight, pick-str
 use Rattle.lists.specs.Digits.{horner, room, rest, digits, room-mul, rest-div, room-is-pos, rest-horner, rest-below, length-digits}
 use Rattle.lists.specs.Members.{In, Sub, in-map, map-in}
 use Rattle.places.specs.Places.{Leg, atom, dir, Fit, Legs, Place, shift, stored, opened, address, place, legsOf, at, fill, size, stored-place, stored-opened, opened-legs, place-place, address-place, place-address, address-below, length-fill, dirs-below, atoms-legsOf}
-use Rattle.places.specs.Orders.{taken, Order, taken-legs, Group}
+use Rattle.places.specs.Permutations.{taken, Permutation, taken-legs, Group}
 use Rattle.orbits.specs.Blockwise.{inBlock, blockAtoms, storedAtoms, openedAtoms, atoms-stored, atoms-opened, address-block, atoms-place, block-below}
 use Rattle.orbits.specs.Symmetric.{images, leader, meanAt, symmetrized, images-sub, images-sup, images-stored}
 use Rattle.orbits.specs.Spread.{Groups, Orbits, Written, finish, meanOf}
@@ -26,7 +26,7 @@ module _ (S : Shifts) (L : Laws S) (m : ℕ) (os : List (List ℕ)) (G : Group m
   legs-at : (q : ℕ) → q < size S m → Legs S m (opened S (place S m q))
   legs-at q h = opened-legs S L m (place S m q) (place-place S m q h)
 
-  -- an image is the address of the stored legs in some order
+  -- an image is the address of the stored legs in some permutation
   image-of : (q r : ℕ) → In r (imgs q) → (σ : List ℕ) × In σ os × (r ≡ address S (stored S (taken σ (opened S (place S m q)))))
   unfolding images
   image-of q r i = map-in (λ σ. address S (stored S (taken σ (opened S (place S m q))))) os r i
@@ -38,7 +38,7 @@ module _ (S : Shifts) (L : Laws S) (m : ℕ) (os : List (List ℕ)) (G : Group m
   image-place : (q : ℕ) (σ : List ℕ) → q < size S m → In σ os → Place S m (stored S (taken σ (opened S (place S m q))))
   image-place q σ h s = stored-place S L m (taken σ (opened S (place S m q))) (taken-legs S m σ (opened S (place S m q)) (G .each σ s) (legs-at q h))
 
-  -- the images of an image: those of the legs in another order
+  -- the images of an image: those of the permuted legs
   imgs-image : (q : ℕ) (σ : List ℕ) → q < size S m → In σ os
       → imgs (address S (stored S (taken σ (opened S (place S m q))))) ≡ images S os (taken σ (opened S (place S m q)))
   imgs-image q σ h s =

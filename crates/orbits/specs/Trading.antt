@@ -15,11 +15,12 @@ use Rattle.lists.specs.Elements.{All, all-at, all-map, Below, pick, getD-map, l
 use Rattle.lists.specs.Digits.{horner, room, rest, digits, rest-horner, digits-horner, rest-below, digits-below, length-digits}
 use Rattle.tables.specs.Shifts.{Shifts, Laws, row, p2sAt, s2ppAt, nsymAt, isNull, nsym-p2s}
 use Rattle.places.specs.Places.{Leg, atom, Place, at, fill, size, place, place-place, atoms-below}
-use Rattle.places.specs.Orders.{taken, Order}
+use Rattle.places.specs.Permutations.{taken, Permutation}
 use Rattle.places.specs.Moves.{source, moved, stays, traded}
 use Rattle.orbits.specs.Blockwise.{inBlock, blockAtoms, storedAtoms, openedAtoms, atomsAt}
 use Rattle.orbits.specs.Counterparts.{Blocks, Paired, visit, allWorked, loop-leaves}
-use Rattle.orbits.specs.Transposed.{counterpart, turned, blocksBy, size-blocks, counterpart-below, counterpart-undo, paired, worked-is}
+use Rattle.orbits.specs.Transposed.{counterpart, blocksBy, size-blocks, counterpart-below, counterpart-undo, paired, worked-is}
+use Rattle.blocks.specs.Permuted.{permuted}
 
 -- the number of the counterpart takes the place of one's own
 abbrev pub theOther : {A : Type 0} → A → A → A
@@ -34,7 +35,7 @@ staysAt S m i b = stays S (rest (S .nSatom) m b) (getD (digits (S .nSatom) m b) 
 
 -- σ exchanges leg 0 with leg i + 1
 pub record Trades (m i : ℕ) (σ : List ℕ) : Type 0 where
-  pub isOrder : Order m σ
+  pub isOrder : Permutation m σ
   pub leg : i < m
   pub first : getD σ 0 0 ≡ suc i
   pub second : getD σ (suc i) 0 ≡ 0
@@ -43,7 +44,7 @@ pub record Trades (m i : ℕ) (σ : List ℕ) : Type 0 where
 module _ (S : Shifts) (L : Laws S) where
   -- ---- every block
 
-  module _ (m : ℕ) (σ : List ℕ) (o : Order m σ) (twice : (xs : List Leg) → length xs ≡ suc m → taken σ (taken σ xs) ≡ xs) {A : Type 0} (z : A) where
+  module _ (m : ℕ) (σ : List ℕ) (o : Permutation m σ) (twice : (xs : List Leg) → length xs ≡ suc m → taken σ (taken σ xs) ≡ xs) {A : Type 0} (z : A) where
     pub moves : (old : List A) → length old ≡ size S m → times (room (S .nSatom) m (S .nPatom)) (visit z theOther (blocksBy S m σ never)) old ≡ moved z S m σ old
     unfolding moved
     moves old e =
@@ -105,7 +106,7 @@ module _ (S : Shifts) (L : Laws S) where
       hj : partner b < S .nSatom
       hj = all-at (λ k. k < S .nSatom) (digits (S .nSatom) m b) i 0 hds (rw (length-digits (S .nSatom) m b) (T .leg))
 
-      -- the legs' atoms in the order σ: leg i + 1 first, and leg 0's representative at i + 1
+      -- the legs' atoms permuted by σ: leg i + 1 first, and leg 0's representative at i + 1
       abbrev atoms : List ℕ
       atoms = pick 0 σ (openedAtoms S (atomsAt S m b))
 

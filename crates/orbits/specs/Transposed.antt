@@ -1,5 +1,5 @@
--- Transposes block by block: where two legs trade, each block has a counterpart, and the places of the one stand turned in the other.
--- For any order of the legs that undoes itself, at every order of the set. Assumes nothing.
+-- Transposes block by block: where two legs trade, each block has a counterpart, and the places of the one stand permuted in the other.
+-- For any permutation of the legs that undoes itself, at every rank. Assumes nothing.
 use mathlib.Core.Path.{_≡_, refl, sym, ap, ap₂, _∙_, subst}
 use mathlib.Core.Bool.{Bool, true, false, not, _&&_, _||_, cond}
 use Prim.Native.Nat.{ℕ, zero, suc, _+_, _*_, _/_, _%_, _≤_, _<_}
@@ -14,22 +14,19 @@ use Rattle.lists.specs.Elements.{Below, pick, pick-map, length-pick, all-pick}
 use Rattle.lists.specs.Digits.{quotient, horner, room, rest, digits, room-mul, room-is-pos, length-digits, digits-below, digits-mod, horner-split, horner-zero}
 use Rattle.tables.specs.Shifts.{Shifts, Laws}
 use Rattle.places.specs.Places.{Leg, atom, dir, Legs, Place, stored, opened, address, place, at, fill, size, stored-place, stored-opened, opened-legs, place-place, address-place, place-address, address-below}
-use Rattle.places.specs.Orders.{taken, Order, taken-legs}
+use Rattle.places.specs.Permutations.{taken, Permutation, taken-legs}
 use Rattle.places.specs.Moves.{source, source-stored, moved, stays, traded}
+use Rattle.blocks.specs.Permuted.{permuted}
 use Rattle.orbits.specs.Blockwise.{inBlock, blockAtoms, storedAtoms, openedAtoms, atomsAt, atoms-stored, atoms-opened, atoms-of, dirs-stored, dirs-opened, dirs-of, address-is, address-block, block-below}
 use Rattle.orbits.specs.Counterparts.{Blocks, Paired, across, joined, allWorked}
 
--- the block that trades with block b: its atoms in the order σ
+-- the block that trades with block b: its atoms permuted by σ
 unfoldable pub counterpart : Shifts → ℕ → List ℕ → ℕ → ℕ
 unfolding blockAtoms storedAtoms openedAtoms atomsAt
 counterpart S m σ b = blockAtoms S (storedAtoms S (pick 0 σ (openedAtoms S (atomsAt S m b))))
 
--- where position k of a block stands in the counterpart: its directions in the order σ
-unfoldable pub turned : ℕ → List ℕ → ℕ → ℕ
-turned m σ k = horner 3 0 (pick 0 σ (digits 3 (suc m) k))
-
 abbrev pub blocksBy : Shifts → ℕ → List ℕ → (ℕ → Bool) → Blocks
-blocksBy S m σ stay = record { B = room (S .nSatom) m (S .nPatom); c = inBlock m; other = counterpart S m σ; turned = turned m σ; stays = stay }
+blocksBy S m σ stay = record { B = room (S .nSatom) m (S .nPatom); c = inBlock m; other = counterpart S m σ; permuted = permuted m σ; stays = stay }
 
 pub size-blocks : (S : Shifts) (m : ℕ) → size S m ≡ room (S .nSatom) m (S .nPatom) * inBlock m
 unfolding size inBlock
@@ -39,9 +36,9 @@ pub in-block-pos : (m : ℕ) → 0 < inBlock m
 unfolding inBlock
 in-block-pos m = room-is-pos 3 (suc m) 1 (lit< tt) (lit< tt)
 
-pub turned-is-below : (m : ℕ) (σ : List ℕ) (k : ℕ) → Order m σ → k < inBlock m → turned m σ k < inBlock m
-unfolding turned inBlock
-turned-is-below m σ k o h =
+pub permuted-is-below : (m : ℕ) (σ : List ℕ) (k : ℕ) → Permutation m σ → k < inBlock m → permuted m σ k < inBlock m
+unfolding permuted inBlock
+permuted-is-below m σ k o h =
     let ds = digits 3 (suc m) k in
     let b : Below 3 ds = digits-below 3 (suc m) 1 k h in
     let l : length ds ≡ suc m = length-digits 3 (suc m) k in
@@ -51,7 +48,7 @@ turned-is-below m σ k o h =
 abbrev π : Shifts → ℕ → List ℕ → ℕ → ℕ
 π S m σ q = address S (source S σ (place S m q))
 
-module _ (S : Shifts) (L : Laws S) (m : ℕ) (σ : List ℕ) (o : Order m σ) where
+module _ (S : Shifts) (L : Laws S) (m : ℕ) (σ : List ℕ) (o : Permutation m σ) where
   legs-at : (q : ℕ) → q < size S m → Legs S m (opened S (place S m q))
   legs-at q h = opened-legs S L m (place S m q) (place-place S m q h)
 
@@ -77,9 +74,9 @@ module _ (S : Shifts) (L : Laws S) (m : ℕ) (σ : List ℕ) (o : Order m σ) wh
       dirs-stored S (taken σ (opened S ys))
       ∙ sym (pick-map (0, 0) 0 dir σ (opened S ys) (rw (legs-at q h .0) (o .1))) ∙ ap (pick 0 σ) (dirs-opened S ys ∙ dirs-of S m q)
 
-  -- THE POINT: the place that trades with q stands turned in the counterpart of q's block
+  -- THE POINT: the place that trades with q stands permuted in the counterpart of q's block
   pub across-is : (stay : ℕ → Bool) (q : ℕ) → q < size S m → across (blocksBy S m σ stay) q ≡ π S m σ q
-  unfolding across counterpart turned inBlock
+  unfolding across counterpart permuted inBlock
   across-is stay q h =
       let c = room 3 (suc m) 1 in
       let ds = pick 0 σ (digits 3 (suc m) q) in
@@ -92,7 +89,7 @@ module _ (S : Shifts) (L : Laws S) (m : ℕ) (σ : List ℕ) (o : Order m σ) wh
 
   across-block : (stay : ℕ → Bool) (q : ℕ) → across (blocksBy S m σ stay) q / inBlock m ≡ counterpart S m σ (q / inBlock m)
   unfolding across
-  across-block stay q = quotient (inBlock m) (counterpart S m σ (q / inBlock m)) (turned m σ (q % inBlock m)) (turned-is-below m σ (q % inBlock m) o (mod-lt q (in-block-pos m)))
+  across-block stay q = quotient (inBlock m) (counterpart S m σ (q / inBlock m)) (permuted m σ (q % inBlock m)) (permuted-is-below m σ (q % inBlock m) o (mod-lt q (in-block-pos m)))
 
   block-start : (b : ℕ) → b < room (S .nSatom) m (S .nPatom) → b * inBlock m < size S m
   block-start b h = rw (size-blocks S m) (mul-lt-mul-of-pos-right h (in-block-pos m))
@@ -106,8 +103,8 @@ module _ (S : Shifts) (L : Laws S) (m : ℕ) (σ : List ℕ) (o : Order m σ) wh
   pub counterpart-below : (b : ℕ) → b < room (S .nSatom) m (S .nPatom) → counterpart S m σ b < room (S .nSatom) m (S .nPatom)
   counterpart-below b h = rw (other-is b h) (block-below S m (π S m σ (b * inBlock m)) (π-below (b * inBlock m) (block-start b h)))
 
--- an order that undoes itself
-module _ (S : Shifts) (L : Laws S) (m : ℕ) (σ : List ℕ) (o : Order m σ) (twice : (xs : List Leg) → length xs ≡ suc m → taken σ (taken σ xs) ≡ xs) where
+-- a permutation that undoes itself
+module _ (S : Shifts) (L : Laws S) (m : ℕ) (σ : List ℕ) (o : Permutation m σ) (twice : (xs : List Leg) → length xs ≡ suc m → taken σ (taken σ xs) ≡ xs) where
   source-undo : (ys : List Leg) → Place S m ys → source S σ (source S σ ys) ≡ ys
   source-undo ys p =
       let xs = opened S ys in
@@ -137,7 +134,7 @@ module _ (S : Shifts) (L : Laws S) (m : ℕ) (σ : List ℕ) (o : Order m σ) (t
       pos = in-block-pos m;
       other-below = counterpart-below S L m σ o;
       other-undo = counterpart-undo;
-      turned-below = λ k h. turned-is-below m σ k o h;
+      permuted-below = λ k h. permuted-is-below m σ k o h;
       stays-other = same;
     }
 

@@ -1,13 +1,13 @@
 -- The address rule and the read-out spelled out at second, third and fourth order, and the numbers of blocks. Assumes nothing.
 use mathlib.Core.Path.{_≡_, refl, sym, ap, _∙_}
-use Prim.Native.Nat.{ℕ, zero, suc, _+_, _*_, _≤_, _<_}
+use Prim.Native.Nat.{ℕ, zero, suc, _+_, _*_, _^_, _≤_, _<_}
 use native.Mathlib.Nat.{mul-le-mul-left, mul-le-mul-right}
 use native.Mathlib.Omega.{arith}
 use mathlib.Core.List.{List, [], _∷_, map}
 use lib.ListN.{length, getD}
 use lib.Ieee.{Float, nan}
 use Rattle.lists.specs.Elements.{Below}
-use Rattle.lists.specs.Digits.{horner, room, horner-below, room-mul}
+use Rattle.lists.specs.Digits.{horner, room, horner-below, room-mul, room-power}
 use Rattle.blocks.specs.Block.{block, getD-block, fits}
 use Rattle.tables.specs.Shifts.{Shifts, row, s2ppAt, nsymAt}
 use Rattle.places.specs.Places.{Leg, shift, stored, address, size, at, readOut}
@@ -15,6 +15,10 @@ use Rattle.places.specs.Places.{Leg, shift, stored, address, size, at, r
 -- ---- how many numbers a set has: n_patom × n_satom^m blocks of 9, 27 or 81
 
 module _ (S : Shifts) where
+  pub size-power : (m : ℕ) → size S m ≡ S .nPatom * S .nSatom ^ m * 3 ^ suc m
+  unfolding size
+  size-power m = room-power 3 (suc m) (room (S .nSatom) m (S .nPatom)) ∙ ap (λ x. x * 3 ^ suc m) (room-power (S .nSatom) m (S .nPatom))
+
   pub size2 : size S 1 ≡ S .nPatom * S .nSatom * 9
   unfolding size room
   size2 = omega arith

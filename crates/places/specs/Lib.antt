@@ -1,7 +1,7 @@
 pub mod Places
 pub mod Addresses
 pub mod ReadOuts
-pub mod Orders
+pub mod Permutations
 pub mod Moves
 pub mod Whole
 pub mod Values

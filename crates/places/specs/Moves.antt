@@ -1,4 +1,4 @@
--- A compact set with its legs taken in another order: what every transpose leaves, at every order of the set. Assumes nothing.
+-- A compact set with its legs permuted: what every transpose leaves, at every rank. Assumes nothing.
 use mathlib.Core.Path.{_≡_, refl, sym, ap, _∙_}
 use mathlib.Core.Bool.{Bool, true, false, not, _&&_, cond}
 use Prim.Native.Nat.{ℕ, zero, suc, _<_}
@@ -12,10 +12,10 @@ use Rattle.lists.specs.Tests.{not-both, refuted, says}
 use Rattle.lists.specs.Elements.{All, all-at, pick-map, straight, pick-straight}
 use Rattle.tables.specs.Shifts.{Shifts, Laws, NoHalfShift, row, p2sAt, nsymAt, isNull, swaps-null}
 use Rattle.places.specs.Places.{Leg, atom, dir, Fit, Legs, Place, shift, stored, opened, at, readOut, fill, size, length-fill, stored-shift, opened-stored, stored-place, readOut-fill}
-use Rattle.places.specs.Orders.{taken-legs}
-pub use Rattle.places.specs.Orders.{taken, Order}
+use Rattle.places.specs.Permutations.{taken-legs}
+pub use Rattle.places.specs.Permutations.{taken, Permutation}
 
--- ---- the set moved by an order: the true transpose
+-- ---- the set moved by a permutation of the legs: the true transpose
 
 -- the place whose number comes to stand at ys
 unfoldable pub source : Shifts → List ℕ → List Leg → List Leg
@@ -31,7 +31,8 @@ module _ {A : Type 0} (z : A) where
 unfoldable pub stays : Shifts → ℕ → ℕ → Bool
 stays S p j = not (isNull S (nsymAt S j)) && (eqb (row S (nsymAt S j) j) (p2sAt S p) && eqb (row S (nsymAt S j) (p2sAt S p)) j)
 
--- the order that type t of third order exchanges: pairs 0 and 1, 0 and 2, 1 and 2; any other type changes nothing
+-- The permutation of the legs that type t of third order is: it exchanges pairs 0 and 1, 0 and 2, or 1 and 2; any other type changes
+-- nothing. Document 01 calls it the order that a list of transposes spells.
 unfoldable pub order : ℕ → List ℕ
 order zero = 1 ∷ 0 ∷ 2 ∷ []
 order (suc zero) = 2 ∷ 1 ∷ 0 ∷ []
@@ -81,8 +82,8 @@ module _ {A : Type 0} (z : A) (S : Shifts) where
   length-traded m k σ set = length-fill S m _
 
 module _ (S : Shifts) (L : Laws S) where
-  -- to reorder the place is to reorder the legs
-  pub source-stored : (m : ℕ) (σ : List ℕ) (xs : List Leg) → Order m σ → Legs S m xs → source S σ (stored S xs) ≡ stored S (taken σ xs)
+  -- to permute the place is to permute the legs
+  pub source-stored : (m : ℕ) (σ : List ℕ) (xs : List Leg) → Permutation m σ → Legs S m xs → source S σ (stored S xs) ≡ stored S (taken σ xs)
   unfolding source
   source-stored m σ [] o p = absurd (suc-ne-zero _ (sym (p .0)))
   source-stored m σ (x ∷ xs) o p =
@@ -94,8 +95,8 @@ module _ (S : Shifts) (L : Laws S) where
       ∙ ap (stored S) e ∙ stored-shift S L t (taken σ (x ∷ xs)) (L .nsym-below (atom x) hx) (taken-legs S m σ (x ∷ xs) o p .1)
 
   module _ {A : Type 0} (z : A) where
-    -- a set moved by σ reads out what stood at the legs in the order σ
-    pub readOut-moved : (m : ℕ) (σ : List ℕ) (set : List A) (xs : List Leg) → Order m σ → Legs S m xs
+    -- a set moved by σ reads out what stood at the legs permuted by σ
+    pub readOut-moved : (m : ℕ) (σ : List ℕ) (set : List A) (xs : List Leg) → Permutation m σ → Legs S m xs
         → readOut z S (moved z S m σ set) xs ≡ readOut z S set (taken σ xs)
     unfolding moved readOut
     readOut-moved m σ set xs o p =
@@ -121,7 +122,7 @@ module _ (S : Shifts) (L : Laws S) where
   place-other m k (y ∷ ys) h p = all-at (Fit S) ys k (0, 0) (p .3) (rw (p .0) h) .0
 
   module _ {A : Type 0} (z : A) (nh : NoHalfShift S) where
-    pub readOut-traded : (m k : ℕ) (σ : List ℕ) (set : List A) (xs : List Leg) → k < m → Order m σ → Legs S m xs
+    pub readOut-traded : (m k : ℕ) (σ : List ℕ) (set : List A) (xs : List Leg) → k < m → Permutation m σ → Legs S m xs
         → readOut z S (traded z S m (suc k) σ set) xs ≡ readOut z S set (taken σ xs)
     unfolding traded readOut
     readOut-traded m k σ set xs h o p =

@@ -1,6 +1,6 @@
--- The places of a set, for every order at once (document 01, "Shift tables"): where each number stands, and what the read-out is.
--- A leg is an atom with a direction. A compact set of order m + 1 holds one number for each place; a place is m + 1 legs, of which the first
--- has an atom of the primitive cell and the others have atoms of the supercell. Orders two, three and four are m = 1, 2, 3.
+-- The places of a set, for every rank at once (document 01, "Shift tables"): where each number stands, and what the read-out is.
+-- A leg is an atom with a direction. A compact set of rank m + 1 holds one number for each place; a place is m + 1 legs, of which the first
+-- has an atom of the primitive cell and the others have atoms of the supercell. Second, third and fourth order are m = 1, 2, 3.
 -- The definitions come first, their laws below; Addresses.antt spells both out at second, third and fourth order. Assumes nothing.
 use mathlib.Core.Path.{_≡_, refl, sym, ap, ap₂, _∙_, subst}
 use Prim.Native.Nat.{ℕ, zero, suc, _<_}
@@ -44,7 +44,7 @@ unfoldable pub address : Shifts → List Leg → ℕ
 address S [] = 0
 address S (y ∷ ys) = horner 3 (horner (S .nSatom) (atom y) (map atom ys)) (dir y ∷ map dir ys)
 
--- how many numbers a set of order m + 1 has: n_patom × n_satom × … × n_satom × 3 × … × 3
+-- how many numbers a set of rank m + 1 has: n_patom × n_satom^m × 3^(m + 1) (size-power in Addresses)
 unfoldable pub size : Shifts → ℕ → ℕ
 size S m = room 3 (suc m) (room (S .nSatom) m (S .nPatom))
 

@@ -10,12 +10,16 @@ use Rattle.lists.specs.Digits.{horner, room, in-row, horner-below}
 use Rattle.lists.specs.Elements.{All, Below, all-map, map-same}
 use Rattle.tables.specs.Conditions.{indexAt, Readable, IndexTable, read}
 use Rattle.tables.specs.Shifts.{Shifts, row, s2ppAt, nsymAt}
-use Rattle.tables.specs.Compact.{ShiftTables, shiftsOf, Fit, perms-is, s2pp-is, nsym-is}
+use Rattle.tables.specs.Compact.{ShiftTables, shiftTables, shiftsOf, Fit, perms-is, s2pp-is, nsym-is}
 use Rattle.places.specs.Addresses.{storedBlock}
 
--- The number of the stored block for atom i and then js: the block at s2pp[i] and the images of js under row nsym_list[i].
+-- the tables that a read-out looks at; p2s and the other two counts are not among them
+abbrev readTables : ℕ → List ℤ → List ℤ → List ℤ → ShiftTables
+readTables n s2pp nsymList perms = shiftTables [] s2pp nsymList perms n 0 0
+
+-- storedBlock of these, as a call is given them
 unfoldable pub storedIn : ℕ → List ℤ → List ℤ → List ℤ → ℕ → List ℕ → ℕ
-storedIn n s2pp nsymList perms i js = horner n (indexAt s2pp i) (map (λ j. indexAt perms (indexAt nsymList i * n + j)) js)
+storedIn n s2pp nsymList perms i js = storedBlock (shiftsOf (readTables n s2pp nsymList perms)) i js
 
 -- tables that passed refusals 1, 2 and 3, as far as a read-out reads them
 pub record Tables (n : ℕ) (s2pp nsymList perms : List ℤ) : Type 0 where
@@ -40,16 +44,22 @@ tables limit T h F = record {
   perms-fit = F .perms-fit;
 }
 
--- it is the block of the definition
+-- it is the block of the call's own tables
 pub stored-in : (T : ShiftTables) (i : ℕ) (js : List ℕ) → storedIn (T .nSatom) (T .s2pp) (T .nsymList) (T .perms) i js ≡ storedBlock (shiftsOf T) i js
+unfolding storedIn storedBlock row s2ppAt nsymAt
+stored-in T i js = refl
+
+-- it is what the entries say: the block at s2pp[i] and the images of js under row nsym_list[i]
+pub stored-read : (n : ℕ) (s2pp nsymList perms : List ℤ) (i : ℕ) (js : List ℕ)
+    → storedIn n s2pp nsymList perms i js ≡ horner n (indexAt s2pp i) (map (λ j. indexAt perms (indexAt nsymList i * n + j)) js)
 unfolding storedIn storedBlock
-stored-in T i js =
-    ap₂ (horner (T .nSatom)) (s2pp-is T i)
-    (images js ∙ ap (λ t. map (row (shiftsOf T) t) js) (nsym-is T i))
+stored-read n s2pp nsymList perms i js =
+    let T : ShiftTables = readTables n s2pp nsymList perms in
+    sym (ap₂ (horner n) (s2pp-is T i) (images (indexAt nsymList i) js ∙ ap (λ t. map (row (shiftsOf T) t) js) (nsym-is T i)))
   where
-    images : (js : List ℕ) → map (λ j. indexAt (T .perms) (indexAt (T .nsymList) i * T .nSatom + j)) js ≡ map (row (shiftsOf T) (indexAt (T .nsymList) i)) js
-    images [] = refl
-    images (j ∷ js) = ap₂ _∷_ (perms-is T (indexAt (T .nsymList) i) j) (images js)
+    images : (t : ℕ) (js : List ℕ) → map (λ j. indexAt perms (t * n + j)) js ≡ map (row (shiftsOf (readTables n s2pp nsymList perms)) t) js
+    images t [] = refl
+    images t (j ∷ js) = ap₂ _∷_ (perms-is (readTables n s2pp nsymList perms) t j) (images t js)
 
 -- ---- what is read
 
@@ -75,8 +85,7 @@ module _ {n : ℕ} {s2pp nsymList perms : List ℤ} (T : Tables n s2pp nsymList 
 
   -- the stored block is one of the set's
   pub stored-below : (js : List ℕ) → Below n js → storedIn n s2pp nsymList perms i js < room n (length js) (T .nPatom)
-  unfolding storedIn
   stored-below js b =
       let f : ℕ → ℕ = λ j. indexAt perms (indexAt nsymList i * n + j) in
-      rw (length-map js f) at
-      (horner-below n (T .nPatom) (indexAt s2pp i) (map f js) (s2pp-read .1) (all-map (λ j. j < n) (λ j. j < n) f js (λ j g. perms-read j g .1) b))
+      rw (stored-read n s2pp nsymList perms i js) (rw (length-map js f) at
+      (horner-below n (T .nPatom) (indexAt s2pp i) (map f js) (s2pp-read .1) (all-map (λ j. j < n) (λ j. j < n) f js (λ j g. perms-read j g .1) b)))

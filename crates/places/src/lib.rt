@@ -1,8 +1,8 @@
-// The one address rule of every order, in code: no other crate has an address sum of its own.
+// The one address rule of every rank, in code.
 // A block of numbers is named by its number; crate blocks reads and writes it by that.
 ghost use mathlib.Core.Path.{_≡_};
 ghost use mathlib.Core.List.{[], _∷_};
-ghost use Prim.Native.Nat.{_+_, _*_, _≤_, _<_};
+ghost use Prim.Native.Nat.{_+_, _*_, _/_, _%_, _≤_, _<_};
 ghost use Rattle.lists.specs.Digits.{horner};
 ghost use Rattle.places.specs.ReadOuts.{Tables, storedIn};
 use tables::atoms::PrimAtom;
@@ -11,36 +11,29 @@ use tables::atoms::nsym_at;
 use tables::atoms::perms_at;
 use tables::atoms::s2pp_at;
 
-// Place a of part b, where each part has n places: one more digit of an address.
-fn place_in(b: usize, n: usize, a: usize) -> usize
-    requires { ⌜ (b < 1073741824) × (n ≤ 1024) × (a < n) ⌝ }
+// One leg more: of the blocks that block b of the legs before it is divided into, one for each of n atoms, the one of atom a. A place in
+// a table of rows of n entries is the same sum, and so is a position inside a block, with directions for atoms. The number of every block
+// is made by this function; crate blocks has the starts of blocks, crate tables the places in the rows of perms.
+pub fn with_leg(b: usize, n: usize, a: usize) -> usize
+    requires { ⌜ b * n + a < 4611686018427387904 ⌝ }
     ensures { λ r. ⌜ r ≡ b * n + a ⌝ }
 {
     b * n + a
 }
 
-// The number of the block of first atom a and then j, of n atoms.
-fn number2(a: usize, j: SuperAtom, n: usize) -> usize
-    requires { ⌜ (n ≤ 1024) × (a < 1024) × (j .0 < n) ⌝ }
-    ensures { λ r. ⌜ r ≡ horner n a (j .0 ∷ []) ⌝ }
+// The other way: the last leg's atom of block b, and the block of the legs before it.
+pub fn last_leg(b: usize, n: usize) -> usize
+    requires { ⌜ 0 < n ⌝ }
+    ensures { λ r. ⌜ r ≡ b % n ⌝ }
 {
-    place_in(a, n, j.0)
+    b % n
 }
 
-// The same for j and k.
-fn number3(a: usize, j: SuperAtom, k: SuperAtom, n: usize) -> usize
-    requires { ⌜ (n ≤ 1024) × (a < 1024) × (j .0 < n) × (k .0 < n) ⌝ }
-    ensures { λ r. ⌜ r ≡ horner n a (j .0 ∷ k .0 ∷ []) ⌝ }
+pub fn legs_before(b: usize, n: usize) -> usize
+    requires { ⌜ 0 < n ⌝ }
+    ensures { λ r. ⌜ r ≡ b / n ⌝ }
 {
-    place_in(number2(a, j, n), n, k.0)
-}
-
-// The same for j, k and l.
-fn number4(a: usize, j: SuperAtom, k: SuperAtom, l: SuperAtom, n: usize) -> usize
-    requires { ⌜ (n ≤ 1024) × (a < 1024) × (j .0 < n) × (k .0 < n) × (l .0 < n) ⌝ }
-    ensures { λ r. ⌜ r ≡ horner n a (j .0 ∷ k .0 ∷ l .0 ∷ []) ⌝ }
-{
-    place_in(number3(a, j, k, n), n, l.0)
+    b / n
 }
 
 // Block (p, j) of a compact set of second order.
@@ -48,7 +41,7 @@ pub fn block2(p: PrimAtom, j: SuperAtom, n_satom: usize) -> usize
     requires { ⌜ («n_satom» ≤ 1024) × (p .0 < 1024) × (j .0 < «n_satom») ⌝ }
     ensures { λ r. ⌜ r ≡ horner «n_satom» (p .0) (j .0 ∷ []) ⌝ }
 {
-    number2(p.0, j, n_satom)
+    with_leg(p.0, n_satom, j.0)
 }
 
 // Block (p, j, k) of a compact set of third order.
@@ -56,7 +49,7 @@ pub fn block3(p: PrimAtom, j: SuperAtom, k: SuperAtom, n_satom: usize) -> usize
     requires { ⌜ («n_satom» ≤ 1024) × (p .0 < 1024) × (j .0 < «n_satom») × (k .0 < «n_satom») ⌝ }
     ensures { λ r. ⌜ r ≡ horner «n_satom» (p .0) (j .0 ∷ k .0 ∷ []) ⌝ }
 {
-    number3(p.0, j, k, n_satom)
+    with_leg(block2(p, j, n_satom), n_satom, k.0)
 }
 
 // Block (p, j, k, l) of a compact set of fourth order.
@@ -64,7 +57,7 @@ pub fn block4(p: PrimAtom, j: SuperAtom, k: SuperAtom, l: SuperAtom, n_satom: us
     requires { ⌜ («n_satom» ≤ 1024) × (p .0 < 1024) × (j .0 < «n_satom») × (k .0 < «n_satom») × (l .0 < «n_satom») ⌝ }
     ensures { λ r. ⌜ r ≡ horner «n_satom» (p .0) (j .0 ∷ k .0 ∷ l .0 ∷ []) ⌝ }
 {
-    number4(p.0, j, k, l, n_satom)
+    with_leg(block3(p, j, k, n_satom), n_satom, l.0)
 }
 
 // Block (i, j) of a full set of second order, whose first atom is one of the supercell too.
@@ -72,7 +65,7 @@ pub fn full2(i: SuperAtom, j: SuperAtom, n: usize) -> usize
     requires { ⌜ (n ≤ 1024) × (i .0 < n) × (j .0 < n) ⌝ }
     ensures { λ r. ⌜ r ≡ horner n (i .0) (j .0 ∷ []) ⌝ }
 {
-    number2(i.0, j, n)
+    with_leg(i.0, n, j.0)
 }
 
 // Block (i, j, k) of a full set of third order.
@@ -80,7 +73,7 @@ pub fn full3(i: SuperAtom, j: SuperAtom, k: SuperAtom, n: usize) -> usize
     requires { ⌜ (n ≤ 1024) × (i .0 < n) × (j .0 < n) × (k .0 < n) ⌝ }
     ensures { λ r. ⌜ r ≡ horner n (i .0) (j .0 ∷ k .0 ∷ []) ⌝ }
 {
-    number3(i.0, j, k, n)
+    with_leg(full2(i, j, n), n, k.0)
 }
 
 // Block (i, j, k, l) of a full set of fourth order.
@@ -88,7 +81,7 @@ pub fn full4(i: SuperAtom, j: SuperAtom, k: SuperAtom, l: SuperAtom, n: usize) -
     requires { ⌜ (n ≤ 1024) × (i .0 < n) × (j .0 < n) × (k .0 < n) × (l .0 < n) ⌝ }
     ensures { λ r. ⌜ r ≡ horner n (i .0) (j .0 ∷ k .0 ∷ l .0 ∷ []) ⌝ }
 {
-    number4(i.0, j, k, l, n)
+    with_leg(full3(i, j, k, n), n, l.0)
 }
 
 // The position of directions a, b in a block of 9.
@@ -96,7 +89,7 @@ pub fn dir2(a: usize, b: usize) -> usize
     requires { ⌜ (a < 3) × (b < 3) ⌝ }
     ensures { λ r. ⌜ r ≡ horner 3 a (b ∷ []) ⌝ }
 {
-    place_in(a, 3, b)
+    with_leg(a, 3, b)
 }
 
 // The position of directions a, b, c in a block of 27.
@@ -104,7 +97,7 @@ pub fn dir3(a: usize, b: usize, c: usize) -> usize
     requires { ⌜ (a < 3) × (b < 3) × (c < 3) ⌝ }
     ensures { λ r. ⌜ r ≡ horner 3 a (b ∷ c ∷ []) ⌝ }
 {
-    place_in(dir2(a, b), 3, c)
+    with_leg(dir2(a, b), 3, c)
 }
 
 // The position of directions a, b, c, d in a block of 81.
@@ -112,7 +105,7 @@ pub fn dir4(a: usize, b: usize, c: usize, d: usize) -> usize
     requires { ⌜ (a < 3) × (b < 3) × (c < 3) × (d < 3) ⌝ }
     ensures { λ r. ⌜ r ≡ horner 3 a (b ∷ c ∷ d ∷ []) ⌝ }
 {
-    place_in(dir3(a, b, c), 3, d)
+    with_leg(dir3(a, b, c), 3, d)
 }
 
 // The read-out entry for atoms (i, j) is this stored block: the one at s2pp[i] and the image of j under row nsym_list[i].

@@ -18,8 +18,9 @@ stirred h = mixed (h * h % 4294967291) h
 abbrev pub drawn : ℕ → ℕ → ℕ
 drawn seed i = stirred (mixed seed i)
 
--- For each of eight kinds of set the classes of sixteen numbers, one of which is drawn. 0: an ordinary number,
--- 1: a zero of either sign, 2: a subnormal number, 3: a huge one, 4: an infinity, 5: NaN, 6: any pattern.
+-- For each of sixteen kinds of set the classes of sixteen numbers, one of which is drawn. 0: an ordinary number,
+-- 1: a zero of either sign, 2: a subnormal number, 3: a huge one, 4: an infinity, 5: NaN, 6: any pattern, 7: -0.0,
+-- 8: an ordinary number that is not negative, 9: one of the largest, of which no two can be added.
 unfoldable pub classes : List ℕ
 classes =
     0 ∷ 0 ∷ 0 ∷ 0 ∷ 0 ∷ 0 ∷ 0 ∷ 0 ∷ 0 ∷ 0 ∷ 0 ∷ 0 ∷ 0 ∷ 0 ∷ 0 ∷ 0
@@ -29,22 +30,34 @@ classes =
     ∷ 5 ∷ 0 ∷ 0 ∷ 0 ∷ 0 ∷ 0 ∷ 0 ∷ 0 ∷ 0 ∷ 0 ∷ 0 ∷ 0 ∷ 0 ∷ 0 ∷ 0 ∷ 0
     ∷ 6 ∷ 6 ∷ 6 ∷ 6 ∷ 6 ∷ 6 ∷ 6 ∷ 6 ∷ 6 ∷ 6 ∷ 6 ∷ 6 ∷ 6 ∷ 6 ∷ 6 ∷ 6
     ∷ 1 ∷ 1 ∷ 1 ∷ 1 ∷ 1 ∷ 1 ∷ 1 ∷ 1 ∷ 1 ∷ 1 ∷ 1 ∷ 1 ∷ 1 ∷ 1 ∷ 1 ∷ 1
-    ∷ 0 ∷ 0 ∷ 0 ∷ 0 ∷ 0 ∷ 0 ∷ 0 ∷ 0 ∷ 0 ∷ 1 ∷ 1 ∷ 2 ∷ 3 ∷ 4 ∷ 5 ∷ 6 ∷ []
+    ∷ 0 ∷ 0 ∷ 0 ∷ 0 ∷ 0 ∷ 0 ∷ 0 ∷ 0 ∷ 0 ∷ 1 ∷ 1 ∷ 2 ∷ 3 ∷ 4 ∷ 5 ∷ 6
+    ∷ 7 ∷ 7 ∷ 7 ∷ 7 ∷ 7 ∷ 7 ∷ 7 ∷ 7 ∷ 7 ∷ 7 ∷ 7 ∷ 7 ∷ 7 ∷ 7 ∷ 7 ∷ 7
+    ∷ 8 ∷ 8 ∷ 8 ∷ 8 ∷ 8 ∷ 8 ∷ 8 ∷ 8 ∷ 8 ∷ 8 ∷ 8 ∷ 8 ∷ 8 ∷ 8 ∷ 8 ∷ 8
+    ∷ 1 ∷ 1 ∷ 1 ∷ 1 ∷ 1 ∷ 1 ∷ 1 ∷ 1 ∷ 2 ∷ 2 ∷ 2 ∷ 2 ∷ 2 ∷ 2 ∷ 2 ∷ 2
+    ∷ 9 ∷ 9 ∷ 9 ∷ 9 ∷ 9 ∷ 9 ∷ 9 ∷ 9 ∷ 9 ∷ 9 ∷ 9 ∷ 9 ∷ 9 ∷ 9 ∷ 9 ∷ 9
+    ∷ 0 ∷ 0 ∷ 0 ∷ 0 ∷ 0 ∷ 0 ∷ 0 ∷ 0 ∷ 0 ∷ 0 ∷ 0 ∷ 0 ∷ 0 ∷ 0 ∷ 0 ∷ 0
+    ∷ 0 ∷ 0 ∷ 0 ∷ 0 ∷ 0 ∷ 0 ∷ 0 ∷ 0 ∷ 0 ∷ 0 ∷ 0 ∷ 0 ∷ 0 ∷ 0 ∷ 0 ∷ 0
+    ∷ 0 ∷ 0 ∷ 0 ∷ 0 ∷ 0 ∷ 0 ∷ 0 ∷ 0 ∷ 0 ∷ 0 ∷ 0 ∷ 0 ∷ 0 ∷ 0 ∷ 0 ∷ 0
+    ∷ 0 ∷ 0 ∷ 0 ∷ 0 ∷ 0 ∷ 0 ∷ 0 ∷ 0 ∷ 0 ∷ 0 ∷ 0 ∷ 0 ∷ 0 ∷ 0 ∷ 0 ∷ 0 ∷ []
 
 -- the bits of a pattern that a number of each class keeps, and those that are set in it
 unfoldable pub keptBits : List ℕ
-keptBits = 0x807fffffffffffff ∷ 0x8000000000000000 ∷ 0x800fffffffffffff ∷ 0x801fffffffffffff ∷ 0x8000000000000000 ∷ 0 ∷ 0xffffffffffffffff ∷ 0 ∷ []
+keptBits =
+    0x807fffffffffffff ∷ 0x8000000000000000 ∷ 0x800fffffffffffff ∷ 0x801fffffffffffff ∷ 0x8000000000000000 ∷ 0 ∷ 0xffffffffffffffff ∷ 0
+    ∷ 0x007fffffffffffff ∷ 0x800fffffffffffff ∷ 0 ∷ 0 ∷ 0 ∷ 0 ∷ 0 ∷ 0 ∷ []
 
 unfoldable pub setBits : List ℕ
-setBits = 0x3f80000000000000 ∷ 0 ∷ 0 ∷ 0x7fc0000000000000 ∷ 0x7ff0000000000000 ∷ 0x7ff8000000000000 ∷ 0 ∷ 0 ∷ []
+setBits =
+    0x3f80000000000000 ∷ 0 ∷ 0 ∷ 0x7fc0000000000000 ∷ 0x7ff0000000000000 ∷ 0x7ff8000000000000 ∷ 0 ∷ 0x8000000000000000
+    ∷ 0x3f80000000000000 ∷ 0x7fe0000000000000 ∷ 0 ∷ 0 ∷ 0 ∷ 0 ∷ 0 ∷ 0 ∷ []
 
 -- the class of a number of the kind, by the first number that is drawn for it
 abbrev pub classOf : ℕ → ℕ → ℕ
-classOf kind a = getD classes (kind % 8 * 16 + a % 16) 0
+classOf kind a = getD classes (kind % 16 * 16 + a % 16) 0
 
 -- the pattern b as that of a number of the class
 abbrev pub shapedBits : ℕ → ℕ → ℕ
-shapedBits class b = bitOr (bitAnd b (getD keptBits (class % 8) 0)) (getD setBits (class % 8) 0)
+shapedBits class b = bitOr (bitAnd b (getD keptBits (class % 16) 0)) (getD setBits (class % 16) 0)
 
 -- the pattern whose halves are drawn after a
 abbrev pub patternOf : ℕ → ℕ

@@ -1,8 +1,8 @@
-// Replays what the Rust answered for compute_permutation. Its input are pages of records, which oracle/ makes;
+// Replays what the Rust answered for compute_permutation, through its C name. Its input are pages of records, which oracle/ makes;
 // oracle/README.md says what the words of a record are. It writes how many calls were compared, how many differ in
 // the answer or in a slot, how many there are of each answer, and a checksum of the inputs and of all that was worked
 // out from them.
-use cells::Cell;
+use capi_cells::gf_compute_permutation;
 use records::steps::after;
 use records::steps::first;
 use records::steps::is;
@@ -33,8 +33,8 @@ fn floats(r: &[u8], from: usize, out: &mut [f64]) {
     }
 }
 
-fn cell(r: &[u8]) -> Cell {
-    let l = [
+fn lattice(r: &[u8]) -> [f64; 9] {
+    [
         number(r, 8),
         number(r, 9),
         number(r, 10),
@@ -44,11 +44,7 @@ fn cell(r: &[u8]) -> Cell {
         number(r, 14),
         number(r, 15),
         number(r, 16),
-    ];
-    Cell {
-        lattice: l,
-        symprec: number(r, 7),
-    }
+    ]
 }
 
 // Reads the positions, which are as many as the record says, and matches them. The answer's number.
@@ -57,8 +53,8 @@ fn answer(r: &[u8], slots: &mut [i64], pos: &mut [f64], rot_pos: &mut [f64]) -> 
     floats(r, 17, pos);
     floats(r, a, rot_pos);
     let n = records::word_of(r, 3) as usize;
-    let m = cells::compute_permutation(slots, cell(r), pos, rot_pos, n);
-    wide(cells::matching_number(m))
+    let l = lattice(r);
+    wide(gf_compute_permutation(slots, &l, number(r, 7), pos, rot_pos, n))
 }
 
 // How many slots hold something else than the words of the record from number `from` on.

@@ -1,9 +1,12 @@
-// Replays what the Rust answered for nint, round and sqrt. Its input is one page of records, which
+// Replays what the Rust answered for nint, round and sqrt, through their C names. Its input is one page of records, which
 // oracle/ makes: the number of records, and for each the words x, nint x, x rounded, the root of x.
 // It writes how many answers were compared and how many differ, any NaN equal to any NaN, and a
 // checksum of the inputs and of all that was worked out from them.
 ghost use Prim.Native.Nat.{_+_, _*_, _-_, _≤_};
 ghost use lib.ListN.{length};
+use capi_cells::gf_nint;
+use capi_cells::gf_round;
+use capi_cells::gf_sqrt;
 use records::steps::plus;
 
 // What was compared so far: records, those whose rounding or root is NaN, differences, checksum.
@@ -27,9 +30,9 @@ fn step(t: Tally, s: &[u8], at: usize) -> Tally
 {
     let b = records::word(s, at);
     let x = records::float(b);
-    let round = common::round(x);
-    let sqrt = common::sqrt(x);
-    let n = records::integer_word(common::nint(x));
+    let round = gf_round(x);
+    let sqrt = gf_sqrt(x);
+    let n = records::integer_word(gf_nint(x));
     let r = records::float_word(round);
     let q = records::float_word(sqrt);
     Tally {

@@ -1,59 +1,15 @@
-// Replays what the Rust answered for rotate_delta_fc2s and rotate_delta_fc3s. Its input are pages of records, which oracle/ makes;
-// oracle/README.md says what the words of a record are. It writes how many calls were compared, how many differ in
+// Replays what the Rust answered for rotate_delta_fc2s and rotate_delta_fc3s, through their C names. Its input are pages
+// of records, which oracle/ makes; oracle/README.md says what the words of a record are. It writes how many calls were compared, how many differ in
 // the answer or in a slice, how many there are of each answer, and a checksum of the inputs and of all that was worked
 // out from them.
+use capi_fc3::gf_rotate_delta_fc2s;
+use capi_fc4::gf_rotate_delta_fc3s;
 use records::steps::count_of;
 use records::steps::first;
 use records::steps::plus;
 use records::steps::size;
 use records::wide;
 use replays::Tally;
-
-fn fc2s(
-    r: &[u8],
-    fc3: &mut [f64],
-    rot_delta: &mut [f64],
-    delta: &[f64],
-    inv_u: &[f64],
-    site_sym_cart: &[f64],
-    rot_map_syms: &[i64],
-) -> u64 {
-    let a = deltas::rotate_delta_fc2s(
-        fc3,
-        delta,
-        inv_u,
-        site_sym_cart,
-        rot_map_syms,
-        rot_delta,
-        count_of(r, 14),
-        count_of(r, 15),
-        count_of(r, 16),
-    );
-    wide(tables::number(a))
-}
-
-fn fc3s(
-    r: &[u8],
-    fc4: &mut [f64],
-    rot_delta: &mut [f64],
-    delta: &[f64],
-    inv_u: &[f64],
-    site_sym_cart: &[f64],
-    rot_map_syms: &[i64],
-) -> u64 {
-    let a = deltas::rotate_delta_fc3s(
-        fc4,
-        delta,
-        inv_u,
-        site_sym_cart,
-        rot_map_syms,
-        rot_delta,
-        count_of(r, 14),
-        count_of(r, 15),
-        count_of(r, 16),
-    );
-    wide(tables::number(a))
-}
 
 // The call that the record names. The answer's number.
 fn call(
@@ -65,10 +21,33 @@ fn call(
     site_sym_cart: &[f64],
     rot_map_syms: &[i64],
 ) -> u64 {
+    let num_atom = count_of(r, 14);
+    let num_site_sym = count_of(r, 15);
+    let num_disp = count_of(r, 16);
     if count_of(r, 4) == 2 {
-        return fc2s(r, set, rot_delta, delta, inv_u, site_sym_cart, rot_map_syms);
+        return wide(gf_rotate_delta_fc2s(
+            set,
+            delta,
+            inv_u,
+            site_sym_cart,
+            rot_map_syms,
+            rot_delta,
+            num_atom,
+            num_site_sym,
+            num_disp,
+        ));
     }
-    fc3s(r, set, rot_delta, delta, inv_u, site_sym_cart, rot_map_syms)
+    wide(gf_rotate_delta_fc3s(
+        set,
+        delta,
+        inv_u,
+        site_sym_cart,
+        rot_map_syms,
+        rot_delta,
+        num_atom,
+        num_site_sym,
+        num_disp,
+    ))
 }
 
 // What the set and the work slice hold before the call.

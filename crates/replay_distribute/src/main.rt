@@ -1,7 +1,9 @@
-// Replays what the Rust answered for distribute_fc3 and distribute_fc4. Its input are pages of records, which oracle/ makes;
-// oracle/README.md says what the words of a record are. It writes how many calls were compared, how many differ in
+// Replays what the Rust answered for distribute_fc3 and distribute_fc4, through their C names. Its input are pages of
+// records, which oracle/ makes; oracle/README.md says what the words of a record are. It writes how many calls were compared, how many differ in
 // the answer or in a slice, how many there are of each answer, and a checksum of the inputs and of all that was worked
 // out from them.
+use capi_fc3::gf_distribute_fc3;
+use capi_fc4::gf_distribute_fc4;
 use records::steps::count_of;
 use records::steps::first;
 use records::steps::plus;
@@ -9,38 +11,16 @@ use records::steps::size;
 use records::wide;
 use replays::Tally;
 
-fn third(r: &[u8], fc3: &mut [f64], atom_mapping: &[i64], rot_cart: &[f64]) -> u64 {
-    let a = distribute::fc3::distribute_fc3(
-        fc3,
-        count_of(r, 7),
-        count_of(r, 8),
-        atom_mapping,
-        count_of(r, 9),
-        rot_cart,
-        count_of(r, 10),
-    );
-    wide(tables::number(a))
-}
-
-fn fourth(r: &[u8], fc4: &mut [f64], atom_mapping: &[i64], rot_cart: &[f64]) -> u64 {
-    let a = distribute::fc4::distribute_fc4(
-        fc4,
-        count_of(r, 7),
-        count_of(r, 8),
-        atom_mapping,
-        count_of(r, 9),
-        rot_cart,
-        count_of(r, 10),
-    );
-    wide(tables::number(a))
-}
-
 // The call that the record names. The answer's number.
 fn call(r: &[u8], set: &mut [f64], atom_mapping: &[i64], rot_cart: &[f64]) -> u64 {
+    let target = count_of(r, 7);
+    let source = count_of(r, 8);
+    let n = count_of(r, 9);
+    let num_first = count_of(r, 10);
     if count_of(r, 3) == 3 {
-        return third(r, set, atom_mapping, rot_cart);
+        return wide(gf_distribute_fc3(set, target, source, atom_mapping, n, rot_cart, num_first));
     }
-    fourth(r, set, atom_mapping, rot_cart)
+    wide(gf_distribute_fc4(set, target, source, atom_mapping, n, rot_cart, num_first))
 }
 
 // Reads the map, makes the set and the rotation, which are as long as the record says, and calls.

@@ -1,6 +1,7 @@
 // Replays verdicts on shift tables. Its input are pages of records, which oracle/ makes; oracle/README.md
 // says what the words of a record are. It writes how many verdicts were compared, how many differ, how many
 // there are of each, and a checksum of the inputs and of all verdicts that were worked out.
+use capi_cells::gf_check_shift_tables;
 use records::steps::count_of;
 use records::steps::ends;
 use records::steps::first;
@@ -12,7 +13,7 @@ use replays::Tally;
 // The verdict of the guard of compact calls, for a set and a work slice of second order.
 fn judge(r: &[u8], p2s: &[i64], s2pp: &[i64], nsym_list: &[i64], perms: &[i64]) -> u64 {
     let limit = size(records::word_of(r, 2), 1024);
-    let a = tables::guard::judge_compact(
+    let a = shifts::judge_compact(
         limit,
         1,
         count_of(r, 3),
@@ -29,9 +30,9 @@ fn judge(r: &[u8], p2s: &[i64], s2pp: &[i64], nsym_list: &[i64], perms: &[i64]) 
     wide(tables::number(a))
 }
 
-// The verdict on the tables alone.
+// The verdict on the tables alone, through its C name.
 fn check(r: &[u8], p2s: &[i64], s2pp: &[i64], nsym_list: &[i64], perms: &[i64]) -> u64 {
-    let a = tables::guard::check_shift_tables(
+    let a = gf_check_shift_tables(
         p2s,
         s2pp,
         nsym_list,
@@ -40,7 +41,7 @@ fn check(r: &[u8], p2s: &[i64], s2pp: &[i64], nsym_list: &[i64], perms: &[i64]) 
         count_of(r, 6),
         count_of(r, 7),
     );
-    wide(tables::number(a))
+    wide(a)
 }
 
 // Both verdicts in one number: the guard's, and 100 more if the other differs from it. The guard's verdicts 1 and 2

@@ -2,17 +2,19 @@
 use mathlib.Core.Path.{_≡_, refl, sym, ap, ap₂, _∙_, subst}
 use mathlib.Core.List.{List}
 use Prim.Native.Nat.{ℕ, zero, suc, _+_, _-_, _*_, _/_, _%_, _^_, _<_, _≤_}
-use native.Mathlib.Nat.{mul-add-div-right, mul-add-mod-self-right, div-eq-of-lt, mod-eq-of-lt, mod-lt, add-zero, zero-add, div-lt-iff-lt-mul}
+use native.Mathlib.Nat.{mul-add-div-right, mul-add-mod-self-right, div-eq-of-lt, mod-eq-of-lt, mod-lt, add-zero, zero-add, div-lt-iff-lt-mul, div-add-mod'}
 use native.Mathlib.Omega.{arith}
 use lib.ListN.{length, getD, set, length-set}
 use lib.Seq.{getD-set-same, getD-set-other}
-use borrow.Author.Count.{below-none, below-more}
+use borrow.Author.Count.{below-none}
 use mathlib.Core.Logic.{⊎-elim}
 use Rattle.lists.specs.Cases.{lt-or-le}
 use lib.Ieee.{Float, nan, add, mul, binary64, ofBits}
-use Rattle.lists.specs.Tab.{tab, length-tab, getD-tab, is-tab, tab-ext, fill-more, times, times-more, times-same}
+use Rattle.lists.specs.Tab.{tab, tabFrom, length-tab, getD-tab, is-tab, tab-ext, fill-more, times, times-more, times-same}
 use Rattle.lists.specs.Digits.{in-row, quotient, remainder}
-use Rattle.rotations.specs.Rotation.{plusZero, coefficient, weighted, rotated, transposed, coefficients, widenedAt, widened, shared, sums}
+use Rattle.blocks.specs.Block.{putBlock, put-inside, put-outside}
+use Rattle.blocks.specs.Nine.{transposed9}
+use Rattle.rotations.specs.Rotation.{plusZero, coefficient, weighted, rotated, coefficients, widenedAt, widened, shared, sums}
 
 -- ---- the coefficients
 
@@ -147,65 +149,53 @@ module _ (w : ℕ) (c m into : List Float) (q a : ℕ) where
 
 -- ---- one leg: the coefficients are the matrix's columns
 
-pub one-leg : (m : List Float) → transposed m ≡ coefficients m 1 3
-unfolding transposed coefficients coefficient
+pub one-leg : (m : List Float) → transposed9 m ≡ coefficients m 1 3
+unfolding coefficients coefficient tab tabFrom
 one-leg m = refl
 
 -- ---- a block put together from parts
 
--- out′ is out with v from place first on, as far as the places before and of v go
-pub record Put (out : List Float) (first : ℕ) (v out′ : List Float) : Type 0 where
-  pub before : (k : ℕ) → k < first → getD out′ k nan ≡ getD out k nan
-  pub inside : (k : ℕ) → k < length v → getD out′ (first + k) nan ≡ getD v k nan
+-- the first n places of a block of w have their sums
+abbrev pub Filled : ℕ → ℕ → List Float → List Float → List Float → Type 0
+Filled w n c t out = (k : ℕ) → k < n → getD out k nan ≡ weighted w (λ q. getD c (q * w + k) nan) t
 
--- a block of w numbers to be turned, its coefficients and the block that is made of it
-pub record Sizes (lengthOut lengthC w : ℕ) : Type 0 where
-  pub made : lengthOut ≡ w
-  pub square : lengthC ≡ w * w
-  pub small : w ≤ 81
-
--- the first n places have their sums
-abbrev pub Filled : ℕ → List Float → List Float → List Float → Type 0
-Filled n c t out = (k : ℕ) → k < n → getD out k nan ≡ weighted (length t) (λ q. getD c (q * length t + k) nan) t
-
-pub fill-part : {v out out′ : List Float} (n first : ℕ) (c t : List Float) → v ≡ sums n (length t) (length t) first c t → Put out first v out′
-    → Filled first c t out → Filled (first + n) c t out′
+-- one more part of n places
+pub fill-part : {v out′ : List Float} (w n b first : ℕ) (c t out : List Float) → first ≡ b * n → first + n ≤ length out
+    → v ≡ sums n w w first c t → out′ ≡ putBlock n b v out → Filled w first c t out → Filled w (first + n) c t out′
 unfolding sums
-fill-part {v} {out} {out′} n first c t e P f k h =
-    ⊎-elim
-    (λ (l : k < first). P .before k l ∙ f k l)
-    (λ (l : first ≤ k).
-    let i : k ≡ first + (k - first) = omega arith in
-    let g : k - first < n = omega arith in
-    let lv : length v ≡ n = ap length e ∙ length-tab n _ in
-    ap (λ x. getD out′ x nan) i ∙ P .inside (k - first) (rw lv g) ∙ ap (λ x. getD x (k - first) nan) e ∙ getD-tab n _ (k - first) nan g
-    ∙ ap (λ x. weighted (length t) (λ q. getD c (q * length t + x) nan) t) (sym i))
+fill-part {v} {out′} w n b first c t out ef l e eo f k h =
+    ap (λ x. getD x k nan) eo
+    ∙ ⊎-elim
+    (λ (g : k < first).
+    put-outside n b v out k (omega arith) (λ (d : k / n ≡ b).
+    let p : b * n + k % n ≡ k = ap (λ x. x * n + k % n) (sym d) ∙ div-add-mod' k n in
+    absurd (omega arith))
+    ∙ f k g)
+    (λ (g : first ≤ k).
+    let i : k ≡ b * n + (k - first) = omega arith in
+    let j : k ≡ first + (k - first) = omega arith in
+    let d : k - first < n = omega arith in
+    put-inside n b v out k (omega arith) (ap (λ x. x / n) i ∙ quotient n b (k - first) d)
+    ∙ ap (λ x. getD v x nan) (ap (λ x. x % n) i ∙ remainder n b (k - first) d)
+    ∙ ap (λ x. getD x (k - first) nan) e ∙ getD-tab n _ (k - first) nan d
+    ∙ ap (λ x. weighted w (λ q. getD c (q * w + x) nan) t) (sym j))
     (lt-or-le k first)
 
-pub filled-sums : (w : ℕ) (c t out : List Float) → length t ≡ w → length out ≡ w → Filled w c t out → out ≡ sums w w w 0 c t
+pub filled-sums : (w : ℕ) (c t out : List Float) → length out ≡ w → Filled w w c t out → out ≡ sums w w w 0 c t
 unfolding sums
-filled-sums w c t out e l f =
-    is-tab nan w _ out l (λ k h.
-    f k h ∙ ap (λ n. weighted n (λ q. getD c (q * n + k) nan) t) e
-    ∙ ap (λ x. weighted w (λ q. getD c (q * w + x) nan) t) (sym (zero-add k)))
+filled-sums w c t out l f =
+    is-tab nan w _ out l (λ k h. f k h ∙ ap (λ x. weighted w (λ q. getD c (q * w + x) nan) t) (sym (zero-add k)))
 
--- out is what the loop that puts v has made of out₀ when it stands at i
-abbrev pub Putting : List Float → ℕ → List Float → List Float → ℕ → Type 0
-Putting out₀ first v out i =
-    (i ≤ length v) × (length out ≡ length out₀) × ((k : ℕ) → k < first → getD out k nan ≡ getD out₀ k nan)
-    × ((k : ℕ) → k < i → getD out (first + k) nan ≡ getD v k nan)
+-- with the coefficients of m the sums of all places are the block rotated by m
+pub rotated-by : {c r : List Float} (m : List Float) (n : ℕ) (t : List Float) → c ≡ coefficients m n (3 ^ n) → r ≡ sums (3 ^ n) (3 ^ n) (3 ^ n) 0 c t
+    → r ≡ rotated m n t
+rotated-by m n t ec er = er ∙ ap (λ x. sums (3 ^ n) (3 ^ n) (3 ^ n) 0 x t) ec ∙ sums-rotated m n t
 
-pub putting-more : (out₀ : List Float) (first : ℕ) (v out : List Float) (i : ℕ) → first + length v ≤ length out₀ → i < length v
-    → Putting out₀ first v out i → Putting out₀ first v (set out (first + i) (getD v i nan)) (i + 1)
-putting-more out₀ first v out i l h (_, e, f, g) =
-    let x = getD v i nan in (
-      omega arith,
-      length-set out (first + i) x ∙ e,
-      λ k b. getD-set-other out (first + i) k x nan (λ q. omega arith) ∙ f k b,
-      below-more (λ k. getD (set out (first + i) x) (first + k) nan ≡ getD v k nan) i
-          (λ k b. getD-set-other out (first + i) (first + k) x nan (λ q. omega arith) ∙ g k b)
-          (getD-set-same out (first + i) x nan (rw e (omega arith))),
-    )
+-- what the sums of n places from first on ask of a block of w numbers and its coefficients
+pub sized : {lengthT lengthC : ℕ} (w first n : ℕ) → lengthT ≡ w → lengthC ≡ w * w → w ≤ 81 → first + n ≤ w
+    → (lengthT ≤ 81) × (first + n ≤ lengthT) × (lengthC ≡ lengthT * lengthT)
+sized w first n et ec l h = rw et (l, h, ec)
 
-pub sizes : (w lengthOut lengthC lengthT : ℕ) → lengthOut ≡ w → lengthC ≡ w * w → lengthT ≡ w → w ≤ 81 → Sizes lengthOut lengthC lengthT
-sizes w lengthOut lengthC lengthT o c t s = rw t (record { made = o; square = c; small = s })
+-- the sums of a block whose width is known
+pub sums-width : {r : List Float} (n w first : ℕ) (c t : List Float) → length t ≡ w → r ≡ sums n (length t) (length t) first c t → r ≡ sums n w w first c t
+sums-width n w first c t e er = er ∙ ap (λ k. sums n k k first c t) e

@@ -1,4 +1,4 @@
--- A block with n legs turned by one 3 by 3 matrix on each leg. Definitions only.
+-- A block with n legs rotated by one 3 by 3 matrix on each leg. Definitions only.
 -- A place of a block is a row of directions, the first slowest, so 9 places stand for two legs, 27 for three and 81 for four.
 use mathlib.Core.List.{List}
 use Prim.Native.Nat.{ℕ, zero, suc, _+_, _*_, _/_, _%_, _^_}
@@ -24,13 +24,9 @@ coefficient m (suc (suc n)) p q = mul binary64 (coefficient m (suc n) (p / 3) (q
 unfoldable pub weighted : ℕ → (ℕ → Float) → List Float → Float
 weighted w c t = times w (λ q s. add binary64 s (mul binary64 (c q) (getD t q nan))) plusZero
 
--- the block t of n legs, turned by m on each leg
+-- the block t of n legs, rotated by m on each leg
 unfoldable pub rotated : List Float → ℕ → List Float → List Float
 rotated m n t = tab (3 ^ n) (λ p. weighted (3 ^ n) (coefficient m n p) t)
-
--- the matrix with rows and columns exchanged
-unfoldable pub transposed : List Float → List Float
-transposed m = tab 9 (λ p. getD m (p % 3 * 3 + p / 3) nan)
 
 -- ---- as the code arranges it: the coefficients once, and the sums of several places side by side
 

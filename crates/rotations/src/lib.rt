@@ -1,20 +1,12 @@
-// A block turned by one 3 by 3 matrix on each leg: the coefficients are worked out once and serve every block of a call, and the sums of
-// all places go side by side. Each sum has the same terms in the same order as if it stood alone. A block is read where it stands in its set:
-// with a copy of it first, distribute_fc3 takes a quarter more time.
+// A block rotated by one 3 by 3 matrix on each leg: the coefficients are worked out once and serve every block of a call, and the sums of
+// many places go side by side. Each sum has the same terms in the same order as if it stood alone.
 ghost use mathlib.Core.Path.{_≡_};
 ghost use Prim.Native.Nat.{ℕ, _+_, _*_, _<_, _≤_};
 ghost use lib.ListN.{length, getD};
-ghost use lib.Ieee.{nan};
-ghost use Rattle.blocks.specs.Block.{block};
-ghost use Rattle.rotations.specs.Rotation.{transposed as transposedOf, coefficients, widenedAt, widened, shared, sums};
-ghost use Rattle.rotations.specs.Laws.{Put, Sizes, Filled};
-
-// The matrix with rows and columns exchanged.
-pub fn transposed(m: [f64; 9]) -> [f64; 9]
-    ensures { λ r. ⌜ r ≡ transposedOf m ⌝ }
-{
-    [m[0], m[3], m[6], m[1], m[4], m[7], m[2], m[5], m[8]]
-}
+ghost use lib.Ieee.{Float, nan};
+ghost use mathlib.Core.List.{List};
+ghost use Rattle.blocks.specs.Block.{putBlock};
+ghost use Rattle.rotations.specs.Rotation.{coefficients, rotated, widenedAt, widened, shared, sums};
 
 // The coefficients of old number q, from those of one leg less: before has w * w, into has 9 * w * w.
 fn widen_row(into: &mut [f64], before: &[f64], m: &[f64; 9], w: usize, q: usize)
@@ -51,7 +43,7 @@ fn widen(into: &mut [f64], before: &[f64], m: &[f64; 9], w: usize)
 pub fn coefficients2(m: [f64; 9]) -> [f64; 81]
     ensures { λ r. ⌜ r ≡ coefficients m 2 9 ⌝ }
 {
-    let t = transposed(m);
+    let t = blocks::transposed9(m);
     let mut c = [0.0f64; 81];
     widen(&mut c, &t, &m, 3);
     c
@@ -83,21 +75,11 @@ fn sums9(c: &[f64], t: &[f64], first: usize) -> [f64; 9]
     s
 }
 
-// A block of two legs, turned on each: c has the coefficients.
-fn turned9(c: &[f64; 81], t: &[f64]) -> [f64; 9]
-    requires { ⌜ length (now t) ≡ 9 ⌝ }
-    ensures { λ r. ⌜ r ≡ sums 9 9 9 0 (now (c .entry)) (now (t .entry)) ⌝ }
+// A block of two legs rotated by the matrix whose coefficients c has.
+pub fn rotated9(c: &[f64; 81], t: [f64; 9]) -> [f64; 9]
+    ensures { λ r. ⌜ ((m : List Float) → now (c .entry) ≡ coefficients m 2 9 → r ≡ rotated m 2 t) ⌝ }
 {
-    sums9(c, t, 0)
-}
-
-// Block b of a set of second order, turned on each leg.
-pub fn rotated9(c: &[f64; 81], fc: &[f64], b: usize) -> [f64; 9]
-    requires { ⌜ b * 9 + 9 ≤ length (now fc) ⌝ }
-    ensures { λ r. ⌜ r ≡ sums 9 9 9 0 (now (c .entry)) (block 9 b (now (fc .entry))) ⌝ }
-{
-    let at = b * 9;
-    turned9(c, &fc[at..at + 9])
+    sums9(c, &t, 0)
 }
 
 // The coefficients of a block of three legs.
@@ -146,77 +128,49 @@ fn sums18(c: &[f64], t: &[f64], first: usize) -> [f64; 18]
     s
 }
 
-// Puts v into out from place first on.
-fn put(out: &mut [f64], first: usize, v: &[f64])
-    requires { ⌜ first + length (now v) ≤ length (now out) ⌝ }
-    ensures { λ _. ⌜ Put (now (out .entry)) first (now (v .entry)) (now (out .exit)) ⌝ }
+// One old number's share in 27 sums.
+fn share27(s: [f64; 27], c: &[f64], at: usize, x: f64) -> [f64; 27]
+    requires { ⌜ at + 27 ≤ length (now c) ⌝ }
+    ensures { λ r. ⌜ r ≡ shared 27 s (now (c .entry)) at x ⌝ }
 {
-    let mut i = 0;
-    while i < v.len() {
-        out[first + i] = v[i];
-        i += 1;
+    let mut r = s;
+    for p in 0..27usize {
+        r[p] = r[p] + c[at + p] * x;
     }
-}
-
-// The sums of the 18 places from first on go into out.
-fn fill18(out: &mut [f64], c: &[f64], t: &[f64], first: usize)
-    requires { ⌜ Sizes (length (now out)) (length (now c)) (length (now t)) ⌝ }
-    requires { ⌜ first + 18 ≤ length (now t) ⌝ }
-    ensures { λ _. ⌜ (Filled first (now (c .entry)) (now (t .entry)) (now (out .entry)) → Filled (first + 18) (now (c .entry)) (now (t .entry)) (now (out .exit))) ⌝ }
-{
-    let s = sums18(c, t, first);
-    put(out, first, &s);
-}
-
-// The sums of the nine places from first on go into out.
-fn fill9(out: &mut [f64], c: &[f64], t: &[f64], first: usize)
-    requires { ⌜ Sizes (length (now out)) (length (now c)) (length (now t)) ⌝ }
-    requires { ⌜ first + 9 ≤ length (now t) ⌝ }
-    ensures { λ _. ⌜ (Filled first (now (c .entry)) (now (t .entry)) (now (out .entry)) → Filled (first + 9) (now (c .entry)) (now (t .entry)) (now (out .exit))) ⌝ }
-{
-    let s = sums9(c, t, first);
-    put(out, first, &s);
-}
-
-// A block of three legs, turned on each: c has the coefficients.
-fn turned27(c: &[f64; 729], t: &[f64]) -> [f64; 27]
-    requires { ⌜ length (now t) ≡ 27 ⌝ }
-    ensures { λ r. ⌜ r ≡ sums 27 27 27 0 (now (c .entry)) (now (t .entry)) ⌝ }
-{
-    let mut r = [0.0f64; 27];
-    fill18(&mut r, c, t, 0);
-    fill9(&mut r, c, t, 18);
     r
 }
 
-// Block b of a set of third order, turned on each leg.
-pub fn rotated27(c: &[f64; 729], fc: &[f64], b: usize) -> [f64; 27]
-    requires { ⌜ b * 27 + 27 ≤ length (now fc) ⌝ }
-    ensures { λ r. ⌜ r ≡ sums 27 27 27 0 (now (c .entry)) (block 27 b (now (fc .entry))) ⌝ }
+// A block of three legs rotated by the matrix whose coefficients c has: all 27 sums side by side.
+pub fn rotated27(c: &[f64; 729], t: [f64; 27]) -> [f64; 27]
+    ensures { λ r. ⌜ ((m : List Float) → now (c .entry) ≡ coefficients m 3 27 → r ≡ rotated m 3 t) ⌝ }
 {
-    let at = b * 27;
-    turned27(c, &fc[at..at + 27])
+    let mut s = [0.0f64; 27];
+    for q in 0..27usize {
+        let n = share27(s, c, q * 27, t[q]);
+        s = n;
+    }
+    s
 }
 
-// A block of four legs, turned on each: c has the coefficients.
-fn turned81(c: &[f64; 6561], t: &[f64]) -> [f64; 81]
-    requires { ⌜ length (now t) ≡ 81 ⌝ }
-    ensures { λ r. ⌜ r ≡ sums 81 81 81 0 (now (c .entry)) (now (t .entry)) ⌝ }
+// Puts v in the place of the 18 numbers from 18 * b on.
+fn write18(r: &mut [f64], b: usize, v: [f64; 18])
+    requires { ⌜ b * 18 + 18 ≤ length (now r) ⌝ }
+    ensures { λ _. ⌜ now (r .exit) ≡ putBlock 18 b v (now (r .entry)) ⌝ }
+{
+    let at = b * 18;
+    lists::copy_all(&mut r[at..at + 18], &v);
+}
+
+// A block of four legs rotated by the matrix whose coefficients c has: 18 sums side by side four times, then the last nine.
+pub fn rotated81(c: &[f64; 6561], t: [f64; 81]) -> [f64; 81]
+    ensures { λ r. ⌜ ((m : List Float) → now (c .entry) ≡ coefficients m 4 81 → r ≡ rotated m 4 t) ⌝ }
 {
     let mut r = [0.0f64; 81];
-    fill18(&mut r, c, t, 0);
-    fill18(&mut r, c, t, 18);
-    fill18(&mut r, c, t, 36);
-    fill18(&mut r, c, t, 54);
-    fill9(&mut r, c, t, 72);
+    for h in 0..4usize {
+        let s = sums18(c, &t, h * 18);
+        write18(&mut r, h, s);
+    }
+    let s = sums9(c, &t, 72);
+    blocks::write9(&mut r, 8, s);
     r
-}
-
-// Block b of a set of fourth order, turned on each leg.
-pub fn rotated81(c: &[f64; 6561], fc: &[f64], b: usize) -> [f64; 81]
-    requires { ⌜ b * 81 + 81 ≤ length (now fc) ⌝ }
-    ensures { λ r. ⌜ r ≡ sums 81 81 81 0 (now (c .entry)) (block 81 b (now (fc .entry))) ⌝ }
-{
-    let at = b * 81;
-    turned81(c, &fc[at..at + 81])
 }

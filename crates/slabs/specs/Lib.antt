@@ -1,2 +1,3 @@
 pub mod Slab
 pub mod SlabLaws
+pub mod Meaning

@@ -12,7 +12,8 @@ use Rattle.lists.specs.Digits.{horner, room, rest, digits}
 use Rattle.blocks.specs.Block.{block, putBlock}
 use Rattle.rotations.specs.Rotation.{rotated}
 use Rattle.tables.specs.declared.Answer.{Answer}
-use Rattle.tables.specs.declared.Answer.the-variants.{Done, CountAboveLimit, WrongLength, IndexOutOfRange, BadSlab}
+use Rattle.tables.specs.declared.Answer.the-variants.{Done}
+use Rattle.tables.specs.declared.Refusal.the-variants.{CountAboveLimit, WrongLength, IndexOutOfRange, BadSlab}
 use Rattle.tables.specs.Answers.{after, refuseIf}
 use Rattle.tables.specs.Conditions.{anyAbove, anyWrong, outOfRange, badSlab, indexAt}
 
@@ -20,7 +21,7 @@ use Rattle.tables.specs.Conditions.{anyAbove, anyWrong, outOfRange, badSlab, in
 unfoldable pub sourceOf : List ℤ → ℕ → ℕ → ℕ → ℕ → ℕ
 sourceOf mapping n k source b = horner n source (map (indexAt mapping) (digits n k b))
 
--- Every block of the target slab is its source block, turned by the rotation on each leg; all other blocks stay.
+-- Every block of the target slab is its source block, rotated on each leg; all other blocks stay.
 unfoldable pub distributed : List ℤ → List Float → ℕ → ℕ → ℕ → ℕ → List Float → List Float
 distributed mapping rotation n k target source fc =
     let w = 3 ^ suc k in

@@ -1,5 +1,5 @@
 -- The loops fill the target slab. Assumes nothing.
-use mathlib.Core.Path.{_≡_, refl, sym, ap, _∙_, subst, fun-ext}
+use mathlib.Core.Path.{_≡_, refl, sym, ap, _∙_, subst}
 use mathlib.Core.Bool.{Bool, true, false, cond}
 use mathlib.Core.List.{List, [], _∷_, _++_, map}
 use mathlib.Core.Logic.{_⊎_, inl, inr, ⊎-elim}
@@ -18,10 +18,10 @@ use Rattle.lists.specs.Cases.{eq-or-ne, lt-or-le, within, within-in, within-bel
 use Rattle.lists.specs.Elements.{Below, All}
 use Rattle.lists.specs.Digits.{in-row, horner, room, rest, digits, rest-horner, digits-horner, horner-below, room-mul, room-is-pos, rest-div}
 use Rattle.blocks.specs.Block.{block, putBlock, getD-block, length-block, length-putBlock, put-inside, put-outside, block-of, inside}
-use Rattle.rotations.specs.Rotation.{rotated, coefficients, sums}
-use Rattle.rotations.specs.Laws.{sums-rotated}
+use Rattle.rotations.specs.Rotation.{rotated}
 use Rattle.tables.specs.declared.Answer.{Answer}
-use Rattle.tables.specs.declared.Answer.the-variants.{Done, CountAboveLimit}
+use Rattle.tables.specs.declared.Answer.the-variants.{Done, Refused}
+use Rattle.tables.specs.declared.Refusal.the-variants.{CountAboveLimit}
 use Rattle.tables.specs.Answers.{isRefusal, after, refuseIf, passed, is-done, after-refusal, after-done}
 use Rattle.tables.specs.Conditions.{anyAbove, anyWrong, outOfRange, indexAt, IndexTable, not-above, not-wrong, not-bad-slab}
 use Rattle.lists.specs.Tests.{split}
@@ -270,15 +270,12 @@ whole-block m e =
     let g : k < 9 = subst (λ (n : ℕ). k < n) (length-block 9 0 m) h in
     getD-block 9 0 m k g ∙ ap (λ i. getD m i nan) (zero-add k))
 
--- the coefficients of the rotation, worked out once, and the loops over the atoms: the target slab is filled
-pub loops-distribute : (mapping : List ℤ) (rotation c : List Float) (n k target source F : ℕ) (fc : List Float) → 0 < 3 ^ suc k
+-- the loops over the atoms fill the target slab with rotated blocks
+pub loops-distribute : (mapping : List ℤ) (rotation : List Float) (n k target source F : ℕ) (fc : List Float) → 0 < 3 ^ suc k
     → ((i : ℕ) → i < n → indexAt mapping i < n) → length fc ≡ room n k F * 3 ^ suc k → target < F → source < F → (target ≡ source → ⊥)
-    → c ≡ coefficients rotation (suc k) (3 ^ suc k)
-    → move mapping n (3 ^ suc k) (sums (3 ^ suc k) (3 ^ suc k) (3 ^ suc k) 0 c) k target source fc ≡ distributed mapping rotation n k target source fc
-loops-distribute mapping rotation c n k target source F fc hw images len ht hs ne e =
-    let w = 3 ^ suc k in
-    ap (λ f. move mapping n w f k target source fc) (fun-ext (λ t. ap (λ x. sums w w w 0 x t) e ∙ sums-rotated rotation (suc k) t))
-    ∙ slab-moved mapping n w k target source F (rotated rotation (suc k)) fc images len ht hs ne hw
+    → move mapping n (3 ^ suc k) (rotated rotation (suc k)) k target source fc ≡ distributed mapping rotation n k target source fc
+loops-distribute mapping rotation n k target source F fc hw images len ht hs ne =
+    slab-moved mapping n (3 ^ suc k) k target source F (rotated rotation (suc k)) fc images len ht hs ne hw
     ∙ slab-distributed mapping rotation n k target source F fc hw len
 
 -- the blocks of the atoms numbered t, with k more atoms, lie inside the set
@@ -326,10 +323,10 @@ pub ready : (limit stated lengthFc : ℕ) (mapping : List ℤ) (n lengthRotation
     → judgedSlabs limit stated lengthFc mapping n lengthRotation F target source ≡ Done → Ready limit stated lengthFc mapping n lengthRotation F target source
 unfolding judgedSlabs
 ready limit stated lengthFc mapping n lengthRotation F target source e =
-    let (q1, e1) = passed _ _ _ refl e in
-    let (q2, e2) = passed _ _ _ refl e1 in
-    let (q3, e3) = passed _ _ _ refl e2 in
-    let (q4, e4) = passed _ _ _ refl e3 in
+    let (q1, e1) = passed _ _ _ e in
+    let (q2, e2) = passed _ _ _ e1 in
+    let (q3, e3) = passed _ _ _ e2 in
+    let (q4, e4) = passed _ _ _ e3 in
     let (a, (b, _)) = not-above limit (n ∷ F ∷ []) q1 in
     let (l1, (l2, (l3, _))) = not-wrong ((lengthFc, stated) ∷ (length mapping, n) ∷ (lengthRotation, 9) ∷ []) q2 in
     let (t, s, d) = not-bad-slab F target source q4 in
@@ -346,7 +343,7 @@ ready limit stated lengthFc mapping n lengthRotation F target source e =
 
 -- the stated length counts only where the counts are within the limit
 counted : (limit s lengthFc : ℕ) (mapping : List ℤ) (n lengthRotation F target source : ℕ) → anyAbove limit (n ∷ F ∷ []) ≡ true
-    → judgedSlabs limit s lengthFc mapping n lengthRotation F target source ≡ CountAboveLimit
+    → judgedSlabs limit s lengthFc mapping n lengthRotation F target source ≡ Refused CountAboveLimit
 unfolding judgedSlabs
 counted limit s lengthFc mapping n lengthRotation F target source q = rw q
 

@@ -1,5 +1,6 @@
 // The distribute calls of third and fourth order: one guard for both, and the definitions and laws over the order in specs/.
 use tables::Answer;
+use tables::Refusal;
 ghost use mathlib.Core.Path.{_≡_};
 ghost use Rattle.slabs.specs.Slab.{judgedSlabs};
 
@@ -19,31 +20,31 @@ pub fn judge_slabs(
     ensures { λ r. ⌜ r ≡ judgedSlabs limit stated «set_length» (now («atom_mapping» .entry)) «num_atom» «rotation_length» «num_first» target source ⌝ }
 {
     if num_atom > limit {
-        return Answer::CountAboveLimit;
+        return Answer::Refused(Refusal::CountAboveLimit);
     }
     if num_first > limit {
-        return Answer::CountAboveLimit;
+        return Answer::Refused(Refusal::CountAboveLimit);
     }
     if set_length != stated {
-        return Answer::WrongLength;
+        return Answer::Refused(Refusal::WrongLength);
     }
     if atom_mapping.len() != num_atom {
-        return Answer::WrongLength;
+        return Answer::Refused(Refusal::WrongLength);
     }
     if rotation_length != 9 {
-        return Answer::WrongLength;
+        return Answer::Refused(Refusal::WrongLength);
     }
     if !tables::index::all_below(atom_mapping, num_atom) {
-        return Answer::IndexOutOfRange;
+        return Answer::Refused(Refusal::IndexOutOfRange);
     }
     if target >= num_first {
-        return Answer::BadSlab;
+        return Answer::Refused(Refusal::BadSlab);
     }
     if source >= num_first {
-        return Answer::BadSlab;
+        return Answer::Refused(Refusal::BadSlab);
     }
     if target == source {
-        return Answer::BadSlab;
+        return Answer::Refused(Refusal::BadSlab);
     }
     Answer::Done
 }

@@ -11,8 +11,7 @@ use lib.ListN.{length, getD}
 use borrow.Author.Tests.{not-true, not-false}
 use Rattle.lists.specs.Tests.{every, some, every-at, every-of, some-at, some-of, refuted, same-test, not-both, and-fst, and-snd, both}
 use Rattle.lists.specs.Cases.{lt-or-le}
-use Rattle.tables.specs.Conditions.{below, outOfRange, below-at, none-out}
-use Rattle.tables.specs.Generators.{Tells}
+use Rattle.tables.specs.Conditions.{Tells, below, outOfRange, below-at, none-out}
 
 module _ (n : ℕ) (f : ℕ → Bool) where
   pub all-passed : ((k : ℕ) → k < n → f k ≡ true) → true ≡ every n f

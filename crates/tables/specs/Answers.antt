@@ -3,47 +3,43 @@
 use mathlib.Core.Path.{_≡_, refl, sym, ap, _∙_}
 use mathlib.Core.Bool.{Bool, true, false, cond, true≢false, false≢true}
 use Prim.Native.Nat.{ℕ}
+use Rattle.tables.specs.declared.Refusal.{Refusal}
+use Rattle.tables.specs.declared.Refusal.the-variants.{CountAboveLimit, WrongLength, IndexOutOfRange, BadSlab, BadRepresentative, BadShiftTables}
 use Rattle.tables.specs.declared.Answer.{Answer}
-use Rattle.tables.specs.declared.Answer.the-variants.{Done, CountAboveLimit, WrongLength, IndexOutOfRange, BadSlab, BadRepresentative, BadShiftTables}
+use Rattle.tables.specs.declared.Answer.the-variants.{Done, Refused}
 
--- document 01's number of each refusal; 0 for a call that is done
+-- document 01's number of each refusal
+abbrev pub refusalNumber : Refusal → ℕ
+refusalNumber CountAboveLimit = 1
+refusalNumber WrongLength = 2
+refusalNumber IndexOutOfRange = 3
+refusalNumber BadSlab = 4
+refusalNumber BadRepresentative = 5
+refusalNumber BadShiftTables = 6
+
+-- the number of an answer: 0 for a call that is done
 abbrev pub numberOf : Answer → ℕ
 numberOf Done = 0
-numberOf CountAboveLimit = 1
-numberOf WrongLength = 2
-numberOf IndexOutOfRange = 3
-numberOf BadSlab = 4
-numberOf BadRepresentative = 5
-numberOf BadShiftTables = 6
+numberOf (Refused r) = refusalNumber r
 
 abbrev pub isRefusal : Answer → Bool
 isRefusal Done = false
-isRefusal CountAboveLimit = true
-isRefusal WrongLength = true
-isRefusal IndexOutOfRange = true
-isRefusal BadSlab = true
-isRefusal BadRepresentative = true
-isRefusal BadShiftTables = true
+isRefusal (Refused r) = true
 
 -- what a call leaves of something lent to it: the new value if it is done, the old one if it is refused
 unfoldable pub after : {A : Type 0} → Answer → A → A → A
 after a new old = cond (isRefusal a) old new
 
 -- the refusal r where its condition holds, otherwise what the conditions after it say
-abbrev pub refuseIf : Bool → Answer → Answer → Answer
-refuseIf b r next = cond b r next
+abbrev pub refuseIf : Bool → Refusal → Answer → Answer
+refuseIf b r next = cond b (Refused r) next
 
 -- ---- laws
 
 -- an answer that is no refusal is Done
 pub is-done : (a : Answer) → isRefusal a ≡ false → a ≡ Done
 is-done Done e = refl
-is-done CountAboveLimit e = absurd (true≢false e)
-is-done WrongLength e = absurd (true≢false e)
-is-done IndexOutOfRange e = absurd (true≢false e)
-is-done BadSlab e = absurd (true≢false e)
-is-done BadRepresentative e = absurd (true≢false e)
-is-done BadShiftTables e = absurd (true≢false e)
+is-done (Refused r) e = absurd (true≢false e)
 
 -- a refused call leaves what it was lent
 pub after-refusal : {A : Type 0} (a : Answer) (new old : A) → isRefusal a ≡ true → after a new old ≡ old
@@ -55,15 +51,15 @@ unfolding after
 after-done a new old e = rw e
 
 -- what a refusal's condition says where the call is done
-pub passed : (b : Bool) (r next : Answer) → isRefusal r ≡ true → refuseIf b r next ≡ Done → (b ≡ false) × (next ≡ Done)
-passed true r next h e = absurd (false≢true (sym (ap isRefusal e) ∙ h))
-passed false r next h e = (refl, e)
+pub passed : (b : Bool) (r : Refusal) (next : Answer) → refuseIf b r next ≡ Done → (b ≡ false) × (next ≡ Done)
+passed true r next e = absurd (true≢false (ap isRefusal e))
+passed false r next e = (refl, e)
 
 -- the answer where a condition applies, and where it does not
-pub refused : (b : Bool) (r next : Answer) → b ≡ true → r ≡ refuseIf b r next
+pub refused : (b : Bool) (r : Refusal) (next : Answer) → b ≡ true → Refused r ≡ refuseIf b r next
 refused b r next e = rw e
 
-pub not-refused : (b : Bool) (r next : Answer) → b ≡ false → next ≡ refuseIf b r next
+pub not-refused : (b : Bool) (r : Refusal) (next : Answer) → b ≡ false → next ≡ refuseIf b r next
 not-refused b r next e = rw e
 
 -- a call on a set and a work slice: refused, it leaves both; done, it leaves the new set and the cleared work slice

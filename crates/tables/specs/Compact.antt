@@ -1,4 +1,4 @@
--- The one guard of every compact call, whatever its order (document 01, refusals 1, 2, 3 and 6), and what a set that passes it is known to be.
+-- The one guard of every compact call, whatever its rank (document 01, refusals 1, 2, 3 and 6), and what a set that passes it is known to be.
 -- Assumes nothing.
 use mathlib.Core.Path.{_≡_, refl, sym}
 use mathlib.Core.Bool.{Bool, false, not, _||_}
@@ -10,7 +10,8 @@ use borrow.Author.Tests.{not-false}
 use Rattle.lists.specs.Digits.{room, in-row}
 use Rattle.lists.specs.Elements.{All}
 use Rattle.tables.specs.declared.Answer.{Answer}
-use Rattle.tables.specs.declared.Answer.the-variants.{Done, CountAboveLimit, WrongLength, IndexOutOfRange, BadShiftTables}
+use Rattle.tables.specs.declared.Answer.the-variants.{Done}
+use Rattle.tables.specs.declared.Refusal.the-variants.{CountAboveLimit, WrongLength, IndexOutOfRange, BadShiftTables}
 use Rattle.tables.specs.Answers.{refuseIf, passed}
 use Rattle.tables.specs.Conditions.{anyAbove, anyWrong, outOfRange, nat, indexAt, IndexTable, or-false, not-above, not-wrong, read}
 use Rattle.tables.specs.Shifts.{Shifts, row, p2sAt, s2ppAt, nsymAt, ruled, Within, Laws, laws}
@@ -70,7 +71,7 @@ judgedTables limit lengths T =
     refuseIf (anyAbove limit (T .nSatom ∷ (T .nPatom ∷ (T .numTrans ∷ [])))) CountAboveLimit
     (refuseIf (anyWrong lengths || anyWrong (tableLengths T)) WrongLength (judgedEntries T))
 
--- A compact call of order m + 1: the set has n_patom × n_satom^m × 3^(m + 1) numbers, its work slice n_patom × n_satom^k entries.
+-- A compact call of rank m + 1: the set has n_patom × n_satom^m × 3^(m + 1) numbers, its work slice n_patom × n_satom^k entries.
 unfoldable pub judgedCompact : ℕ → ℕ → ℕ → ℕ → ℕ → ShiftTables → Answer
 judgedCompact limit m lenSet k lenWork T =
     judgedTables limit
@@ -89,7 +90,7 @@ pub record Fit (limit : ℕ) (T : ShiftTables) : Type 0 where
   pub s2pp-fit : IndexTable (T .nSatom) (T .nPatom) (T .s2pp)
   pub nsym-fit : IndexTable (T .nSatom) (T .numTrans) (T .nsymList)
 
--- a compact set of order m + 1 with its work slice
+-- a compact set of rank m + 1 with its work slice
 pub record Compact (limit m lenSet k lenWork : ℕ) (T : ShiftTables) : Type 0 where
   pub set-length : lenSet ≡ room 3 (suc m) (room (T .nSatom) m (T .nPatom))
   pub work-length : lenWork ≡ room (T .nSatom) k (T .nPatom)
@@ -146,10 +147,10 @@ pub done-tables : (limit : ℕ) (ls : List (ℕ × ℕ)) (T : ShiftTables) → j
     → All (λ l. l .0 ≡ l .1) ls × Fit limit T × Laws (shiftsOf T)
 unfolding judgedTables judgedEntries
 done-tables limit ls T e =
-    let (q1, e1) = passed _ _ _ refl e in
-    let (q2, e2) = passed _ _ _ refl e1 in
-    let (q3, e3) = passed _ _ _ refl e2 in
-    let (q6, e6) = passed _ _ _ refl e3 in
+    let (q1, e1) = passed _ _ _ e in
+    let (q2, e2) = passed _ _ _ e1 in
+    let (q3, e3) = passed _ _ _ e2 in
+    let (q6, e6) = passed _ _ _ e3 in
     let (nS, (nP, (nT, _))) = not-above limit (T .nSatom ∷ (T .nPatom ∷ (T .numTrans ∷ []))) q1 in
     let (hl, ht) = or-false (anyWrong ls) (anyWrong (tableLengths T)) q2 in
     let F = fit-of limit T nS nP nT ht q3 in

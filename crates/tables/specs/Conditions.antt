@@ -24,6 +24,10 @@ abbrev pub anyWrong : List (ℕ × ℕ) → Bool
 anyWrong [] = false
 anyWrong (l ∷ ls) = not (eqb (l .0) (l .1)) || anyWrong ls
 
+-- what a test's answer tells
+abbrev pub Tells : Bool → Type 0 → Type 0
+Tells r A = (r ≡ true → A) × (A → r ≡ true)
+
 -- x is an index into n things: not negative, and below n
 abbrev pub below : ℕ → ℤ → Bool
 below n (pos k) = ltb k n

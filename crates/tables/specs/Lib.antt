@@ -3,6 +3,4 @@ pub mod Limits
 pub mod Conditions
 pub mod Shifts
 pub mod Compact
-pub mod Rows
-pub mod Generators
 pub mod Samples

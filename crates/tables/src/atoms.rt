@@ -1,6 +1,7 @@
 // Atom numbers as they are read from the shift tables. A number of the supercell and one of the primitive cell are types of their own,
 // so that neither is accepted in the other's place.
 ghost use mathlib.Core.Path.{_≡_};
+ghost use lib.Dec.{eqb};
 ghost use Prim.Native.Nat.{_+_, _*_};
 ghost use Rattle.tables.specs.Conditions.{indexAt, Readable};
 use super::index::entry;
@@ -45,4 +46,18 @@ pub fn nsym_at(nsym_list: &[i64], a: SuperAtom) -> usize
 {
     let i = a.0;
     entry(nsym_list, i)
+}
+
+// Whether two atoms of the supercell are one.
+pub fn same_super(a: SuperAtom, b: SuperAtom) -> bool
+    ensures { λ r. ⌜ r ≡ eqb (a .0) (b .0) ⌝ }
+{
+    a.0 == b.0
+}
+
+// Whether two atoms of the primitive cell are one.
+pub fn same_prim(p: PrimAtom, q: PrimAtom) -> bool
+    ensures { λ r. ⌜ r ≡ eqb (p .0) (q .0) ⌝ }
+{
+    p.0 == q.0
 }

@@ -4,8 +4,7 @@ ghost use mathlib.Core.Bool.{true, not};
 ghost use Prim.Native.Nat.{ℕ, _+_, _≤_, _<_};
 ghost use lib.IntN.{pos};
 ghost use lib.ListN.{length, getD};
-ghost use Rattle.tables.specs.Conditions.{below, outOfRange, indexAt, Readable};
-ghost use Rattle.tables.specs.Generators.{Tells};
+ghost use Rattle.tables.specs.Conditions.{Tells, below, outOfRange, indexAt, Readable};
 
 // Whether x is an index into n things: not negative, and below n.
 fn is_below(x: i64, n: usize) -> bool

@@ -1,17 +1,13 @@
-// Refusals, limits, index tables, shift tables and the two kinds of atom number: one guard for every order.
+// Refusals, limits, index tables and the two kinds of atom number. specs/ has the rules of shift tables too, which crate shifts tests.
 ghost use mathlib.Core.Path.{_≡_};
-ghost use Rattle.tables.specs.Answers.{numberOf, isRefusal};
+ghost use Rattle.tables.specs.Answers.{refusalNumber, numberOf, isRefusal};
 
 pub mod atoms;
-mod closed;
-pub mod guard;
 pub mod index;
 pub mod limits;
-mod rules;
 
-// What a call answers: done, or the first of document 01's six refusals that applies.
-pub enum Answer {
-    Done,
+// Document 01's six refusals, by their numbers.
+pub enum Refusal {
     // 1: a count is above its limit
     CountAboveLimit,
     // 2: a slice has a length other than the one stated for it
@@ -26,32 +22,42 @@ pub enum Answer {
     BadShiftTables,
 }
 
-// Document 01's number of an answer; 0 is done.
+// What a call answers: done, or the first refusal that applies.
+pub enum Answer {
+    Done,
+    Refused(Refusal),
+}
+
+// Document 01's number of a refusal.
+pub fn refusal_number(r: Refusal) -> u8
+    ensures { λ n. ⌜ n ≡ refusalNumber r ⌝ }
+{
+    match r {
+        Refusal::CountAboveLimit => 1,
+        Refusal::WrongLength => 2,
+        Refusal::IndexOutOfRange => 3,
+        Refusal::BadSlab => 4,
+        Refusal::BadRepresentative => 5,
+        Refusal::BadShiftTables => 6,
+    }
+}
+
+// The number of an answer: 0 for done, the refusal's own otherwise.
 pub fn number(a: Answer) -> u8
     ensures { λ r. ⌜ r ≡ numberOf a ⌝ }
 {
     match a {
         Answer::Done => 0,
-        Answer::CountAboveLimit => 1,
-        Answer::WrongLength => 2,
-        Answer::IndexOutOfRange => 3,
-        Answer::BadSlab => 4,
-        Answer::BadRepresentative => 5,
-        Answer::BadShiftTables => 6,
+        Answer::Refused(r) => refusal_number(r),
     }
 }
 
-// Whether the call is turned down.
+// Whether the call is refused.
 pub fn is_refusal(a: Answer) -> bool
     ensures { λ r. ⌜ r ≡ isRefusal a ⌝ }
 {
     match a {
         Answer::Done => false,
-        Answer::CountAboveLimit => true,
-        Answer::WrongLength => true,
-        Answer::IndexOutOfRange => true,
-        Answer::BadSlab => true,
-        Answer::BadRepresentative => true,
-        Answer::BadShiftTables => true,
+        Answer::Refused(_) => true,
     }
 }

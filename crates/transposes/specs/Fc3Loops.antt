@@ -19,12 +19,12 @@ use Rattle.tables.specs.Shifts.{Shifts, Laws, p2sAt}
 use Rattle.tables.specs.Conditions.{indexAt}
 use Rattle.tables.specs.Compact.{ShiftTables, shiftsOf, done-compact, p2s-is}
 use Rattle.places.specs.Places.{Leg, size}
-use Rattle.places.specs.Orders.{taken, Order}
+use Rattle.places.specs.Permutations.{taken, Permutation}
 use Rattle.places.specs.Moves.{order, stays, transposed}
 use Rattle.orbits.specs.Counterparts.{Paired, visit, workedOver}
-use Rattle.orbits.specs.Transposed.{counterpart, turned, blocksBy, paired}
+use Rattle.orbits.specs.Transposed.{counterpart, blocksBy, paired}
+use Rattle.blocks.specs.Permuted.{permuted, permutedBlock, gathered, lnm, mln, nml, lnm-is, mln-is, nml-is}
 use Rattle.orbits.specs.BlockPairs.{joinedPair, pair-is}
-use Rattle.orbits.specs.Turns.{gathered, lnm, mln, nml, lnm-is, mln-is, nml-is}
 use Rattle.orbits.specs.AtBlocks.{atoms-are, storedOf, counterpart-at, stored-own}
 use Rattle.orbits.specs.Blockwise.{inBlock, atomsAt}
 use Rattle.orbits.specs.Trading.{theOther, never, staysAt, Trades, moves, trades, stays-both}
@@ -36,7 +36,6 @@ use Rattle.tables.specs.Answers.{isRefusal, after, is-done, refused-call, done-
 use Rattle.tables.specs.Limits.{limit3}
 use Rattle.transposes.specs.Fc3.{transposedBy, judgedTranspose, transposeCompactFc3}
 use Rattle.transposes.specs.HalfShift.{Sound, Trading, trading, block-in}
-use Rattle.transposes.specs.Exchange.{turnedBlock}
 
 -- atoms of a block, and its number
 abbrev pub Atoms : ShiftTables → ℕ → ℕ → ℕ → Type 0
@@ -60,13 +59,13 @@ stayOf T (suc zero) = staysAt (shiftsOf T) 2 1
 stayOf T (suc (suc t)) = never
 
 -- one visit of the loop over blocks
-unfoldable pub turnAt : ShiftTables → ℕ → ℕ → List Float → List Float
+unfoldable pub exchangeAt : ShiftTables → ℕ → ℕ → List Float → List Float
 unfolding stayOf
-turnAt T t n xs = visit nan theOther (blocksBy (shiftsOf T) 2 (order t) (stayOf T t)) n xs
+exchangeAt T t n xs = visit nan theOther (blocksBy (shiftsOf T) 2 (order t) (stayOf T t)) n xs
 
 -- the three loops as the program nests them
 unfoldable pub rowT : ShiftTables → ℕ → ℕ → ℕ → List Float → List Float
-rowT T t p j xs = times (T .nSatom) (λ k. turnAt T t (at3 T p j k)) xs
+rowT T t p j xs = times (T .nSatom) (λ k. exchangeAt T t (at3 T p j k)) xs
 
 unfoldable pub slabT : ShiftTables → ℕ → ℕ → List Float → List Float
 slabT T t p xs = times (T .nSatom) (λ j. rowT T t p j) xs
@@ -90,7 +89,7 @@ trades-1 = record { isOrder = (refl, omega arith); leg = lit< tt; first = refl; 
     t : (xs : List Leg) → length xs ≡ 3 → taken (2 ∷ 1 ∷ 0 ∷ []) (taken (2 ∷ 1 ∷ 0 ∷ []) xs) ≡ xs
     t xs l = pick-pick (0, 0) (2 ∷ 1 ∷ 0 ∷ []) (2 ∷ 1 ∷ 0 ∷ []) xs (omega arith) ∙ (unfold pick straight tab tabFrom in pick-straight (0, 0) 3 xs l)
 
-order-2 : Order 2 (order 2)
+order-2 : Permutation 2 (order 2)
 unfolding order
 order-2 = (refl, omega arith)
 
@@ -108,16 +107,16 @@ pairs-of T L (suc (suc (suc t))) h = absurd (omega arith)
 
 -- ---- THE LOOPS LEAVE THE TRANSPOSED SET
 
-one-loop : (T : ShiftTables) (t : ℕ) (xs : List Float) → allT T t xs ≡ times (room (T .nSatom) 2 (T .nPatom)) (turnAt T t) xs
+one-loop : (T : ShiftTables) (t : ℕ) (xs : List Float) → allT T t xs ≡ times (room (T .nSatom) 2 (T .nPatom)) (exchangeAt T t) xs
 unfolding allT slabT rowT room
 one-loop T t xs =
     let n = T .nSatom in
-    let f = turnAt T t in
+    let f = exchangeAt T t in
     sym (times-nest (T .nPatom * n) n f xs ∙ times-nest (T .nPatom) n (λ i. times n (λ k. f (i * n + k))) xs)
 
 by-type : (T : ShiftTables) → Laws (shiftsOf T) → (t : ℕ) (old : List Float) → t < 3 → length old ≡ size (shiftsOf T) 2
-    → times (room (T .nSatom) 2 (T .nPatom)) (turnAt T t) old ≡ transposed nan (shiftsOf T) t old
-unfolding turnAt stayOf transposed
+    → times (room (T .nSatom) 2 (T .nPatom)) (exchangeAt T t) old ≡ transposed nan (shiftsOf T) t old
+unfolding exchangeAt stayOf transposed
 by-type T L zero old h e = trades (shiftsOf T) L 2 0 (order 0) trades-0 nan old e
 by-type T L (suc zero) old h e = trades (shiftsOf T) L 2 1 (order 1) trades-1 nan old e
 by-type T L (suc (suc zero)) old h e = moves (shiftsOf T) L 2 (order 2) order-2 twice-2 nan old e
@@ -156,18 +155,18 @@ module _ (T : ShiftTables) (p j k : ℕ) (a : Atoms T p j k) where
 
 -- ---- what the program finds
 
--- a block turned by type
-pub turned-0 : {r : List Float} (v : List Float) (t : ℕ) → t ≡ 0 → r ≡ gathered v mln → r ≡ turnedBlock 27 (turned 2 (order t)) v
-unfolding order turnedBlock
-turned-0 v t e f = f ∙ mln-is v ∙ ap (λ t. turnedBlock 27 (turned 2 (order t)) v) (sym e)
+-- a block permuted by type
+pub permuted-0 : {r : List Float} (v : List Float) (t : ℕ) → t ≡ 0 → r ≡ gathered v mln → r ≡ permutedBlock 27 (permuted 2 (order t)) v
+unfolding order permutedBlock
+permuted-0 v t e f = f ∙ mln-is v ∙ ap (λ t. permutedBlock 27 (permuted 2 (order t)) v) (sym e)
 
-pub turned-1 : {r : List Float} (v : List Float) (t : ℕ) → t ≡ 1 → r ≡ gathered v nml → r ≡ turnedBlock 27 (turned 2 (order t)) v
-unfolding order turnedBlock
-turned-1 v t e f = f ∙ nml-is v ∙ ap (λ t. turnedBlock 27 (turned 2 (order t)) v) (sym e)
+pub permuted-1 : {r : List Float} (v : List Float) (t : ℕ) → t ≡ 1 → r ≡ gathered v nml → r ≡ permutedBlock 27 (permuted 2 (order t)) v
+unfolding order permutedBlock
+permuted-1 v t e f = f ∙ nml-is v ∙ ap (λ t. permutedBlock 27 (permuted 2 (order t)) v) (sym e)
 
-pub turned-2 : {r : List Float} (v : List Float) (t : ℕ) → t ≡ 2 → r ≡ gathered v lnm → r ≡ turnedBlock 27 (turned 2 (order t)) v
-unfolding order turnedBlock
-turned-2 v t e f = f ∙ lnm-is v ∙ ap (λ t. turnedBlock 27 (turned 2 (order t)) v) (sym e)
+pub permuted-2 : {r : List Float} (v : List Float) (t : ℕ) → t ≡ 2 → r ≡ gathered v lnm → r ≡ permutedBlock 27 (permuted 2 (order t)) v
+unfolding order permutedBlock
+permuted-2 v t e f = f ∙ lnm-is v ∙ ap (λ t. permutedBlock 27 (permuted 2 (order t)) v) (sym e)
 
 module _ (T : ShiftTables) (Z : Sound T) (p j k : ℕ) (a : Atoms T p j k) where
   abbrev S : Shifts
@@ -201,24 +200,24 @@ module _ (T : ShiftTables) (Z : Sound T) (t n : ℕ) (ht : t < 3) (hn : n < room
   pub other-in : counterpart (shiftsOf T) 2 (order t) n < room (T .nSatom) 2 (T .nPatom)
   other-in = pairs-of T (Z .rules) t ht .other-below n hn
 
-  pub turn-lower : counterpart (shiftsOf T) 2 (order t) n < n → turnAt T t n xs ≡ xs
-  unfolding turnAt visit
-  turn-lower h = by (stayOf T t n) (lt-ltb (counterpart (shiftsOf T) 2 (order t) n) n h)
+  pub visit-met : counterpart (shiftsOf T) 2 (order t) n < n → exchangeAt T t n xs ≡ xs
+  unfolding exchangeAt visit
+  visit-met h = by (stayOf T t n) (lt-ltb (counterpart (shiftsOf T) 2 (order t) n) n h)
     where
       by : (s : Bool) → ltb (counterpart (shiftsOf T) 2 (order t) n) n ≡ true
           → cond (s || ltb (counterpart (shiftsOf T) 2 (order t) n) n) xs (workedOver nan theOther (blocksBy (shiftsOf T) 2 (order t) (stayOf T t)) n xs) ≡ xs
       by true e = refl
       by false e = rw e
 
-  pub turn-stays : stayOf T t n ≡ true → turnAt T t n xs ≡ xs
-  unfolding turnAt visit
-  turn-stays e = rw e
+  pub visit-stays : stayOf T t n ≡ true → exchangeAt T t n xs ≡ xs
+  unfolding exchangeAt visit
+  visit-stays e = rw e
 
-  pub turn-taken : n ≤ counterpart (shiftsOf T) 2 (order t) n → stayOf T t n ≡ false
-      → joinedPair theOther 27 (turned 2 (order t)) n (counterpart (shiftsOf T) 2 (order t) n) xs ≡ turnAt T t n xs
-  unfolding turnAt visit
-  turn-taken h e =
-      ap (λ c. joinedPair theOther c (turned 2 (order t)) n (counterpart (shiftsOf T) 2 (order t) n) xs) (sym in27)
+  pub visit-takes : n ≤ counterpart (shiftsOf T) 2 (order t) n → stayOf T t n ≡ false
+      → joinedPair theOther 27 (permuted 2 (order t)) n (counterpart (shiftsOf T) 2 (order t) n) xs ≡ exchangeAt T t n xs
+  unfolding exchangeAt visit
+  visit-takes h e =
+      ap (λ c. joinedPair theOther c (permuted 2 (order t)) n (counterpart (shiftsOf T) 2 (order t) n) xs) (sym in27)
       ∙ pair-is theOther (blocksBy (shiftsOf T) 2 (order t) (stayOf T t)) (pairs-of T (Z .rules) t ht) xs n hn
       ∙ sym (rw (e, le-ltb (counterpart (shiftsOf T) 2 (order t) n) n h))
 
@@ -233,24 +232,24 @@ module _ {lenSet : ℕ} (T : ShiftTables) (R : Trading 2 lenSet T) (t p j k : �
       let h = at-in T p j k a in
       (block-in T R 27 in27 n (rw own h), block-in T R 27 in27 o (rw eo (other-in T (R .sound) t (at3 T p j k) ht h [])))
 
-  pub found-met : o < n → (xs : List Float) → xs ≡ turnAt T t (at3 T p j k) xs
-  found-met h xs = sym (turn-lower T (R .sound) t (at3 T p j k) ht (at-in T p j k a) xs (rw (← eo, ← own) h))
+  pub found-met : o < n → (xs : List Float) → xs ≡ exchangeAt T t (at3 T p j k) xs
+  found-met h xs = sym (visit-met T (R .sound) t (at3 T p j k) ht (at-in T p j k a) xs (rw (← eo, ← own) h))
 
-  pub found-stays : stayOf T t (at3 T p j k) ≡ true → (xs : List Float) → xs ≡ turnAt T t (at3 T p j k) xs
-  found-stays e xs = sym (turn-stays T (R .sound) t (at3 T p j k) ht (at-in T p j k a) xs e)
+  pub found-stays : stayOf T t (at3 T p j k) ≡ true → (xs : List Float) → xs ≡ exchangeAt T t (at3 T p j k) xs
+  found-stays e xs = sym (visit-stays T (R .sound) t (at3 T p j k) ht (at-in T p j k a) xs e)
 
-  pub found-now : n ≤ o → stayOf T t (at3 T p j k) ≡ false → (xs : List Float) {new : List Float} → new ≡ joinedPair theOther 27 (turned 2 (order t)) n o xs
-      → new ≡ turnAt T t (at3 T p j k) xs
+  pub found-now : n ≤ o → stayOf T t (at3 T p j k) ≡ false → (xs : List Float) {new : List Float} → new ≡ joinedPair theOther 27 (permuted 2 (order t)) n o xs
+      → new ≡ exchangeAt T t (at3 T p j k) xs
   found-now h s xs e =
-      e ∙ ap₂ (λ u v. joinedPair theOther 27 (turned 2 (order t)) u v xs) own eo
-      ∙ turn-taken T (R .sound) t (at3 T p j k) ht (at-in T p j k a) xs (rw (← eo, ← own) h) s
+      e ∙ ap₂ (λ u v. joinedPair theOther 27 (permuted 2 (order t)) u v xs) own eo
+      ∙ visit-takes T (R .sound) t (at3 T p j k) ht (at-in T p j k a) xs (rw (← eo, ← own) h) s
 
 -- type 0: all blocks of a pair that stays
 pub row-stays : (T : ShiftTables) → Sound T → (p j : ℕ) → p < T .nPatom → j < T .nSatom → stays (shiftsOf T) p j ≡ true → (xs : List Float) → xs ≡ rowT T 0 p j xs
 unfolding rowT
 row-stays T Z p j hp hj e xs =
-    sym (times-idle (T .nSatom) (λ k. turnAt T 0 (at3 T p j k)) xs (λ k hk y.
-    turn-stays T Z 0 (at3 T p j k) (lit< tt) (at-in T p j k (hp, hj, hk)) y (sym (stay-0 T p j k (hp, hj, hk) 0 refl) ∙ e)))
+    sym (times-idle (T .nSatom) (λ k. exchangeAt T 0 (at3 T p j k)) xs (λ k hk y.
+    visit-stays T Z 0 (at3 T p j k) (lit< tt) (at-in T p j k (hp, hj, hk)) y (sym (stay-0 T p j k (hp, hj, hk) 0 refl) ∙ e)))
 
 -- type 2: the counterpart (p, k, j) is the lower one exactly where k < j
 below : (n p j k : ℕ) → k < j → j < n → (p * n + k) * n + j < (p * n + j) * n + k
@@ -266,12 +265,12 @@ rising n p j k h g =
     (lt-or-le j k)
 
 -- so the first j visits of a row change nothing
-pub idle-2 : (T : ShiftTables) → Sound T → (p j : ℕ) → p < T .nPatom → j < T .nSatom → (xs : List Float) → xs ≡ times j (λ k. turnAt T 2 (at3 T p j k)) xs
+pub idle-2 : (T : ShiftTables) → Sound T → (p j : ℕ) → p < T .nPatom → j < T .nSatom → (xs : List Float) → xs ≡ times j (λ k. exchangeAt T 2 (at3 T p j k)) xs
 idle-2 T Z p j hp hj xs =
-    sym (times-idle j (λ k. turnAt T 2 (at3 T p j k)) xs (λ k hk y.
+    sym (times-idle j (λ k. exchangeAt T 2 (at3 T p j k)) xs (λ k hk y.
     let a : Atoms T p j k = (hp, hj, omega arith) in
     let e : at3 T p k j ≡ counterpart (shiftsOf T) 2 (order 2) (at3 T p j k) = other-2 T Z p j k a 2 (at3 T p k j) refl (sym (plain3 (T .nSatom) p k j)) in
-    turn-lower T Z 2 (at3 T p j k) (lit< tt) (at-in T p j k a) y (rw (← e) (below (T .nSatom) p j k hk hj))))
+    visit-met T Z 2 (at3 T p j k) (lit< tt) (at-in T p j k a) y (rw (← e) (below (T .nSatom) p j k hk hj))))
 
 -- the call
 module _ (set : List Float) (T : ShiftTables) (work : List ℕ) (t : ℤ) (a : Answer) (e : a ≡ judgedTranspose (length set) (length work) T) where

@@ -21,14 +21,15 @@ use Rattle.tables.specs.Answers.{isRefusal, after, is-done, refused-call, done-
 use Rattle.tables.specs.Conditions.{indexAt}
 use Rattle.tables.specs.Compact.{ShiftTables, shiftsOf, judgedCompact, done-compact, p2s-is}
 use Rattle.places.specs.Places.{Leg, size}
-use Rattle.places.specs.Orders.{taken}
+use Rattle.places.specs.Permutations.{taken}
 use Rattle.places.specs.Moves.{order4, stays, transposed4}
 use Rattle.places.specs.Addresses.{storedBlock, block-below}
 use Rattle.places.specs.ReadOuts.{storedIn, stored-in}
 use Rattle.orbits.specs.Blockwise.{inBlock}
 use Rattle.orbits.specs.Counterparts.{Blocks, Paired, visit}
 use Rattle.orbits.specs.BlockPairs.{joinedPair, pair-is}
-use Rattle.orbits.specs.Transposed.{counterpart, turned, blocksBy, paired, counterpart-below}
+use Rattle.orbits.specs.Transposed.{counterpart, blocksBy, paired, counterpart-below}
+use Rattle.blocks.specs.Permuted.{permuted}
 use Rattle.orbits.specs.AtBlocks.{storedOf, counterpart-at}
 use Rattle.orbits.specs.Trading.{theOther, staysAt, Trades, trades, stays-both}
 use Rattle.transposes.specs.Fc4.{transposedBy4, transposeCompactFc4}
@@ -129,13 +130,13 @@ module _ (T : ShiftTables) (L : Laws (shiftsOf T)) (p j k l : ℕ) (a : Atoms T 
     trade-met h = sym (rw (stays-is ∙ s, lt-ltb (counterpart S 3 (order4 0) (at4 T p j k l)) (at4 T p j k l) (rw f at h)) refl)
 
     -- a block that changes places with its counterpart
-    pub trade-now : at4 T p j k l ≤ c → {new : List Float} → new ≡ joinedPair theOther 81 (turned 3 (order4 0)) (at4 T p j k l) c xs → new ≡ tradeAt T (at4 T p j k l) xs
+    pub trade-now : at4 T p j k l ≤ c → {new : List Float} → new ≡ joinedPair theOther 81 (permuted 3 (order4 0)) (at4 T p j k l) c xs → new ≡ tradeAt T (at4 T p j k l) xs
     unfolding tradeAt visit
     trade-now h e =
         let b = at4 T p j k l in
         let G = tradedBlocks T in
         let P : Paired G = paired S L 3 (order4 0) (trades4 .isOrder) (trades4 .twice) nan theOther (staysAt S 3 0) (stays-both S L 3 0 (order4 0) trades4) in
-        e ∙ ap₂ (λ w c. joinedPair theOther w (turned 3 (order4 0)) b c xs) (sym in81) f
+        e ∙ ap₂ (λ w c. joinedPair theOther w (permuted 3 (order4 0)) b c xs) (sym in81) f
         ∙ pair-is theOther G P xs b at-below
         ∙ sym (rw (stays-is ∙ s, le-ltb (counterpart S 3 (order4 0) b) b (rw f at h)) refl)
 
@@ -171,6 +172,10 @@ module _ (T : ShiftTables) (q : ℕ) (h : q < T .nPatom * T .nSatom) where
   pub pair-is-q : q / T .nSatom * T .nSatom + q % T .nSatom ≡ q
   pair-is-q = div-add-mod' q (T .nSatom)
 
+  -- its two atoms as the program finds them
+  pub pair-found : {p j : ℕ} → p ≡ q / T .nSatom → j ≡ q % T .nSatom → p * T .nSatom + j ≡ q
+  pair-found e f = rw (e, f) pair-is-q
+
 -- ---- what the program finds
 
 pub pairs-small : (T : ShiftTables) → Sound T → T .nPatom * T .nSatom ≤ 1048576
@@ -196,9 +201,9 @@ module _ (lenSet : ℕ) (T : ShiftTables) (p i j k l : ℕ) (M : Moving 3 lenSet
       let g : c < room (T .nSatom) 3 (T .nPatom) = rw found (counterpart-below (shiftsOf T) (Z .sound .rules) 3 (order4 0) (trades4 .isOrder) (at4 T p j k l) h) in
       (block-in T Z 81 in81 b (rw own h), block-in T Z 81 in81 c g)
 
-  pub found-now : b ≤ c → (xs : List Float) {new : List Float} → new ≡ joinedPair theOther 81 (turned 3 (order4 0)) b c xs → new ≡ tradeAt T (at4 T p j k l) xs
+  pub found-now : b ≤ c → (xs : List Float) {new : List Float} → new ≡ joinedPair theOther 81 (permuted 3 (order4 0)) b c xs → new ≡ tradeAt T (at4 T p j k l) xs
   found-now h xs e =
-      trade-now T (M .trading .sound .rules) p j k l atoms c found (M .moves) xs (rw own at h) (e ∙ ap (λ b. joinedPair theOther 81 (turned 3 (order4 0)) b c xs) own)
+      trade-now T (M .trading .sound .rules) p j k l atoms c found (M .moves) xs (rw own at h) (e ∙ ap (λ b. joinedPair theOther 81 (permuted 3 (order4 0)) b c xs) own)
 
   pub found-met : c < b → (xs : List Float) → xs ≡ tradeAt T (at4 T p j k l) xs
   found-met h xs = trade-met T (M .trading .sound .rules) p j k l atoms c found (M .moves) xs (rw own at h)

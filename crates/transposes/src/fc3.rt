@@ -1,74 +1,60 @@
-// The transposes of a compact set. Block after block, each with its counterpart: the two change places, turned, at the lower one of them.
+// The transposes of a compact set. Block after block, each with its counterpart: the two change places, permuted, at the lower one of them.
 // Blocks that a half shift exchanges with their own pair stay, as the Rust leaves them.
 ghost use mathlib.Core.Path.{_≡_};
 ghost use Prim.Native.Nat.{_+_, _*_, _<_, _≤_};
 ghost use lib.ListN.{length};
 ghost use Rattle.tables.specs.Compact.{shiftTables, shiftsOf};
+ghost use Rattle.blocks.specs.Permuted.{permuted as permutedBy};
 ghost use Rattle.places.specs.Moves.{order};
-ghost use Rattle.orbits.specs.Transposed.{turned as turnedBy};
 ghost use Rattle.orbits.specs.Trading.{theOther};
 ghost use Rattle.orbits.specs.BlockPairs.{joinedPair};
 ghost use Rattle.transposes.specs.Fc3.{transposedBy, transposeCompactFc3};
 ghost use Rattle.transposes.specs.HalfShift.{Trading, Moving};
-ghost use Rattle.transposes.specs.Exchange.{runFrom};
-ghost use Rattle.transposes.specs.Fc3Loops.{Atoms, at3, turnAt, rowT, slabT, allT};
+ghost use Rattle.transposes.specs.Fc3Loops.{Atoms, at3, exchangeAt, rowT, slabT, allT};
 use crate::half_shift::stays;
-use lines::nine;
+use blocks::permute;
 use lists::clear_bytes;
-use orbits::turn;
 use places::block3;
 use places::read_out3;
+use shifts::judge_compact;
 use tables::Answer;
 use tables::atoms::PrimAtom;
 use tables::atoms::SuperAtom;
 use tables::atoms::p2s_at;
-use tables::guard::judge_compact;
 use tables::is_refusal;
 use tables::limits::LIMIT3;
 
 // Blocks a and b change places, each with directions 0 and 1 exchanged (type 0).
 fn exchange0(fc3: &mut [f64], a: usize, b: usize)
     requires { ⌜ (a * 27 + 27 ≤ length (now fc3)) × (b * 27 + 27 ≤ length (now fc3)) ⌝ }
-    ensures { λ _. ⌜ now (fc3 .exit) ≡ joinedPair theOther 27 (turnedBy 2 (order 0)) a b (now (fc3 .entry)) ⌝ }
+    ensures { λ _. ⌜ now (fc3 .exit) ≡ joinedPair theOther 27 (permutedBy 2 (order 0)) a b (now (fc3 .entry)) ⌝ }
 {
     let one = blocks::read27(fc3, a);
     let other = blocks::read27(fc3, b);
-    blocks::write27(fc3, a, turn::turn_mln(other));
-    blocks::write27(fc3, b, turn::turn_mln(one));
+    blocks::write27(fc3, a, permute::permute_mln(other));
+    blocks::write27(fc3, b, permute::permute_mln(one));
 }
 
 // Blocks a and b change places, each with directions 0 and 2 exchanged (type 1).
 fn exchange1(fc3: &mut [f64], a: usize, b: usize)
     requires { ⌜ (a * 27 + 27 ≤ length (now fc3)) × (b * 27 + 27 ≤ length (now fc3)) ⌝ }
-    ensures { λ _. ⌜ now (fc3 .exit) ≡ joinedPair theOther 27 (turnedBy 2 (order 1)) a b (now (fc3 .entry)) ⌝ }
+    ensures { λ _. ⌜ now (fc3 .exit) ≡ joinedPair theOther 27 (permutedBy 2 (order 1)) a b (now (fc3 .entry)) ⌝ }
 {
     let one = blocks::read27(fc3, a);
     let other = blocks::read27(fc3, b);
-    blocks::write27(fc3, a, turn::turn_nml(other));
-    blocks::write27(fc3, b, turn::turn_nml(one));
+    blocks::write27(fc3, a, permute::permute_nml(other));
+    blocks::write27(fc3, b, permute::permute_nml(one));
 }
 
-// Blocks a and b of nine numbers change places, each transposed.
-fn exchange9(fc3: &mut [f64], a: usize, b: usize)
-    requires { ⌜ (a * 9 + 9 ≤ length (now fc3)) × (b * 9 + 9 ≤ length (now fc3)) ⌝ }
-    ensures { λ _. ⌜ now (fc3 .exit) ≡ joinedPair theOther 9 runFrom a b (now (fc3 .entry)) ⌝ }
-{
-    let one = blocks::read9(fc3, a);
-    let other = blocks::read9(fc3, b);
-    blocks::write9(fc3, a, nine::turned(other));
-    blocks::write9(fc3, b, nine::turned(one));
-}
-
-// Blocks a and b change places, each with directions 1 and 2 exchanged (type 2): nine numbers of one direction 0 after another, which fit the registers.
+// Blocks a and b change places, each with directions 1 and 2 exchanged (type 2).
 fn exchange2(fc3: &mut [f64], a: usize, b: usize)
     requires { ⌜ (a * 27 + 27 ≤ length (now fc3)) × (b * 27 + 27 ≤ length (now fc3)) ⌝ }
-    ensures { λ _. ⌜ now (fc3 .exit) ≡ joinedPair theOther 27 (turnedBy 2 (order 2)) a b (now (fc3 .entry)) ⌝ }
+    ensures { λ _. ⌜ now (fc3 .exit) ≡ joinedPair theOther 27 (permutedBy 2 (order 2)) a b (now (fc3 .entry)) ⌝ }
 {
-    let mut l = 0;
-    while l < 3 {
-        exchange9(fc3, a * 3 + l, b * 3 + l);
-        l += 1;
-    }
+    let one = blocks::read27(fc3, a);
+    let other = blocks::read27(fc3, b);
+    blocks::write27(fc3, a, permute::permute_lnm(other));
+    blocks::write27(fc3, b, permute::permute_lnm(one));
 }
 
 // One visit of type 0: block (p, j, k) of a pair (p, j) that moves and its counterpart change places at the lower one of them: i is p's representative.
@@ -87,7 +73,7 @@ fn visit0(
     k: SuperAtom,
 )
     requires { ⌜ Moving 2 (length (now fc3)) (shiftTables (now p2s) (now s2pp) (now «nsym_list») (now perms) «n_satom» «n_patom» «num_trans») (p .0) (i .0) (j .0) × (k .0 < «n_satom») ⌝ }
-    ensures { λ _. ⌜ now (fc3 .exit) ≡ turnAt (shiftTables (now (p2s .entry)) (now (s2pp .entry)) (now («nsym_list» .entry)) (now (perms .entry)) «n_satom» «n_patom» «num_trans») 0 (at3 (shiftTables (now (p2s .entry)) (now (s2pp .entry)) (now («nsym_list» .entry)) (now (perms .entry)) «n_satom» «n_patom» «num_trans») (p .0) (j .0) (k .0)) (now (fc3 .entry)) ⌝ }
+    ensures { λ _. ⌜ now (fc3 .exit) ≡ exchangeAt (shiftTables (now (p2s .entry)) (now (s2pp .entry)) (now («nsym_list» .entry)) (now (perms .entry)) «n_satom» «n_patom» «num_trans») 0 (at3 (shiftTables (now (p2s .entry)) (now (s2pp .entry)) (now («nsym_list» .entry)) (now (perms .entry)) «n_satom» «n_patom» «num_trans») (p .0) (j .0) (k .0)) (now (fc3 .entry)) ⌝ }
 {
     let n = block3(p, j, k, n_satom);
     let o = read_out3(s2pp, nsym_list, perms, j, i, k, n_satom);
@@ -112,7 +98,7 @@ fn visit1(
 )
     requires { ⌜ Trading 2 (length (now fc3)) (shiftTables (now p2s) (now s2pp) (now «nsym_list») (now perms) «n_satom» «n_patom» «num_trans») ⌝ }
     requires { ⌜ Atoms (shiftTables (now p2s) (now s2pp) (now «nsym_list») (now perms) «n_satom» «n_patom» «num_trans») (p .0) (j .0) (k .0) ⌝ }
-    ensures { λ _. ⌜ now (fc3 .exit) ≡ turnAt (shiftTables (now (p2s .entry)) (now (s2pp .entry)) (now («nsym_list» .entry)) (now (perms .entry)) «n_satom» «n_patom» «num_trans») 1 (at3 (shiftTables (now (p2s .entry)) (now (s2pp .entry)) (now («nsym_list» .entry)) (now (perms .entry)) «n_satom» «n_patom» «num_trans») (p .0) (j .0) (k .0)) (now (fc3 .entry)) ⌝ }
+    ensures { λ _. ⌜ now (fc3 .exit) ≡ exchangeAt (shiftTables (now (p2s .entry)) (now (s2pp .entry)) (now («nsym_list» .entry)) (now (perms .entry)) «n_satom» «n_patom» «num_trans») 1 (at3 (shiftTables (now (p2s .entry)) (now (s2pp .entry)) (now («nsym_list» .entry)) (now (perms .entry)) «n_satom» «n_patom» «num_trans») (p .0) (j .0) (k .0)) (now (fc3 .entry)) ⌝ }
 {
     let n = block3(p, j, k, n_satom);
     let i = p2s_at(p2s, p);
@@ -152,7 +138,7 @@ fn visit2(
 )
     requires { ⌜ Trading 2 (length (now fc3)) (shiftTables (now p2s) (now s2pp) (now «nsym_list») (now perms) «n_satom» «n_patom» «num_trans») ⌝ }
     requires { ⌜ Atoms (shiftTables (now p2s) (now s2pp) (now «nsym_list») (now perms) «n_satom» «n_patom» «num_trans») (p .0) (j .0) (k .0) × (j .0 ≤ k .0) ⌝ }
-    ensures { λ _. ⌜ now (fc3 .exit) ≡ turnAt (shiftTables (now (p2s .entry)) (now (s2pp .entry)) (now («nsym_list» .entry)) (now (perms .entry)) «n_satom» «n_patom» «num_trans») 2 (at3 (shiftTables (now (p2s .entry)) (now (s2pp .entry)) (now («nsym_list» .entry)) (now (perms .entry)) «n_satom» «n_patom» «num_trans») (p .0) (j .0) (k .0)) (now (fc3 .entry)) ⌝ }
+    ensures { λ _. ⌜ now (fc3 .exit) ≡ exchangeAt (shiftTables (now (p2s .entry)) (now (s2pp .entry)) (now («nsym_list» .entry)) (now (perms .entry)) «n_satom» «n_patom» «num_trans») 2 (at3 (shiftTables (now (p2s .entry)) (now (s2pp .entry)) (now («nsym_list» .entry)) (now (perms .entry)) «n_satom» «n_patom» «num_trans») (p .0) (j .0) (k .0)) (now (fc3 .entry)) ⌝ }
 {
     let n = block3(p, j, k, n_satom);
     let o = block3(p, k, j, n_satom);

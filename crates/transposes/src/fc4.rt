@@ -1,69 +1,54 @@
-// The transpose of a compact set. Pair after pair of first two atoms, block after block: a block and its counterpart change places, turned, at the
+// The transpose of a compact set. Pair after pair of first two atoms, block after block: a block and its counterpart change places, permuted, at the
 // lower one of them. Blocks that a half shift exchanges with their own pair stay, as the Rust leaves them.
 ghost use mathlib.Core.Path.{_≡_};
 ghost use Prim.Native.Nat.{_+_, _*_, _<_, _≤_};
 ghost use lib.ListN.{length};
 ghost use Rattle.tables.specs.Compact.{shiftTables, shiftsOf};
+ghost use Rattle.blocks.specs.Permuted.{permutedBlock, permuted as permutedBy};
 ghost use Rattle.places.specs.Moves.{order4};
-ghost use Rattle.orbits.specs.Transposed.{turned as turnedBy};
 ghost use Rattle.orbits.specs.Trading.{theOther};
 ghost use Rattle.orbits.specs.BlockPairs.{joinedPair};
-ghost use Rattle.blocks.specs.Block.{block, putBlock};
 ghost use Rattle.transposes.specs.Fc4.{transposedBy4, transposeCompactFc4};
 ghost use Rattle.transposes.specs.HalfShift.{Trading, Moving};
-ghost use Rattle.transposes.specs.Exchange.{turnedBlock};
 ghost use Rattle.transposes.specs.Fc4Loops.{at4, tradeAt, line4, plane4, pairs4};
 use crate::half_shift::stays;
 use lists::clear_bytes;
 use places::block4;
+use places::last_leg;
+use places::legs_before;
 use places::read_out4;
+use shifts::judge_compact;
 use tables::Answer;
 use tables::atoms::PrimAtom;
 use tables::atoms::SuperAtom;
 use tables::atoms::p2s_at;
-use tables::guard::judge_compact;
 use tables::is_refusal;
 use tables::limits::LIMIT4;
 
-// Block a becomes v with its first two directions exchanged: of its nine runs of nine numbers, (x, y) comes from (y, x).
-fn put_turned(fc4: &mut [f64], a: usize, v: &[f64; 81])
-    requires { ⌜ a * 81 + 81 ≤ length (now fc4) ⌝ }
-    ensures { λ _. ⌜ now (fc4 .exit) ≡ putBlock 81 a (turnedBlock 81 (turnedBy 3 (order4 0)) (now (v .entry))) (now (fc4 .entry)) ⌝ }
+// The block with its first two directions exchanged. They number nine runs of nine numbers side by side: run (x, y) comes from run (y, x), so that
+// runs (0, 0), (1, 1) and (2, 2) stay and the others change places in pairs.
+fn permuted81(v: [f64; 81]) -> [f64; 81]
+    ensures { λ r. ⌜ r ≡ permutedBlock 81 (permutedBy 3 (order4 0)) v ⌝ }
 {
-    let mut x = 0;
-    while x < 9 {
-        let run = blocks::read9(v, x % 3 * 3 + x / 3);
-        blocks::write9(fc4, a * 9 + x, run);
-        x += 1;
-    }
+    let mut r = v;
+    blocks::write9(&mut r, 1, blocks::read9(&v, 3));
+    blocks::write9(&mut r, 3, blocks::read9(&v, 1));
+    blocks::write9(&mut r, 2, blocks::read9(&v, 6));
+    blocks::write9(&mut r, 6, blocks::read9(&v, 2));
+    blocks::write9(&mut r, 5, blocks::read9(&v, 7));
+    blocks::write9(&mut r, 7, blocks::read9(&v, 5));
+    r
 }
 
-// Block a becomes block b, another one, with its first two directions exchanged: the runs are read where they stand.
-fn copy_turned(fc4: &mut [f64], a: usize, b: usize)
-    requires { ⌜ (a * 81 + 81 ≤ length (now fc4)) × (b * 81 + 81 ≤ length (now fc4)) × (b ≡ a → ⊥) ⌝ }
-    ensures { λ _. ⌜ now (fc4 .exit) ≡ putBlock 81 a (turnedBlock 81 (turnedBy 3 (order4 0)) (block 81 b (now (fc4 .entry)))) (now (fc4 .entry)) ⌝ }
-{
-    let mut x = 0;
-    while x < 9 {
-        let y = x % 3 * 3 + x / 3;
-        let run = blocks::read9(fc4, b * 9 + y);
-        blocks::write9(fc4, a * 9 + x, run);
-        x += 1;
-    }
-}
-
-// Blocks a and b change places, each with its first two directions exchanged. A block that is its own counterpart is turned.
+// Blocks a and b change places, each with its first two directions exchanged.
 fn exchange(fc4: &mut [f64], a: usize, b: usize)
     requires { ⌜ (a * 81 + 81 ≤ length (now fc4)) × (b * 81 + 81 ≤ length (now fc4)) ⌝ }
-    ensures { λ _. ⌜ now (fc4 .exit) ≡ joinedPair theOther 81 (turnedBy 3 (order4 0)) a b (now (fc4 .entry)) ⌝ }
+    ensures { λ _. ⌜ now (fc4 .exit) ≡ joinedPair theOther 81 (permutedBy 3 (order4 0)) a b (now (fc4 .entry)) ⌝ }
 {
     let one = blocks::read81(fc4, a);
-    if b == a {
-        put_turned(fc4, b, &one);
-        return;
-    }
-    copy_turned(fc4, a, b);
-    put_turned(fc4, b, &one);
+    let other = blocks::read81(fc4, b);
+    blocks::write81(fc4, a, permuted81(other));
+    blocks::write81(fc4, b, permuted81(one));
 }
 
 // Block (p, j, k, l) of a pair that moves and its counterpart, whose atoms begin j, i: i is p's representative.
@@ -170,7 +155,7 @@ fn plane(
     }
 }
 
-// Pair q: (q / n_satom, q % n_satom).
+// Pair q: its atoms are a block's of second order.
 fn pair(
     fc4: &mut [f64],
     p2s: &[i64],
@@ -185,8 +170,8 @@ fn pair(
     requires { ⌜ Trading 3 (length (now fc4)) (shiftTables (now p2s) (now s2pp) (now «nsym_list») (now perms) «n_satom» «n_patom» «num_trans») × (q < «n_patom» * «n_satom») ⌝ }
     ensures { λ _. ⌜ now (fc4 .exit) ≡ plane4 (shiftTables (now (p2s .entry)) (now (s2pp .entry)) (now («nsym_list» .entry)) (now (perms .entry)) «n_satom» «n_patom» «num_trans») q (now (fc4 .entry)) ⌝ }
 {
-    let first = q / n_satom;
-    let second = q % n_satom;
+    let first = legs_before(q, n_satom);
+    let second = last_leg(q, n_satom);
     let p = PrimAtom(first);
     let j = SuperAtom(second);
     if stays(

@@ -1,4 +1,4 @@
-// The half-shift test, for every order of the set.
+// The half-shift test, for sets of every rank.
 ghost use mathlib.Core.Path.{_≡_};
 ghost use Prim.Native.Nat.{_<_};
 ghost use Rattle.tables.specs.Compact.{shiftTables, shiftsOf};

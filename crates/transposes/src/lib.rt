@@ -1,4 +1,4 @@
 // The transposes of compact sets (fc3.rs, fc4.rs).
 pub mod fc3;
 pub mod fc4;
-pub mod half_shift;
+mod half_shift;

@@ -1,48 +1,45 @@
 use mathlib.Core.Path.{_∙_}
-use Rattle.blocks.specs.Block.{part-block}
+use native.Mathlib.Omega.{arith}
+use Rattle.blocks.specs.Nine.{joined-block}
 use borrow.Author.Needs.{needs}
 use Rattle.blocks.proofs.read27.Statement.{statement}
 use Rattle.blocks.proofs.read27.Tie as tie
 
-mul-at : tie.Need-mul-at
-mul-at c = search needs
+mul-g : tie.Need-mul-g
+mul-g c = search needs
 
-slice-aggregate-copy-all : tie.Need-slice-aggregate-copy-all
-slice-aggregate-copy-all c = search needs
+read9-requires : tie.Need-read9-requires
+read9-requires c κs = omega arith
 
-add-copy-all : tie.Need-add-copy-all
-add-copy-all c = search needs
+add-read9 : tie.Need-add-read9
+add-read9 c = search needs
 
-mul-copy-all : tie.Need-mul-copy-all
-mul-copy-all c = search needs
+read9-requires-2 : tie.Need-read9-requires-2
+read9-requires-2 c κs = omega arith
 
-sub-copy-all : tie.Need-sub-copy-all
-sub-copy-all c = search needs
+add-read9-2 : tie.Need-add-read9-2
+add-read9-2 c = search needs
 
-part-copy-all-start : tie.Need-part-copy-all-start
-part-copy-all-start c = search needs
+read9-requires-3 : tie.Need-read9-requires-3
+read9-requires-3 c κs = omega arith
 
-part-copy-all-end : tie.Need-part-copy-all-end
-part-copy-all-end c = search needs
-
-copy-all-requires : tie.Need-copy-all-requires
-copy-all-requires c κs = search needs
+join27-requires : tie.Need-join27-requires
+join27-requires c κs = search needs
 
 returns : tie.Need-returns
 returns c =
-    let s = c .before .before .before .before .before in
-    c .before .copy-all .ensures ∙ part-block 27 (s .args .b) (s .args .fc .now) (s .pre)
+    let a = c .before .before .before .before .before .args in
+    c .join27 .ensures ∙ joined-block (a .b) (a .fc .now) (c .before .before .before .read9 .ensures) (c .before .before .read92 .ensures) (c .before .read93 .ensures)
 
 pub read27-spec : {M : Type 1} → statement M
 read27-spec =
     tie.close
     (tie.spec
-    mul-at
-    slice-aggregate-copy-all
-    add-copy-all
-    mul-copy-all
-    sub-copy-all
-    part-copy-all-start
-    part-copy-all-end
-    copy-all-requires
+    mul-g
+    read9-requires
+    add-read9
+    read9-requires-2
+    add-read9-2
+    read9-requires-3
+    join27-requires
     returns)

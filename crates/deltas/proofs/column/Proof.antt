@@ -3,47 +3,45 @@ use borrow.Author.Needs.{needs}
 use Rattle.deltas.proofs.column.Statement.{statement}
 use Rattle.deltas.proofs.column.Tie as tie
 
-mul-t4 : tie.Need-mul-t4
-mul-t4 c = search needs
+with-leg-requires : tie.Need-with-leg-requires
+with-leg-requires c κs = search needs
 
-shared-slice-read-t6 : tie.Need-shared-slice-read-t6
-shared-slice-read-t6 c = search needs
+with-leg-requires-2 : tie.Need-with-leg-requires-2
+with-leg-requires-2 c κs = search needs
 
-add-t7 : tie.Need-add-t7
-add-t7 c = search needs
+mul-t6 : tie.Need-mul-t6
+mul-t6 c = search needs
 
-mul-t8 : tie.Need-mul-t8
-mul-t8 c = search needs
+shared-slice-read-t8 : tie.Need-shared-slice-read-t8
+shared-slice-read-t8 c = search needs
 
-shared-slice-read-t10 : tie.Need-shared-slice-read-t10
-shared-slice-read-t10 c = search needs
+mul-t9 : tie.Need-mul-t9
+mul-t9 c = search needs
 
-mul-t11 : tie.Need-mul-t11
-mul-t11 c = search needs
+shared-slice-read-t11 : tie.Need-shared-slice-read-t11
+shared-slice-read-t11 c = search needs
 
-add-t12 : tie.Need-add-t12
-add-t12 c = search needs
+mul-t12 : tie.Need-mul-t12
+mul-t12 c = search needs
 
-mul-t13 : tie.Need-mul-t13
-mul-t13 c = search needs
-
-shared-slice-read-t15 : tie.Need-shared-slice-read-t15
-shared-slice-read-t15 c = search needs
+shared-slice-read-t14 : tie.Need-shared-slice-read-t14
+shared-slice-read-t14 c = search needs
 
 returns : tie.Need-returns
-returns c = let a = c .before .before .before .args in is-column (a .inv-u .now) (a .total) (a .n)
+returns c =
+    let a = c .before .before .before .before .before .before .args in
+    is-column (a .inv-u .now) (a .total) (a .n) _ _ (c .before .before .before .before .with-leg .ensures) (c .before .before .before .with-leg2 .ensures)
 
 pub column-spec : {M : Type 1} → statement M
 column-spec =
     tie.close
     (tie.spec
-    mul-t4
-    shared-slice-read-t6
-    add-t7
-    mul-t8
-    shared-slice-read-t10
-    mul-t11
-    add-t12
-    mul-t13
-    shared-slice-read-t15
+    with-leg-requires
+    with-leg-requires-2
+    mul-t6
+    shared-slice-read-t8
+    mul-t9
+    shared-slice-read-t11
+    mul-t12
+    shared-slice-read-t14
     returns)

@@ -1,7 +1,7 @@
 use mathlib.Core.Path.{sym, _∙_}
 use native.Mathlib.Nat.{le-refl}
 use Rattle.tables.specs.Answers.{is-done}
-use Rattle.deltas.specs.Guard.{ready, rows-fit, refused, done-call, square}
+use Rattle.deltas.specs.Guard.{ready, refused, done-call}
 use borrow.Author.Needs.{needs}
 use Rattle.deltas.proofs.rotate_delta_fc2s.Statement.{statement}
 use Rattle.deltas.proofs.rotate_delta_fc2s.Tie as tie
@@ -27,8 +27,7 @@ rotate-rows-fc2s-requires c κs =
     let j = c .before .before .before .judge-fc2s in
     let d = is-done (j .result) (sym (c .before .before .is-refusal .ensures) ∙ c .before .if1 .left) in
     let (R, l) = ready _ 2 _ _ _ (le-refl 256) (sym (j .ensures) ∙ d) in
-    let n = c .before .before .before .before .before .before .before .before .before .before .before .args .num-atom in
-    (R, rows-fit l n n (square n))
+    (R, l .result-length)
 
 clear-floats-requires : tie.Need-clear-floats-requires
 clear-floats-requires c κs = search needs

@@ -2,7 +2,7 @@ use mathlib.Core.Path.{sym, _∙_}
 use Prim.Native.Nat.{_*_}
 use lib.Dec.{lit≤}
 use Rattle.tables.specs.Answers.{is-done}
-use Rattle.deltas.specs.Guard.{ready, rows-fit, refused, done-call, rows-of-cube}
+use Rattle.deltas.specs.Guard.{ready, refused, done-call}
 use borrow.Author.Needs.{needs}
 use Rattle.deltas.proofs.rotate_delta_fc3s.Statement.{statement}
 use Rattle.deltas.proofs.rotate_delta_fc3s.Tie as tie
@@ -28,8 +28,7 @@ rotate-rows-fc3s-requires c κs =
     let j = c .before .before .before .judge-fc3s in
     let d = is-done (j .result) (sym (c .before .before .is-refusal .ensures) ∙ c .before .if1 .left) in
     let (R, l) = ready _ 3 _ _ _ (lit≤ tt) (sym (j .ensures) ∙ d) in
-    let n = c .before .before .before .before .before .before .before .before .before .before .before .args .num-atom in
-    (R, rows-fit l (n * n) n (rows-of-cube n))
+    (R, l .result-length)
 
 clear-floats-requires : tie.Need-clear-floats-requires
 clear-floats-requires c κs = search needs

@@ -7,7 +7,7 @@ use Rattle.lines.proofs.average_pair.Lts as lts
 use Rattle.blocks.proofs.read9.Reads as read9-reads
 use Rattle.blocks.proofs.write9.Reads as write9-reads
 use Rattle.lines.proofs.nine.averaged.Reads as averaged-reads
-use Rattle.lines.proofs.nine.turned.Reads as turned-reads
+use Rattle.blocks.proofs.transposed9.Reads as transposed9-reads
 
 read9-requires : tie.Need-read9-requires
 read9-requires c κs = search needs
@@ -21,8 +21,8 @@ averaged-requires c κs = search needs
 write9-requires : tie.Need-write9-requires
 write9-requires c κs = search needs
 
-turned-requires : tie.Need-turned-requires
-turned-requires c κs = search needs
+transposed9-requires : tie.Need-transposed9-requires
+transposed9-requires c κs = search needs
 
 write9-requires-2 : tie.Need-write9-requires-2
 write9-requires-2 c κs = search needs
@@ -35,7 +35,7 @@ unfolding pairAt
 returns c =
     let w = c .before .before in
     let f = w .before .before .before .before .before in
-    rw (w .before .turned .ensures, f .write9 .ensures, f .before .before .averaged .ensures, f .before .before .before .read92 .ensures, f .before .before .before .before .before .read9 .ensures) at (w .write92 .ensures)
+    rw (w .before .transposed9 .ensures, f .write9 .ensures, f .before .before .averaged .ensures, f .before .before .before .read92 .ensures, f .before .before .before .before .before .read9 .ensures) at (w .write92 .ensures)
 
 pub average-pair-spec : {M : Type 1} → statement M
 average-pair-spec =
@@ -45,7 +45,7 @@ average-pair-spec =
     read9-requires-2
     averaged-requires
     write9-requires
-    turned-requires
+    transposed9-requires
     write9-requires-2
     same-length
     returns)

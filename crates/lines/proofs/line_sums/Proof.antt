@@ -1,5 +1,5 @@
-use Rattle.lines.specs.Lines.{lineSums}
-use Rattle.lines.specs.Nine.{added}
+use Rattle.lines.specs.Lines.{lineSums, step-is, step-fits}
+use Rattle.lines.specs.Nine.{more}
 use Rattle.blocks.specs.Block.{block}
 use Rattle.lists.specs.Tab.{times, times-none, times-more}
 use mathlib.Core.Path.{_≡_, refl, ap, _∙_}
@@ -11,10 +11,11 @@ use Rattle.lines.proofs.line_sums.Tie as tie
 use Rattle.lines.proofs.line_sums.Reads as reads
 use Rattle.lines.proofs.line_sums.Lts as lts
 use Rattle.blocks.proofs.read9.Reads as read9-reads
-use Rattle.lines.proofs.nine.added.Reads as added-reads
+use Rattle.lines.proofs.nine.more.Reads as more-reads
+use Rattle.places.proofs.with_leg.Reads as with-leg-reads
 
 abbrev Inv-loop : tie.InvT-loop
-Inv-loop fc first step count sums₀ k₀ sums k = (k ≤ count) × (sums ≡ times k (λ m t. added t (block 9 (first + m * step) fc)) sums₀)
+Inv-loop fc first step count sums₀ k₀ sums k = (k ≤ count) × (sums ≡ times k (λ m t. more t (block 9 (first + m * step) fc)) sums₀)
 
 abbrev μ-loop : tie.MeasureT-loop
 μ-loop fc first step count sums₀ k₀ sums k = count - k
@@ -22,17 +23,16 @@ abbrev μ-loop : tie.MeasureT-loop
 loop-holds : tie.Need-loop-holds Inv-loop μ-loop
 loop-holds c = (omega arith, times-none _ _)
 
-mul-read9 : tie.Need-mul-read9 Inv-loop μ-loop
-mul-read9 c = omega (arith, c .before .before .before .pre .within (c .before .loop .k) (c .loop-test .taken))
-
-add-read9 : tie.Need-add-read9 Inv-loop μ-loop
-add-read9 c = omega (arith, c .before .before .before .pre .within (c .before .loop .k) (c .loop-test .taken))
+with-leg-requires : tie.Need-with-leg-requires Inv-loop μ-loop
+with-leg-requires c κs = omega (arith, c .before .before .before .pre .within (c .before .loop .k) (c .loop-test .taken))
 
 read9-requires : tie.Need-read9-requires Inv-loop μ-loop
-read9-requires c κs = c .before .before .before .pre .within (c .before .loop .k) (c .loop-test .taken)
+read9-requires c κs =
+    let t = c .before in
+    step-fits (t .before .before .before .pre) (t .before .loop .k) (t .loop-test .taken) (c .with-leg .ensures)
 
-added-requires : tie.Need-added-requires Inv-loop μ-loop
-added-requires c κs = search needs
+more-requires : tie.Need-more-requires Inv-loop μ-loop
+more-requires c κs = search needs
 
 add-k : tie.Need-add-k Inv-loop μ-loop
 add-k c = search needs
@@ -42,8 +42,12 @@ loop-less c = search needs
 
 loop-again : tie.Need-loop-again Inv-loop μ-loop
 loop-again c =
-    let l = c .before .before .before .loop in
-    (omega arith, times-more (l .k) _ _ (l .inv .1) (c .added .ensures ∙ ap (added (l .sums)) (c .before .read9 .ensures)))
+    let w = c .before .before in
+    let t = w .before in
+    let l = t .before .loop in
+    let a = t .before .before .before .args in
+    let e = step-is (t .before .before .before .pre) (l .k) (t .loop-test .taken) (w .with-leg .ensures) in
+    (omega arith, times-more (l .k) _ _ (l .inv .1) (c .more .ensures ∙ ap (more (l .sums)) (c .before .read9 .ensures ∙ ap (λ b. block 9 b (a .fc .now)) e)))
 
 returns : tie.Need-returns Inv-loop μ-loop
 unfolding lineSums
@@ -59,10 +63,9 @@ line-sums-spec =
     Inv-loop
     μ-loop
     loop-holds
-    mul-read9
-    add-read9
+    with-leg-requires
     read9-requires
-    added-requires
+    more-requires
     add-k
     loop-less
     loop-again

@@ -1,4 +1,4 @@
-use Rattle.lines.specs.Lines.{lineDrift, rowDrifts, row-few, run-line}
+use Rattle.lines.specs.Lines.{lineDrift, rowDrifts, row-start, run-line}
 use Rattle.lists.specs.Tab.{times, times-none, times-more}
 use mathlib.Core.Path.{_≡_, refl, ap, sym, _∙_, subst}
 use lib.ListN.{length}
@@ -10,6 +10,7 @@ use Rattle.lines.proofs.row_drift.Tie as tie
 use Rattle.lines.proofs.row_drift.Reads as reads
 use Rattle.lines.proofs.row_drift.Lts as lts
 use Rattle.lines.proofs.line_drift.Reads as line-drift-reads
+use Rattle.places.proofs.with_leg.Reads as with-leg-reads
 
 abbrev Inv-loop : tie.InvT-loop
 Inv-loop fc₀ rows n inv-n i₀ fc i = (i ≤ rows) × (length fc ≡ length fc₀) × (fc ≡ times i (λ k. lineDrift (k * n) 1 n inv-n) fc₀)
@@ -20,17 +21,18 @@ abbrev μ-loop : tie.MeasureT-loop
 loop-holds : tie.Need-loop-holds Inv-loop μ-loop
 loop-holds c = (omega arith, refl, times-none _ _)
 
-mul-line-drift : tie.Need-mul-line-drift Inv-loop μ-loop
-mul-line-drift c =
+with-leg-requires : tie.Need-with-leg-requires Inv-loop μ-loop
+with-leg-requires c κs =
     let s = c .before .before .before .before in
-    let l = c .before .before .loop in
-    omega (arith, row-few (s .pre) (l .i) (c .before .loop-test .taken))
+    row-start (s .pre) (c .before .before .loop .i) (c .before .loop-test .taken)
 
 line-drift-requires : tie.Need-line-drift-requires Inv-loop μ-loop
 line-drift-requires c κs =
-    let l = c .before .before .loop in
-    let s = c .before .before .before .before in
-    rw (l .inv .1) (run-line (s .pre) (l .i) (s .args .n) (l .i * s .args .n) (c .before .loop-test .taken) (omega arith))
+    let t = c .before in
+    let l = t .before .before .loop in
+    let s = t .before .before .before .before in
+    let e = c .with-leg .ensures in
+    rw (l .inv .1) (run-line (s .pre) (l .i) (s .args .n) _ (t .before .loop-test .taken) (omega arith))
 
 add-i : tie.Need-add-i Inv-loop μ-loop
 add-i c = search needs
@@ -41,8 +43,10 @@ loop-less c = search needs
 loop-again : tie.Need-loop-again Inv-loop μ-loop
 loop-again c =
     let w = c .before .before in
-    let l = w .before .before .before .loop in
-    (omega arith, w .line-drift .kept .0 ∙ l .inv .1, times-more (l .i) _ _ (l .inv .2) (w .line-drift .ensures))
+    let g = w .before in
+    let l = g .before .before .before .loop in
+    let e : g .with-leg .result ≡ l .i * g .before .before .before .before .before .args .n = omega (arith, g .with-leg .ensures) in
+    (omega arith, w .line-drift .kept .0 ∙ l .inv .1, times-more (l .i) _ _ (l .inv .2) (rw e at (w .line-drift .ensures)))
 
 same-length : tie.Need-same-length Inv-loop μ-loop
 same-length c = search needs
@@ -61,7 +65,7 @@ row-drift-spec =
     Inv-loop
     μ-loop
     loop-holds
-    mul-line-drift
+    with-leg-requires
     line-drift-requires
     add-i
     loop-less

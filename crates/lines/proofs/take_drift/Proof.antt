@@ -1,4 +1,4 @@
-use Rattle.lines.specs.Lines.{lessAt, lineLess}
+use Rattle.lines.specs.Lines.{lessAt, lineLess, step-is, step-fits}
 use Rattle.lists.specs.Tab.{times, times-none, times-more}
 use mathlib.Core.Path.{_≡_, refl, ap, sym, _∙_}
 use lib.ListN.{length}
@@ -12,6 +12,7 @@ use Rattle.lines.proofs.take_drift.Lts as lts
 use Rattle.blocks.proofs.read9.Reads as read9-reads
 use Rattle.blocks.proofs.write9.Reads as write9-reads
 use Rattle.lines.proofs.nine.less.Reads as less-reads
+use Rattle.places.proofs.with_leg.Reads as with-leg-reads
 
 abbrev Inv-loop : tie.InvT-loop
 Inv-loop fc₀ d first step count k₀ fc k = (k ≤ count) × (length fc ≡ length fc₀) × (fc ≡ times k (λ m. lessAt d (first + m * step)) fc₀)
@@ -22,24 +23,25 @@ abbrev μ-loop : tie.MeasureT-loop
 loop-holds : tie.Need-loop-holds Inv-loop μ-loop
 loop-holds c = (omega arith, refl, times-none _ _)
 
-mul-at : tie.Need-mul-at Inv-loop μ-loop
-mul-at c = omega (arith, c .before .before .before .pre .within (c .before .loop .k) (c .loop-test .taken))
-
-add-at : tie.Need-add-at Inv-loop μ-loop
-add-at c = omega (arith, c .before .before .before .pre .within (c .before .loop .k) (c .loop-test .taken))
+with-leg-requires : tie.Need-with-leg-requires Inv-loop μ-loop
+with-leg-requires c κs = omega (arith, c .before .before .before .pre .within (c .before .loop .k) (c .loop-test .taken))
 
 read9-requires : tie.Need-read9-requires Inv-loop μ-loop
 read9-requires c κs =
-    let l = c .before .before .loop in
-    rw (l .inv .1) (c .before .before .before .before .pre .within (l .k) (c .before .loop-test .taken))
+    let w = c .before in
+    let t = w .before in
+    let l = t .before .loop in
+    rw (l .inv .1) (step-fits (t .before .before .before .pre) (l .k) (t .loop-test .taken) (w .with-leg .ensures))
 
 less-requires : tie.Need-less-requires Inv-loop μ-loop
 less-requires c κs = search needs
 
 write9-requires : tie.Need-write9-requires Inv-loop μ-loop
 write9-requires c κs =
-    let l = c .before .before .before .before .before .loop in
-    rw (l .inv .1) (c .before .before .before .before .before .before .before .pre .within (l .k) (c .before .before .before .before .loop-test .taken))
+    let w = c .before .before .before .before in
+    let t = w .before in
+    let l = t .before .loop in
+    rw (l .inv .1) (step-fits (t .before .before .before .pre) (l .k) (t .loop-test .taken) (w .with-leg .ensures))
 
 add-k : tie.Need-add-k Inv-loop μ-loop
 add-k c = search needs
@@ -51,8 +53,11 @@ loop-again : tie.Need-loop-again Inv-loop μ-loop
 unfolding lessAt
 loop-again c =
     let w = c .before .before in
-    let l = w .before .before .before .before .before .before .loop in
-    (omega arith, w .write9 .kept .0 ∙ l .inv .1, times-more (l .k) _ _ (l .inv .2) (rw (w .before .less .ensures, w .before .before .before .read9 .ensures) at (w .write9 .ensures)))
+    let g = w .before .before .before .before .before in
+    let t = g .before in
+    let l = t .before .loop in
+    let e = step-is (t .before .before .before .pre) (l .k) (t .loop-test .taken) (g .with-leg .ensures) in
+    (omega arith, w .write9 .kept .0 ∙ l .inv .1, times-more (l .k) _ _ (l .inv .2) (rw (w .before .less .ensures, w .before .before .before .read9 .ensures, e) at (w .write9 .ensures)))
 
 same-length : tie.Need-same-length Inv-loop μ-loop
 same-length c = search needs
@@ -71,8 +76,7 @@ take-drift-spec =
     Inv-loop
     μ-loop
     loop-holds
-    mul-at
-    add-at
+    with-leg-requires
     read9-requires
     less-requires
     write9-requires

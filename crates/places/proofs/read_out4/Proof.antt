@@ -1,4 +1,5 @@
-use Rattle.places.specs.ReadOuts.{storedIn, s2pp-read, s2pp-small, nsym-read, along, along-below}
+use mathlib.Core.List.{[], _∷_}
+use Rattle.places.specs.ReadOuts.{stored-read, s2pp-read, s2pp-small, nsym-read, along, along-below}
 use Rattle.places.proofs.read_out4.Statement.{statement}
 use Rattle.places.proofs.read_out4.Tie as tie
 
@@ -38,8 +39,9 @@ block4-requires c κs =
     )
 
 returns : tie.Need-returns
-unfolding storedIn
-returns c = cc
+returns c =
+    let a = c .before .before .before .before .before .before .args in
+    rw (stored-read (a .n-satom) (a .s2pp .now) (a .nsym-list .now) (a .perms .now) (a .i .0) (a .j .0 ∷ a .k .0 ∷ a .l .0 ∷ [])) cc
 
 pub read-out4-spec : {M : Type 1} → statement M
 read-out4-spec =

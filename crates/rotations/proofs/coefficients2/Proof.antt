@@ -6,8 +6,8 @@ use borrow.Author.Needs.{needs}
 use Rattle.rotations.proofs.coefficients2.Statement.{statement}
 use Rattle.rotations.proofs.coefficients2.Tie as tie
 
-transposed-requires : tie.Need-transposed-requires
-transposed-requires c κs = search needs
+transposed9-requires : tie.Need-transposed9-requires
+transposed9-requires c κs = search needs
 
 slice-aggregate-widen : tie.Need-slice-aggregate-widen
 slice-aggregate-widen c = search needs
@@ -22,13 +22,13 @@ returns : tie.Need-returns
 returns c =
     let s = c .before .before .before .before .before in
     let m = s .before .args .t1 in
-    c .before .widen .ensures ∙ ap (λ b. widened 3 b m) (s .transposed .ensures ∙ one-leg m) ∙ sym (widens m 0 3 (omega arith))
+    c .before .widen .ensures ∙ ap (λ b. widened 3 b m) (s .transposed9 .ensures ∙ one-leg m) ∙ sym (widens m 0 3 (omega arith))
 
 pub coefficients2-spec : {M : Type 1} → statement M
 coefficients2-spec =
     tie.close
     (tie.spec
-    transposed-requires
+    transposed9-requires
     slice-aggregate-widen
     slice-aggregate-widen-2
     widen-requires

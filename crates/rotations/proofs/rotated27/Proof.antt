@@ -1,48 +1,71 @@
-use mathlib.Core.Path.{ap, _∙_}
-use Rattle.blocks.specs.Block.{part-block, length-block}
-use lib.ListN.{length}
-use Rattle.rotations.specs.Rotation.{sums}
+use mathlib.Core.Path.{_≡_, refl, ap, _∙_}
+use Prim.Native.Nat.{_-_, _≤_}
+use native.Mathlib.Omega.{arith}
+use lib.ListN.{length, getD-replicate}
+use lib.Ieee.{nan}
+use Rattle.rotations.specs.Rotation.{plusZero, sums}
+use Rattle.rotations.specs.Laws.{sums-none, sums-more, rotated-by}
 use borrow.Author.Needs.{needs}
 use Rattle.rotations.proofs.rotated27.Statement.{statement}
 use Rattle.rotations.proofs.rotated27.Tie as tie
 
-mul-at : tie.Need-mul-at
-mul-at c = search needs
+abbrev Inv-loop : tie.InvT-loop
+Inv-loop c t s₀ q₀ s q = (q ≤ 27) × (s ≡ sums 27 q 27 0 c t)
 
-add-turned27 : tie.Need-add-turned27
-add-turned27 c = search needs
+abbrev μ-loop : tie.MeasureT-loop
+μ-loop c t s₀ q₀ s q = 27 - q
 
-mul-turned27 : tie.Need-mul-turned27
-mul-turned27 c = search needs
+loop-holds : tie.Need-loop-holds Inv-loop μ-loop
+loop-holds c =
+    let a = c .args in
+    (omega arith, sums-none 27 27 0 (a .c .now) (a .t2) _ refl (λ k h. getD-replicate 27 k plusZero nan h))
 
-sub-turned27 : tie.Need-sub-turned27
-sub-turned27 c = search needs
+mul-share27 : tie.Need-mul-share27 Inv-loop μ-loop
+mul-share27 c = search needs
 
-part-turned27-start : tie.Need-part-turned27-start
-part-turned27-start c = search needs
+mul-share27-2 : tie.Need-mul-share27-2 Inv-loop μ-loop
+mul-share27-2 c = search needs
 
-part-turned27-end : tie.Need-part-turned27-end
-part-turned27-end c = search needs
+array-read-share27 : tie.Need-array-read-share27 Inv-loop μ-loop
+array-read-share27 c = search needs
 
-turned27-requires : tie.Need-turned27-requires
-turned27-requires c κs =
-    let s = c .before .before in
-    ap length (part-block 27 (s .args .b) (s .args .fc .now) (s .pre)) ∙ length-block 27 (s .args .b) (s .args .fc .now)
+share27-requires : tie.Need-share27-requires Inv-loop μ-loop
+share27-requires c κs =
+    let l = c .before .before .loop in
+    let f : length (c .before .before .before .args .c .now) ≡ 729 = search needs in
+    omega (arith, f)
 
-returns : tie.Need-returns
+add-q : tie.Need-add-q Inv-loop μ-loop
+add-q c = search needs
+
+loop-less : tie.Need-loop-less Inv-loop μ-loop
+loop-less c = search needs
+
+loop-again : tie.Need-loop-again Inv-loop μ-loop
+loop-again c =
+    let l = c .before .before .before .loop in
+    let a = c .before .before .before .before .args in
+    (omega arith, sums-more 27 27 0 (a .c .now) (a .t2) (l .q) _ _ (omega arith) refl (l .inv .1) (c .share27 .ensures))
+
+returns : tie.Need-returns Inv-loop μ-loop
 returns c =
-    let s = c .before .before .before in
-    c .turned27 .ensures ∙ ap (sums 27 27 27 0 (s .args .c .now)) (part-block 27 (s .args .b) (s .args .fc .now) (s .pre))
+    let l = c .before .loop in
+    let a = c .before .before .args in
+    let i : l .q ≡ 27 = omega arith in
+    λ m e. rotated-by m 3 (a .t2) e (l .inv .1 ∙ ap (λ k. sums 27 k 27 0 (a .c .now) (a .t2)) i)
 
 pub rotated27-spec : {M : Type 1} → statement M
 rotated27-spec =
     tie.close
     (tie.spec
-    mul-at
-    add-turned27
-    mul-turned27
-    sub-turned27
-    part-turned27-start
-    part-turned27-end
-    turned27-requires
+    Inv-loop
+    μ-loop
+    loop-holds
+    mul-share27
+    mul-share27-2
+    array-read-share27
+    share27-requires
+    add-q
+    loop-less
+    loop-again
     returns)

@@ -86,9 +86,9 @@ returns-2 c =
     let l = R .set-length ∙ in-blocks X in
     let ec = c .before .before .before .before .before .coefficients4 .ensures ∙ ap (λ m. coefficients m 4 81) (c .before .before .before .before .before .before .read9 .ensures ∙ whole-block (a .rot-cart .now) (R .rotation-length)) in
     done-call 64 3 (a .fc4 .now) (a .target) (a .source) (a .atom-mapping .now) (a .num-atom) (a .rot-cart .now) (a .num-first) (j .judge-slabs .result) e r
-    (c .before .before .fill-slab .ensures
-    ∙ loops-distribute (a .atom-mapping .now) (a .rot-cart .now) _ (a .num-atom) 3 (a .target) (a .source) (a .num-first) (a .fc4 .now) (omega arith)
-    (λ i h. read (R .mapping-fit) i h .1) l (R .target-below) (R .source-below) (R .apart) ec)
+    (c .before .before .fill-slab .ensures (a .rot-cart .now) ec
+    ∙ loops-distribute (a .atom-mapping .now) (a .rot-cart .now) (a .num-atom) 3 (a .target) (a .source) (a .num-first) (a .fc4 .now) (omega arith)
+    (λ i h. read (R .mapping-fit) i h .1) l (R .target-below) (R .source-below) (R .apart))
 
 pub distribute-fc4-spec : {M : Type 1} → statement M
 distribute-fc4-spec =

@@ -1,11 +1,13 @@
 use mathlib.Core.Path.{_≡_, refl, sym, ap, _∙_, subst}
+use mathlib.Core.List.{List}
 use Prim.Native.Nat.{ℕ, _+_, _-_, _*_, _<_, _≤_}
 use native.Mathlib.Omega.{arith}
 use lib.ListN.{length}
+use lib.Ieee.{Float}
 use borrow.Author.Needs.{needs}
 use Rattle.lists.specs.Tab.{times, times-none, times-more}
 use Rattle.tables.specs.Conditions.{indexAt, read}
-use Rattle.rotations.specs.Rotation.{sums}
+use Rattle.rotations.specs.Rotation.{coefficients, rotated}
 use Rattle.slabs.specs.Slab.{moveBlock, move}
 use Rattle.slabs.specs.SlabLaws.{Inside, inside-atom, inside-block, inside-small}
 use Rattle.distribute.proofs.fc4.fill_slab.Statement.{statement}
@@ -14,75 +16,47 @@ use Rattle.distribute.proofs.fc4.fill_slab.Tie as tie
 abbrev Inv-loop : tie.InvT-loop
 Inv-loop fc4₀ c atom-mapping num-atom target source i₀ fc4 i =
     (i ≤ num-atom) × (length fc4 ≡ length fc4₀)
-    × (fc4 ≡ times i (λ i. move atom-mapping num-atom 81 (sums 81 81 81 0 c) 2 (target * num-atom + i) (source * num-atom + indexAt atom-mapping i)) fc4₀)
+    × ((m : List Float) → c ≡ coefficients m 4 81
+    → fc4 ≡ times i (λ i. move atom-mapping num-atom 81 (rotated m 4) 2 (target * num-atom + i) (source * num-atom + indexAt atom-mapping i)) fc4₀)
 
 abbrev μ-loop : tie.MeasureT-loop
 μ-loop fc4₀ c atom-mapping num-atom target source i₀ fc4 i = num-atom - i
 
 loop-holds : tie.Need-loop-holds Inv-loop μ-loop
-loop-holds c = (omega arith, refl, times-none _ _)
+loop-holds c = (omega arith, refl, λ m e. times-none _ _)
 
 entry-requires : tie.Need-entry-requires Inv-loop μ-loop
 entry-requires c κs = read (c .before .before .before .pre .0) (c .before .loop .i) (omega arith) .0
 
-mul-fill-plane : tie.Need-mul-fill-plane Inv-loop μ-loop
-mul-fill-plane c =
-    let e = c .before in
-    let l = e .before .before .loop in
-    let s = e .before .before .before .before in
+with-leg-requires : tie.Need-with-leg-requires Inv-loop μ-loop
+with-leg-requires c κs =
+    let l = c .before .before .loop in
+    let s = c .before .before .before .before in
     let a = s .args in
-    let i = read (s .pre .0) (l .i) (omega arith) .1 in
-    let g : e .entry .result < a .num-atom = omega (arith, e .entry .ensures) in
     let k = inside-small (a .num-atom) 81 2 _ _ (omega arith) (omega arith) (inside-atom (a .num-atom) 81 2 (a .target) _ (l .i) (omega arith) (s .pre .1 .0)) in
     omega arith
 
-add-fill-plane : tie.Need-add-fill-plane Inv-loop μ-loop
-add-fill-plane c =
+with-leg-requires-2 : tie.Need-with-leg-requires-2 Inv-loop μ-loop
+with-leg-requires-2 c κs =
     let e = c .before in
     let l = e .before .before .loop in
     let s = e .before .before .before .before in
     let a = s .args in
     let i = read (s .pre .0) (l .i) (omega arith) .1 in
     let g : e .entry .result < a .num-atom = omega (arith, e .entry .ensures) in
-    let k = inside-small (a .num-atom) 81 2 _ _ (omega arith) (omega arith) (inside-atom (a .num-atom) 81 2 (a .target) _ (l .i) (omega arith) (s .pre .1 .0)) in
-    omega arith
-
-mul-fill-plane-2 : tie.Need-mul-fill-plane-2 Inv-loop μ-loop
-mul-fill-plane-2 c =
-    let e = c .before in
-    let l = e .before .before .loop in
-    let s = e .before .before .before .before in
-    let a = s .args in
-    let i = read (s .pre .0) (l .i) (omega arith) .1 in
-    let g : e .entry .result < a .num-atom = omega (arith, e .entry .ensures) in
-    let k = inside-small (a .num-atom) 81 2 _ _ (omega arith) (omega arith) (inside-atom (a .num-atom) 81 2 (a .source) _ (e .entry .result) (omega arith) (s .pre .1 .1)) in
-    omega arith
-
-add-fill-plane-2 : tie.Need-add-fill-plane-2 Inv-loop μ-loop
-add-fill-plane-2 c =
-    let e = c .before in
-    let l = e .before .before .loop in
-    let s = e .before .before .before .before in
-    let a = s .args in
-    let i = read (s .pre .0) (l .i) (omega arith) .1 in
-    let g : e .entry .result < a .num-atom = omega (arith, e .entry .ensures) in
-    let k = inside-small (a .num-atom) 81 2 _ _ (omega arith) (omega arith) (inside-atom (a .num-atom) 81 2 (a .source) _ (e .entry .result) (omega arith) (s .pre .1 .1)) in
+    let k = inside-small (a .num-atom) 81 2 _ _ (omega arith) (omega arith) (inside-atom (a .num-atom) 81 2 (a .source) _ (e .entry .result) g (s .pre .1 .1)) in
     omega arith
 
 fill-plane-requires : tie.Need-fill-plane-requires Inv-loop μ-loop
 fill-plane-requires c κs =
-    let e = c .before in
+    let e = c .before .before .before in
     let l = e .before .before .loop in
     let s = e .before .before .before .before in
     let a = s .args in
     let i = read (s .pre .0) (l .i) (omega arith) .1 in
-    let g : e .entry .result < a .num-atom = omega (arith, e .entry .ensures) in (
-      s .pre .0,
-      (
-        subst (λ (n : ℕ). Inside (a .num-atom) 81 2 (a .target * a .num-atom + l .i) n) (sym (l .inv .1)) (inside-atom (a .num-atom) 81 2 (a .target) _ (l .i) (omega arith) (s .pre .1 .0)),
-        subst (λ (n : ℕ). Inside (a .num-atom) 81 2 (a .source * a .num-atom + e .entry .result) n) (sym (l .inv .1)) (inside-atom (a .num-atom) 81 2 (a .source) _ (e .entry .result) g (s .pre .1 .1)),
-      ),
-    )
+    let g : e .entry .result < a .num-atom = omega (arith, e .entry .ensures) in
+    rw (c .before .before .with-leg .ensures, c .before .with-leg2 .ensures, l .inv .1)
+    (s .pre .0, (inside-atom (a .num-atom) 81 2 (a .target) _ (l .i) (omega arith) (s .pre .1 .0), inside-atom (a .num-atom) 81 2 (a .source) _ (e .entry .result) g (s .pre .1 .1)))
 
 add-i : tie.Need-add-i Inv-loop μ-loop
 add-i c = search needs
@@ -94,15 +68,14 @@ loop-again : tie.Need-loop-again Inv-loop μ-loop
 unfolding move
 loop-again c =
     let w = c .before .before in
-    let e = w .before .before in
+    let e = w .before .before .before .before in
     let l = e .before .before .loop in
     let s = e .before .before .before .before in
     let a = s .args in
-    let f = (sums 81 81 81 0 (a .c .now)) in
-    let r : w .fill-plane .last .0 ≡ move (a .atom-mapping .now) (a .num-atom) 81 f 2 (a .target * a .num-atom + l .i) (a .source * a .num-atom + indexAt (a .atom-mapping .now) (l .i)) (l .fc4) =
-    w .fill-plane .ensures
-    ∙ ap (λ i. move (a .atom-mapping .now) (a .num-atom) 81 f 2 (a .target * a .num-atom + l .i) (a .source * a .num-atom + i) (l .fc4)) (e .entry .ensures) in
-    (omega arith, w .fill-plane .kept .0 ∙ l .inv .1, times-more (l .i) _ _ (l .inv .2) r)
+    let r : (m : List Float) → a .c .now ≡ coefficients m 4 81
+    → w .fill-plane .last .0 ≡ move (a .atom-mapping .now) (a .num-atom) 81 (rotated m 4) 2 (a .target * a .num-atom + l .i) (a .source * a .num-atom + indexAt (a .atom-mapping .now) (l .i)) (l .fc4) = λ m q.
+    w .fill-plane .ensures m q ∙ rw (w .before .before .before .with-leg .ensures, w .before .before .with-leg2 .ensures, e .entry .ensures) in
+    (omega arith, w .fill-plane .kept .0 ∙ l .inv .1, λ m q. times-more (l .i) _ _ (l .inv .2 m q) (r m q))
 
 same-length : tie.Need-same-length Inv-loop μ-loop
 same-length c = search needs
@@ -112,7 +85,7 @@ unfolding move
 returns c =
     let l = c .before .loop in
     let i : l .i ≡ c .before .before .before .args .num-atom = omega arith in
-    l .inv .2 ∙ rw i
+    λ m e. l .inv .2 m e ∙ rw i
 
 pub fill-slab-spec : {M : Type 1} → statement M
 fill-slab-spec =
@@ -122,10 +95,8 @@ fill-slab-spec =
     μ-loop
     loop-holds
     entry-requires
-    mul-fill-plane
-    add-fill-plane
-    mul-fill-plane-2
-    add-fill-plane-2
+    with-leg-requires
+    with-leg-requires-2
     fill-plane-requires
     add-i
     loop-less

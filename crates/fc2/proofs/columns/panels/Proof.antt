@@ -1,9 +1,11 @@
-use mathlib.Core.Path.{_≡_, sym, subst}
+use mathlib.Core.Path.{_≡_, sym, subst, _∙_}
+use mathlib.Core.List.{List}
+use lib.Ieee.{Float}
 use Prim.Native.Nat.{ℕ, _+_, _*_, _-_, _≤_}
 use native.Mathlib.Omega.{arith}
 use lib.ListN.{length}
 use Rattle.lines.specs.Lines.{Sized}
-use Rattle.fc2.specs.Columns.{Columns, columns-none, columns-panel}
+use Rattle.fc2.specs.Columns.{Columns, columns-none, columns-panel, panel-drifted, Drifted}
 use borrow.Author.Needs.{needs}
 use Rattle.fc2.proofs.columns.panels.Statement.{statement}
 use Rattle.fc2.proofs.columns.panels.Tie as tie
@@ -42,8 +44,12 @@ loop-again c =
     let l = c .before .before .before .before .before .loop in
     let s = c .before .before .before .before .before .before .before in
     let a = s .args in
-    let e : l .g * 8 + 8 ≡ (l .g + 1) * 8 = omega arith in
-    (omega arith, subst (λ (j : ℕ). Columns (a .n) (a .inv-n) (a .fc .now) j (w .last .0)) e (columns-panel (a .n) (a .inv-n) (a .fc .now) (s .pre .0 .long) (l .g * 8) (l .fc) (w .last .0) (l .inv .1) (w .ensures)))
+    let e : l .g * 8 + 8 ≡ (l .g + 1) * 8 = omega arith in (
+      omega arith,
+      subst (λ (j : ℕ). Columns (a .n) (a .inv-n) (a .fc .now) j (w .last .0)) e (columns-panel (a .n) (a .inv-n) (a .fc .now) (s .pre .0 .long) (l .g * 8) (l .fc) (w .last .0) (l .inv .1)
+          (subst (λ (ys : List Float). Drifted (a .n) (l .g * 8) (a .inv-n) (l .fc) ys) (sym (w .ensures))
+          (panel-drifted (a .n) (l .g * 8) (a .inv-n) (l .fc) (l .inv .1 .long ∙ s .pre .0 .long) (omega (arith, s .pre .1))))),
+    )
 
 same-length : tie.Need-same-length Inv-loop μ-loop
 same-length c = c .before .loop .inv .1 .long

@@ -1,44 +1,38 @@
-use mathlib.Core.Path.{_≡_, sym, _∙_, subst}
-use Prim.Native.Nat.{ℕ, _+_, _*_, _-_, _≤_}
+use Prim.Native.Nat.{ℕ, _+_, _*_, _-_, _≤_, _<_}
 use native.Mathlib.Omega.{arith}
+use mathlib.Core.Path.{_≡_, refl, sym, ap, ap₂, _∙_}
 use lib.ListN.{length}
-use Rattle.fc2.specs.Columns.{Taken, taken-none, taken-more, panel-fits}
+use Rattle.lists.specs.Tab.{times, times-none, times-more}
+use Rattle.fc2.specs.FullLaws.{full-is}
+use Rattle.fc2.specs.FullLoops.{less8, panelLess}
+use Rattle.fc2.specs.Columns.{panel-fits}
 use borrow.Author.Needs.{needs}
 use Rattle.fc2.proofs.columns.take_panel.Statement.{statement}
 use Rattle.fc2.proofs.columns.take_panel.Tie as tie
+use Rattle.fc2.proofs.columns.take_panel.Reads as reads
+use Rattle.fc2.proofs.columns.take_panel.Lts as lts
+use Rattle.fc2.proofs.columns.take8.Reads as take8-reads
+use Rattle.places.proofs.full2.Reads as full2-reads
 
 abbrev Inv-loop : tie.InvT-loop
-Inv-loop fc₀ d n j i₀ fc i = (i ≤ n) × Taken n j d fc₀ i fc
+Inv-loop fc₀ d n j i₀ fc i = (i ≤ n) × (length fc ≡ length fc₀) × (fc ≡ times i (λ a. less8 d (a * n + j)) fc₀)
 
 abbrev μ-loop : tie.MeasureT-loop
 μ-loop fc₀ d n j i₀ fc i = n - i
 
 loop-holds : tie.Need-loop-holds Inv-loop μ-loop
-loop-holds c =
-    let s = c .before in
-    (omega arith, taken-none (s .args .j) (s .args .d .now) (s .args .fc .now) (s .pre .0) (s .pre .1))
+loop-holds c = (omega arith, refl, times-none _ _)
 
-mul-take72 : tie.Need-mul-take72 Inv-loop μ-loop
-mul-take72 c =
-    let s = c .before .before .before .before in
-    omega (arith, panel-fits (s .pre .0) (c .before .before .loop .i) (s .args .j) (omega arith) (s .pre .1))
+full2-requires : tie.Need-full2-requires Inv-loop μ-loop
+full2-requires c κs = let s = c .before .before .before in (s .pre .0 .small, c .loop-test .taken, omega (arith, s .pre .1))
 
-add-take72 : tie.Need-add-take72 Inv-loop μ-loop
-add-take72 c =
-    let s = c .before .before .before .before in
-    omega (arith, panel-fits (s .pre .0) (c .before .before .loop .i) (s .args .j) (omega arith) (s .pre .1))
-
-mul-take72-2 : tie.Need-mul-take72-2 Inv-loop μ-loop
-mul-take72-2 c =
-    let s = c .before .before .before .before in
-    omega (arith, panel-fits (s .pre .0) (c .before .before .loop .i) (s .args .j) (omega arith) (s .pre .1))
-
-take72-requires : tie.Need-take72-requires Inv-loop μ-loop
-take72-requires c κs =
-    let s = c .before .before .before .before in
-    let l = c .before .before .loop in
-    let h = panel-fits (s .pre .0) (l .i) (s .args .j) (omega arith) (s .pre .1) in
-    omega (arith, l .inv .1 .long)
+take8-requires : tie.Need-take8-requires Inv-loop μ-loop
+take8-requires c κs =
+    let g = c .before in
+    let t = g .before in
+    let l = t .before .loop in
+    let s = t .before .before .before in
+    rw (l .inv .1, full-is (s .args .n) (l .i) (s .args .j) (g .full2 .ensures)) (panel-fits (s .pre .0) (l .i) (s .args .j) (t .loop-test .taken) (s .pre .1))
 
 add-i : tie.Need-add-i Inv-loop μ-loop
 add-i c = search needs
@@ -48,21 +42,23 @@ loop-less c = search needs
 
 loop-again : tie.Need-loop-again Inv-loop μ-loop
 loop-again c =
-    let w = c .before .before .take72 in
-    let l = c .before .before .before .before .before .loop in
-    let s = c .before .before .before .before .before .before .before in
-    let a = s .args in
-    (omega arith, taken-more (a .j) (a .d .now) (a .fc .now) (s .pre .0) (s .pre .1) (l .i) (l .fc) _ (l .inv .1) (w .ensures))
+    let w = c .before .before in
+    let g = w .before .before in
+    let t = g .before in
+    let l = t .before .loop in
+    let a = t .before .before .before .args in
+    let e = ap (λ b. less8 (a .d) b (l .fc)) (full-is (a .n) (l .i) (a .j) (g .full2 .ensures)) in
+    (omega arith, w .take8 .kept .0 ∙ l .inv .1, times-more (l .i) _ _ (l .inv .2) (w .take8 .ensures ∙ e))
 
 same-length : tie.Need-same-length Inv-loop μ-loop
-same-length c = c .before .loop .inv .1 .long
+same-length c = search needs
 
 returns : tie.Need-returns Inv-loop μ-loop
+unfolding panelLess
 returns c =
     let l = c .before .loop in
-    let a = c .before .before .before .args in
-    let e : l .i ≡ a .n = omega arith in
-    subst (λ (i : ℕ). Taken (a .n) (a .j) (a .d .now) (a .fc .now) i (l .fc)) e (l .inv .1)
+    let i : l .i ≡ c .before .before .before .args .n = omega arith in
+    l .inv .2 ∙ rw i
 
 pub take-panel-spec : {M : Type 1} → statement M
 take-panel-spec =
@@ -71,10 +67,8 @@ take-panel-spec =
     Inv-loop
     μ-loop
     loop-holds
-    mul-take72
-    add-take72
-    mul-take72-2
-    take72-requires
+    full2-requires
+    take8-requires
     add-i
     loop-less
     loop-again

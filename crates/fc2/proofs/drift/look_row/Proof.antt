@@ -1,19 +1,21 @@
-use Rattle.fc2.specs.DriftLoops.{look, lookRow}
-use Rattle.lists.specs.Tab.{times, times-none, times-more}
-use mathlib.Core.Path.{_≡_, refl, ap, sym, _∙_}
-use lib.Ieee.{nan}
-use lib.ListN.{getD}
+use Prim.Native.Nat.{ℕ, _+_, _*_, _-_, _≤_, _<_}
 use native.Mathlib.Omega.{arith}
-use Prim.Native.Nat.{ℕ, _≤_, _<_, _-_, _+_, _*_}
+use mathlib.Core.Path.{_≡_, refl, sym, ap, ap₂, _∙_}
+use Rattle.lists.specs.Tab.{times, times-none, times-more, fill-more, is-tab}
+use Rattle.lines.specs.Nine.{sumIn}
+use Rattle.fc2.specs.DriftLoops.{look, lookRow}
 use borrow.Author.Needs.{needs}
 use Rattle.fc2.proofs.drift.look_row.Statement.{statement}
 use Rattle.fc2.proofs.drift.look_row.Tie as tie
 use Rattle.fc2.proofs.drift.look_row.Reads as reads
 use Rattle.fc2.proofs.drift.look_row.Lts as lts
 use Rattle.fc2.proofs.drift.look.Reads as look-reads
+use Rattle.places.proofs.last_leg.Reads as last-leg-reads
+use Rattle.places.proofs.legs_before.Reads as legs-before-reads
+use Rattle.places.proofs.with_leg.Reads as with-leg-reads
 
 abbrev Inv-loop : tie.InvT-loop
-Inv-loop i s seen₀ p₀ seen p = (p ≤ 9) × (seen ≡ times p (λ k. look (i * 9 + k) (getD s k nan)) seen₀)
+Inv-loop i s seen₀ p₀ seen p = (p ≤ 9) × (seen ≡ times p (λ k. look (i * 9 + k) (sumIn s k)) seen₀)
 
 abbrev μ-loop : tie.MeasureT-loop
 μ-loop i s seen₀ p₀ seen p = 9 - p
@@ -21,17 +23,26 @@ abbrev μ-loop : tie.MeasureT-loop
 loop-holds : tie.Need-loop-holds Inv-loop μ-loop
 loop-holds c = (omega arith, times-none _ _)
 
+legs-before-requires : tie.Need-legs-before-requires Inv-loop μ-loop
+legs-before-requires c κs = search needs
+
+last-leg-requires : tie.Need-last-leg-requires Inv-loop μ-loop
+last-leg-requires c κs = search needs
+
 mul-x : tie.Need-mul-x Inv-loop μ-loop
-mul-x c = search needs
+mul-x c = let e = c .before .legs-before .ensures in omega arith
 
-array-read-x : tie.Need-array-read-x Inv-loop μ-loop
-array-read-x c = search needs
+mul-x-2 : tie.Need-mul-x-2 Inv-loop μ-loop
+mul-x-2 c = let e = c .last-leg .ensures in omega arith
 
-mul-look : tie.Need-mul-look Inv-loop μ-loop
-mul-look c = search needs
+index-1-x : tie.Need-index-1-x Inv-loop μ-loop
+index-1-x c = let e = c .before .legs-before .ensures in omega arith
 
-add-look : tie.Need-add-look Inv-loop μ-loop
-add-look c = search needs
+index-2-x : tie.Need-index-2-x Inv-loop μ-loop
+index-2-x c = let e = c .last-leg .ensures in omega arith
+
+with-leg-requires : tie.Need-with-leg-requires Inv-loop μ-loop
+with-leg-requires c κs = omega (arith, c .before .before .before .before .before .pre)
 
 look-requires : tie.Need-look-requires Inv-loop μ-loop
 look-requires c κs = search needs
@@ -44,8 +55,9 @@ loop-less c = search needs
 
 loop-again : tie.Need-loop-again Inv-loop μ-loop
 loop-again c =
-    let l = c .before .before .loop in
-    (omega arith, times-more (l .p) _ _ (l .inv .1) (c .look .ensures))
+    let w = c .before .before .before in
+    let l = w .before .before .before .loop in
+    (omega arith, times-more (l .p) _ _ (l .inv .1) (rw (c .before .with-leg .ensures, w .last-leg .ensures, w .before .legs-before .ensures) at (c .look .ensures)))
 
 returns : tie.Need-returns Inv-loop μ-loop
 unfolding lookRow
@@ -61,10 +73,13 @@ look-row-spec =
     Inv-loop
     μ-loop
     loop-holds
+    legs-before-requires
+    last-leg-requires
     mul-x
-    array-read-x
-    mul-look
-    add-look
+    mul-x-2
+    index-1-x
+    index-2-x
+    with-leg-requires
     look-requires
     add-p
     loop-less

@@ -1,17 +1,18 @@
-use Rattle.fc2.specs.FullLaws.{pair-inside, square}
-use Rattle.fc2.specs.FullLoops.{pairsBefore}
-use Rattle.lines.specs.Lines.{pairAt}
-use Rattle.lists.specs.Tab.{times, times-none, times-more}
-use mathlib.Core.Path.{_≡_, refl, ap, sym, _∙_, subst}
-use lib.ListN.{length}
+use Prim.Native.Nat.{ℕ, _+_, _*_, _-_, _≤_, _<_}
 use native.Mathlib.Omega.{arith}
-use Prim.Native.Nat.{ℕ, _≤_, _<_, _-_, _+_, _*_}
+use mathlib.Core.Path.{_≡_, refl, sym, ap, ap₂, _∙_}
+use lib.ListN.{length, getD}
+use Rattle.lists.specs.Tab.{times, times-none, times-more, fill-more, is-tab}
+use Rattle.lines.specs.Lines.{pairAt}
+use Rattle.fc2.specs.FullLaws.{pair-inside, full-is}
+use Rattle.fc2.specs.FullLoops.{pairsBefore}
 use borrow.Author.Needs.{needs}
 use Rattle.fc2.proofs.full.average_before.Statement.{statement}
 use Rattle.fc2.proofs.full.average_before.Tie as tie
 use Rattle.fc2.proofs.full.average_before.Reads as reads
 use Rattle.fc2.proofs.full.average_before.Lts as lts
 use Rattle.lines.proofs.average_pair.Reads as average-pair-reads
+use Rattle.places.proofs.full2.Reads as full2-reads
 
 abbrev Inv-loop : tie.InvT-loop
 Inv-loop fc₀ n i j₀ fc j = (j ≤ i) × (length fc ≡ length fc₀) × (fc ≡ times j (λ k. pairAt (k * n + i) (i * n + k)) fc₀)
@@ -22,23 +23,21 @@ abbrev μ-loop : tie.MeasureT-loop
 loop-holds : tie.Need-loop-holds Inv-loop μ-loop
 loop-holds c = (omega arith, refl, times-none _ _)
 
-mul-average-pair : tie.Need-mul-average-pair Inv-loop μ-loop
-mul-average-pair c = let s = c .before .before .before .before in let l = c .before .before .loop in let h = pair-inside (s .pre .0) (s .args .i) (l .j) (s .pre .1) (omega arith) in let g = square (s .args .n) (s .pre .0 .small) in omega arith
+full2-requires : tie.Need-full2-requires Inv-loop μ-loop
+full2-requires c κs = let s = c .before .before .before in (s .pre .0 .small, omega (arith, s .pre .1), s .pre .1)
 
-add-average-pair : tie.Need-add-average-pair Inv-loop μ-loop
-add-average-pair c = let s = c .before .before .before .before in let l = c .before .before .loop in let h = pair-inside (s .pre .0) (s .args .i) (l .j) (s .pre .1) (omega arith) in let g = square (s .args .n) (s .pre .0 .small) in omega arith
-
-mul-average-pair-2 : tie.Need-mul-average-pair-2 Inv-loop μ-loop
-mul-average-pair-2 c = let s = c .before .before .before .before in let l = c .before .before .loop in let h = pair-inside (s .pre .0) (s .args .i) (l .j) (s .pre .1) (omega arith) in let g = square (s .args .n) (s .pre .0 .small) in omega arith
-
-add-average-pair-2 : tie.Need-add-average-pair-2 Inv-loop μ-loop
-add-average-pair-2 c = let s = c .before .before .before .before in let l = c .before .before .loop in let h = pair-inside (s .pre .0) (s .args .i) (l .j) (s .pre .1) (omega arith) in let g = square (s .args .n) (s .pre .0 .small) in omega arith
+full2-requires-2 : tie.Need-full2-requires-2 Inv-loop μ-loop
+full2-requires-2 c κs = let s = c .before .before .before .before in (s .pre .0 .small, s .pre .1, omega (arith, s .pre .1))
 
 average-pair-requires : tie.Need-average-pair-requires Inv-loop μ-loop
 average-pair-requires c κs =
-    let l = c .before .before .loop in
-    let s = c .before .before .before .before in
-    rw (l .inv .1) (pair-inside (s .pre .0) (s .args .i) (l .j) (s .pre .1) (omega arith))
+    let g = c .before in
+    let t = g .before .before in
+    let l = t .before .loop in
+    let s = t .before .before .before in
+    let a = s .args in
+    rw (l .inv .1, full-is (a .n) (l .j) (a .i) (g .before .full2 .ensures), full-is (a .n) (a .i) (l .j) (g .full22 .ensures))
+    (pair-inside (s .pre .0) (a .i) (l .j) (s .pre .1) (omega (arith, s .pre .1)))
 
 add-j : tie.Need-add-j Inv-loop μ-loop
 add-j c = search needs
@@ -49,8 +48,12 @@ loop-less c = search needs
 loop-again : tie.Need-loop-again Inv-loop μ-loop
 loop-again c =
     let w = c .before .before in
-    let l = w .before .before .before .loop in
-    (omega arith, w .average-pair .kept .0 ∙ l .inv .1, times-more (l .j) _ _ (l .inv .2) (w .average-pair .ensures))
+    let g = w .before .before in
+    let t = g .before .before in
+    let l = t .before .loop in
+    let a = t .before .before .before .args in
+    let e = ap₂ (λ x y. pairAt x y (l .fc)) (full-is (a .n) (l .j) (a .i) (g .before .full2 .ensures)) (full-is (a .n) (a .i) (l .j) (g .full22 .ensures)) in
+    (omega arith, w .average-pair .kept .0 ∙ l .inv .1, times-more (l .j) _ _ (l .inv .2) (w .average-pair .ensures ∙ e))
 
 same-length : tie.Need-same-length Inv-loop μ-loop
 same-length c = search needs
@@ -69,10 +72,8 @@ average-before-spec =
     Inv-loop
     μ-loop
     loop-holds
-    mul-average-pair
-    add-average-pair
-    mul-average-pair-2
-    add-average-pair-2
+    full2-requires
+    full2-requires-2
     average-pair-requires
     add-j
     loop-less

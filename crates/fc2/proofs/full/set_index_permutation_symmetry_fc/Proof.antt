@@ -1,10 +1,10 @@
-use Rattle.fc2.specs.FullLaws.{pair-inside, square}
-use Rattle.fc2.specs.FullLoops.{ownAt, pairsBefore, pairs}
-use Rattle.lists.specs.Tab.{times, times-none, times-more}
-use mathlib.Core.Path.{_≡_, refl, ap, sym, _∙_, subst}
-use lib.ListN.{length}
+use Prim.Native.Nat.{ℕ, _+_, _*_, _-_, _≤_, _<_}
 use native.Mathlib.Omega.{arith}
-use Prim.Native.Nat.{ℕ, _≤_, _<_, _-_, _+_, _*_}
+use mathlib.Core.Path.{_≡_, refl, sym, ap, ap₂, _∙_}
+use lib.ListN.{length}
+use Rattle.lists.specs.Tab.{times, times-none, times-more}
+use Rattle.fc2.specs.FullLaws.{pair-inside, full-is}
+use Rattle.fc2.specs.FullLoops.{ownAt, pairsBefore, pairs}
 use borrow.Author.Needs.{needs}
 use Rattle.fc2.proofs.full.set_index_permutation_symmetry_fc.Statement.{statement}
 use Rattle.fc2.proofs.full.set_index_permutation_symmetry_fc.Tie as tie
@@ -12,6 +12,7 @@ use Rattle.fc2.proofs.full.set_index_permutation_symmetry_fc.Reads as r
 use Rattle.fc2.proofs.full.set_index_permutation_symmetry_fc.Lts as lts
 use Rattle.fc2.proofs.full.average_before.Reads as average-before-reads
 use Rattle.fc2.proofs.full.average_own.Reads as average-own-reads
+use Rattle.places.proofs.full2.Reads as full2-reads
 
 abbrev Inv-loop : tie.InvT-loop
 Inv-loop fc₀ n i₀ fc i = (i ≤ n) × (length fc ≡ length fc₀) × (fc ≡ times i (λ k xs. ownAt (k * n + k) (pairsBefore n k xs)) fc₀)
@@ -27,30 +28,19 @@ average-before-requires c κs =
     let l = c .before .before .loop in
     (rw (l .inv .1) (c .before .before .before .before .pre), c .before .loop-test .taken)
 
-mul-average-own : tie.Need-mul-average-own Inv-loop μ-loop
-mul-average-own c =
-    let g = c .before .before .before in
-    let s = g .before .before .before .before .before in
-    let l = g .before .before .before .loop in
-    let h = pair-inside (s .pre) (l .i) (l .i) (g .before .before .loop-test .taken) (g .before .before .loop-test .taken) in
-    let k = square (s .args .n) (s .pre .small) in
-    omega arith
-
-add-average-own : tie.Need-add-average-own Inv-loop μ-loop
-add-average-own c =
-    let g = c .before .before .before in
-    let s = g .before .before .before .before .before in
-    let l = g .before .before .before .loop in
-    let h = pair-inside (s .pre) (l .i) (l .i) (g .before .before .loop-test .taken) (g .before .before .loop-test .taken) in
-    let k = square (s .args .n) (s .pre .small) in
-    omega arith
+full2-requires : tie.Need-full2-requires Inv-loop μ-loop
+full2-requires c κs =
+    let t = c .before .before .before .before in
+    (t .before .before .before .pre .small, t .loop-test .taken, t .loop-test .taken)
 
 average-own-requires : tie.Need-average-own-requires Inv-loop μ-loop
 average-own-requires c κs =
-    let g = c .before .before .before in
-    let s = g .before .before .before .before .before in
-    let l = g .before .before .before .loop in
-    rw (g .average-before .kept .0, l .inv .1) (pair-inside (s .pre) (l .i) (l .i) (g .before .before .loop-test .taken) (g .before .before .loop-test .taken))
+    let f = c .before in
+    let g = f .before .before .before in
+    let t = g .before .before in
+    let l = t .before .loop in
+    let s = t .before .before .before in
+    rw (g .average-before .kept .0, l .inv .1, full-is (s .args .n) (l .i) (l .i) (f .full2 .ensures)) (pair-inside (s .pre) (l .i) (l .i) (t .loop-test .taken) (t .loop-test .taken))
 
 add-i : tie.Need-add-i Inv-loop μ-loop
 add-i c = search needs
@@ -61,9 +51,13 @@ loop-less c = search needs
 loop-again : tie.Need-loop-again Inv-loop μ-loop
 loop-again c =
     let w = c .before .before in
-    let g = w .before .before .before .before in
-    let l = g .before .before .before .loop in
-    (omega arith, w .average-own .kept .0 ∙ g .average-before .kept .0 ∙ l .inv .1, times-more (l .i) _ _ (l .inv .2) (rw (g .average-before .ensures) at (w .average-own .ensures)))
+    let f = w .before .before in
+    let g = f .before .before .before in
+    let t = g .before .before in
+    let l = t .before .loop in
+    let n = t .before .before .before .args .n in
+    let e = full-is n (l .i) (l .i) (f .full2 .ensures) in
+    (omega arith, w .average-own .kept .0 ∙ g .average-before .kept .0 ∙ l .inv .1, times-more (l .i) _ _ (l .inv .2) (rw (g .average-before .ensures, e) at (w .average-own .ensures)))
 
 same-length : tie.Need-same-length Inv-loop μ-loop
 same-length c = search needs
@@ -83,8 +77,7 @@ set-index-permutation-symmetry-fc-spec =
     μ-loop
     loop-holds
     average-before-requires
-    mul-average-own
-    add-average-own
+    full2-requires
     average-own-requires
     add-i
     loop-less

@@ -1,11 +1,13 @@
-use Rattle.fc2.specs.FullLaws.{pair-inside, square}
-use Rattle.fc2.specs.FullLoops.{diagonals}
-use Rattle.lines.specs.Lines.{balanceAt, balances}
-use Rattle.lists.specs.Tab.{times, times-none, times-more}
-use mathlib.Core.Path.{_≡_, refl, ap, sym, _∙_, subst}
-use lib.ListN.{length}
+use Prim.Native.Nat.{ℕ, _+_, _*_, _-_, _≤_, _<_}
 use native.Mathlib.Omega.{arith}
-use Prim.Native.Nat.{ℕ, _≤_, _<_, _-_, _+_, _*_}
+use mathlib.Core.Path.{_≡_, refl, sym, ap, ap₂, _∙_}
+use lib.ListN.{length, getD}
+use Rattle.lists.specs.Tab.{times, times-none, times-more, fill-more, is-tab}
+use Rattle.blocks.specs.Block.{putBlock}
+use Rattle.lines.specs.Nine.{balance}
+use Rattle.lines.specs.Lines.{others, row-of, own-fits, balanceAt, balances}
+use Rattle.fc2.specs.FullLaws.{full-is}
+use Rattle.fc2.specs.FullLoops.{diagonals}
 use borrow.Author.Needs.{needs}
 use Rattle.fc2.proofs.full.set_translational_symmetry_fc.Statement.{statement}
 use Rattle.fc2.proofs.full.set_translational_symmetry_fc.Tie as tie
@@ -14,6 +16,7 @@ use Rattle.fc2.proofs.full.set_translational_symmetry_fc.Lts as lts
 use Rattle.blocks.proofs.write9.Reads as write9-reads
 use Rattle.lines.proofs.nine.balance.Reads as balance-reads
 use Rattle.lines.proofs.other_sums.Reads as other-sums-reads
+use Rattle.places.proofs.full2.Reads as full2-reads
 
 abbrev Inv-loop : tie.InvT-loop
 Inv-loop fc₀ n i₀ fc i = (i ≤ n) × (length fc ≡ length fc₀) × (fc ≡ times i (balanceAt n (λ k. k)) fc₀)
@@ -24,26 +27,15 @@ abbrev μ-loop : tie.MeasureT-loop
 loop-holds : tie.Need-loop-holds Inv-loop μ-loop
 loop-holds c = (omega arith, refl, times-none _ _)
 
+full2-requires : tie.Need-full2-requires Inv-loop μ-loop
+full2-requires c κs = (c .before .before .before .pre .small, c .loop-test .taken, c .loop-test .taken)
+
 other-sums-requires : tie.Need-other-sums-requires Inv-loop μ-loop
 other-sums-requires c κs =
-    let l = c .before .before .loop in
-    (rw (l .inv .1) (c .before .before .before .before .pre), (c .before .loop-test .taken, c .before .loop-test .taken))
-
-mul-write9 : tie.Need-mul-write9 Inv-loop μ-loop
-mul-write9 c =
-    let g = c .before .before .before in
-    let s = g .before .before .before in
-    let h = pair-inside (s .pre) (g .before .loop .i) (g .before .loop .i) (g .loop-test .taken) (g .loop-test .taken) in
-    let k = square (s .args .n) (s .pre .small) in
-    omega arith
-
-add-write9 : tie.Need-add-write9 Inv-loop μ-loop
-add-write9 c =
-    let g = c .before .before .before in
-    let s = g .before .before .before in
-    let h = pair-inside (s .pre) (g .before .loop .i) (g .before .loop .i) (g .loop-test .taken) (g .loop-test .taken) in
-    let k = square (s .args .n) (s .pre .small) in
-    omega arith
+    let t = c .before .before in
+    let l = t .before .loop in
+    let s = t .before .before .before in
+    rw (l .inv .1, full-is (s .args .n) (l .i) (l .i) (c .before .full2 .ensures)) (row-of (s .pre) (l .i) (l .i) (t .loop-test .taken) (t .loop-test .taken))
 
 balance-requires : tie.Need-balance-requires Inv-loop μ-loop
 balance-requires c κs = search needs
@@ -51,9 +43,10 @@ balance-requires c κs = search needs
 write9-requires : tie.Need-write9-requires Inv-loop μ-loop
 write9-requires c κs =
     let g = c .before .before .before .before in
-    let l = g .before .loop in
-    let s = g .before .before .before in
-    rw (l .inv .1) (pair-inside (s .pre) (l .i) (l .i) (g .loop-test .taken) (g .loop-test .taken) .one)
+    let t = g .before in
+    let l = t .before .loop in
+    let s = t .before .before .before in
+    rw (l .inv .1, full-is (s .args .n) (l .i) (l .i) (g .full2 .ensures)) (own-fits (row-of (s .pre) (l .i) (l .i) (t .loop-test .taken) (t .loop-test .taken)))
 
 add-i : tie.Need-add-i Inv-loop μ-loop
 add-i c = search needs
@@ -65,9 +58,13 @@ loop-again : tie.Need-loop-again Inv-loop μ-loop
 unfolding balanceAt
 loop-again c =
     let w = c .before .before in
-    let g = w .before .before .before in
-    let l = g .before .before .before .loop in
-    (omega arith, w .write9 .kept .0 ∙ l .inv .1, times-more (l .i) _ _ (l .inv .2) (rw (w .before .balance .ensures, g .other-sums .ensures) at (w .write9 .ensures)))
+    let o = w .before .before .before in
+    let g = o .before .before in
+    let t = g .before in
+    let l = t .before .loop in
+    let n = t .before .before .before .args .n in
+    let e = ap (λ b. putBlock 9 b (balance (others n b (l .i) (l .fc))) (l .fc)) (full-is n (l .i) (l .i) (g .full2 .ensures)) in
+    (omega arith, w .write9 .kept .0 ∙ l .inv .1, times-more (l .i) _ _ (l .inv .2) (rw (w .before .balance .ensures, o .other-sums .ensures) at (w .write9 .ensures) ∙ e))
 
 same-length : tie.Need-same-length Inv-loop μ-loop
 same-length c = search needs
@@ -86,9 +83,8 @@ set-translational-symmetry-fc-spec =
     Inv-loop
     μ-loop
     loop-holds
+    full2-requires
     other-sums-requires
-    mul-write9
-    add-write9
     balance-requires
     write9-requires
     add-i

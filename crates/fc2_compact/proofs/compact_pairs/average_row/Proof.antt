@@ -4,7 +4,7 @@ use Prim.Native.Nat.{_≤_, _-_}
 use native.Mathlib.Omega.{arith}
 use lib.ListN.{length}
 use Rattle.lists.specs.Tab.{times, times-none, times-more}
-use Rattle.fc2_compact.specs.CompactTurns.{averageTurn}
+use Rattle.fc2_compact.specs.CompactVisits.{averageVisit}
 use Rattle.fc2_compact.specs.CompactCode.{ready-at, p2s-read}
 use borrow.Author.Needs.{needs}
 use Rattle.fc2_compact.proofs.compact_pairs.average_row.Statement.{statement}
@@ -13,7 +13,7 @@ use Rattle.fc2_compact.proofs.compact_pairs.average_row.Tie as tie
 abbrev Inv-loop : tie.InvT-loop
 Inv-loop fc₀ p2s s2pp nsym-list perms n-satom n-patom num-trans p i j₀ fc j =
     (j ≤ n-satom) × (length fc ≡ length fc₀)
-    × (fc ≡ times j (averageTurn (shiftsOf (shiftTables p2s s2pp nsym-list perms n-satom n-patom num-trans)) p) fc₀)
+    × (fc ≡ times j (averageVisit (shiftsOf (shiftTables p2s s2pp nsym-list perms n-satom n-patom num-trans)) p) fc₀)
 
 abbrev μ-loop : tie.MeasureT-loop
 μ-loop fc₀ p2s s2pp nsym-list perms n-satom n-patom num-trans p i j₀ fc j = n-satom - j
@@ -24,8 +24,8 @@ p2s-at-requires c κs = let s = c .before in p2s-read (s .pre .0) (s .args .p) (
 loop-holds : tie.Need-loop-holds Inv-loop μ-loop
 loop-holds c = (omega arith, refl, times-none _ _)
 
-average-turn-requires : tie.Need-average-turn-requires Inv-loop μ-loop
-average-turn-requires c κs =
+average-visit-requires : tie.Need-average-visit-requires Inv-loop μ-loop
+average-visit-requires c κs =
     let l = c .before .before .loop in
     let s = c .before .before .before .before .before in
     ready-at (l .inv .1) (s .pre .0) (s .pre .1) (c .before .before .before .p2s-at .ensures) (c .before .loop-test .taken)
@@ -40,7 +40,7 @@ loop-again : tie.Need-loop-again Inv-loop μ-loop
 loop-again c =
     let w = c .before .before in
     let l = w .before .before .before .loop in
-    (omega arith, w .average-turn .kept .0 ∙ l .inv .1, times-more (l .j) _ _ (l .inv .2) (w .average-turn .ensures))
+    (omega arith, w .average-visit .kept .0 ∙ l .inv .1, times-more (l .j) _ _ (l .inv .2) (w .average-visit .ensures))
 
 same-length : tie.Need-same-length Inv-loop μ-loop
 same-length c = search needs
@@ -60,7 +60,7 @@ average-row-spec =
     μ-loop
     p2s-at-requires
     loop-holds
-    average-turn-requires
+    average-visit-requires
     add-j
     loop-less
     loop-again

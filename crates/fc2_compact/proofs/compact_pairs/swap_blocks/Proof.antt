@@ -1,4 +1,4 @@
-use Rattle.fc2_compact.specs.CompactTurns.{swapAt}
+use Rattle.fc2_compact.specs.CompactVisits.{swapAt}
 use borrow.Author.Needs.{needs}
 use Rattle.fc2_compact.proofs.compact_pairs.swap_blocks.Statement.{statement}
 use Rattle.fc2_compact.proofs.compact_pairs.swap_blocks.Tie as tie
@@ -9,14 +9,14 @@ read9-requires c κs = search needs
 read9-requires-2 : tie.Need-read9-requires-2
 read9-requires-2 c κs = search needs
 
-turned-requires : tie.Need-turned-requires
-turned-requires c κs = search needs
+transposed9-requires : tie.Need-transposed9-requires
+transposed9-requires c κs = search needs
 
 write9-requires : tie.Need-write9-requires
 write9-requires c κs = search needs
 
-turned-requires-2 : tie.Need-turned-requires-2
-turned-requires-2 c κs = search needs
+transposed9-requires-2 : tie.Need-transposed9-requires-2
+transposed9-requires-2 c κs = search needs
 
 write9-requires-2 : tie.Need-write9-requires-2
 write9-requires-2 c κs = search needs
@@ -34,9 +34,9 @@ swap-blocks-spec =
     (tie.spec
     read9-requires
     read9-requires-2
-    turned-requires
+    transposed9-requires
     write9-requires
-    turned-requires-2
+    transposed9-requires-2
     write9-requires-2
     same-length
     returns)

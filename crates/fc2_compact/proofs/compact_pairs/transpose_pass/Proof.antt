@@ -4,7 +4,7 @@ use Prim.Native.Nat.{_≤_, _-_}
 use native.Mathlib.Omega.{arith}
 use lib.ListN.{length}
 use Rattle.lists.specs.Tab.{times, times-none, times-more}
-use Rattle.fc2_compact.specs.CompactTurns.{transposeTurn}
+use Rattle.fc2_compact.specs.CompactVisits.{transposeVisit}
 use Rattle.fc2_compact.specs.CompactCode.{ready-same, transpose-all}
 use borrow.Author.Needs.{needs}
 use Rattle.fc2_compact.proofs.compact_pairs.transpose_pass.Statement.{statement}
@@ -13,7 +13,7 @@ use Rattle.fc2_compact.proofs.compact_pairs.transpose_pass.Tie as tie
 abbrev Inv-loop : tie.InvT-loop
 Inv-loop fc₀ p2s s2pp nsym-list perms n-satom n-patom num-trans p₀ fc p =
     (p ≤ n-patom) × (length fc ≡ length fc₀)
-    × (fc ≡ times p (λ p. times n-satom (transposeTurn (shiftsOf (shiftTables p2s s2pp nsym-list perms n-satom n-patom num-trans)) p)) fc₀)
+    × (fc ≡ times p (λ p. times n-satom (transposeVisit (shiftsOf (shiftTables p2s s2pp nsym-list perms n-satom n-patom num-trans)) p)) fc₀)
 
 abbrev μ-loop : tie.MeasureT-loop
 μ-loop fc₀ p2s s2pp nsym-list perms n-satom n-patom num-trans p₀ fc p = n-patom - p

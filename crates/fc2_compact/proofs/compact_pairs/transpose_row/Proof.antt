@@ -4,7 +4,7 @@ use Prim.Native.Nat.{_≤_, _-_}
 use native.Mathlib.Omega.{arith}
 use lib.ListN.{length}
 use Rattle.lists.specs.Tab.{times, times-none, times-more}
-use Rattle.fc2_compact.specs.CompactTurns.{transposeTurn}
+use Rattle.fc2_compact.specs.CompactVisits.{transposeVisit}
 use Rattle.fc2_compact.specs.CompactCode.{ready-at, p2s-read}
 use borrow.Author.Needs.{needs}
 use Rattle.fc2_compact.proofs.compact_pairs.transpose_row.Statement.{statement}
@@ -13,7 +13,7 @@ use Rattle.fc2_compact.proofs.compact_pairs.transpose_row.Tie as tie
 abbrev Inv-loop : tie.InvT-loop
 Inv-loop fc₀ p2s s2pp nsym-list perms n-satom n-patom num-trans p i j₀ fc j =
     (j ≤ n-satom) × (length fc ≡ length fc₀)
-    × (fc ≡ times j (transposeTurn (shiftsOf (shiftTables p2s s2pp nsym-list perms n-satom n-patom num-trans)) p) fc₀)
+    × (fc ≡ times j (transposeVisit (shiftsOf (shiftTables p2s s2pp nsym-list perms n-satom n-patom num-trans)) p) fc₀)
 
 abbrev μ-loop : tie.MeasureT-loop
 μ-loop fc₀ p2s s2pp nsym-list perms n-satom n-patom num-trans p i j₀ fc j = n-satom - j
@@ -24,8 +24,8 @@ p2s-at-requires c κs = let s = c .before in p2s-read (s .pre .0) (s .args .p) (
 loop-holds : tie.Need-loop-holds Inv-loop μ-loop
 loop-holds c = (omega arith, refl, times-none _ _)
 
-transpose-turn-requires : tie.Need-transpose-turn-requires Inv-loop μ-loop
-transpose-turn-requires c κs =
+transpose-visit-requires : tie.Need-transpose-visit-requires Inv-loop μ-loop
+transpose-visit-requires c κs =
     let l = c .before .before .loop in
     let s = c .before .before .before .before .before in
     ready-at (l .inv .1) (s .pre .0) (s .pre .1) (c .before .before .before .p2s-at .ensures) (c .before .loop-test .taken)
@@ -40,7 +40,7 @@ loop-again : tie.Need-loop-again Inv-loop μ-loop
 loop-again c =
     let w = c .before .before in
     let l = w .before .before .before .loop in
-    (omega arith, w .transpose-turn .kept .0 ∙ l .inv .1, times-more (l .j) _ _ (l .inv .2) (w .transpose-turn .ensures))
+    (omega arith, w .transpose-visit .kept .0 ∙ l .inv .1, times-more (l .j) _ _ (l .inv .2) (w .transpose-visit .ensures))
 
 same-length : tie.Need-same-length Inv-loop μ-loop
 same-length c = search needs
@@ -60,7 +60,7 @@ transpose-row-spec =
     μ-loop
     p2s-at-requires
     loop-holds
-    transpose-turn-requires
+    transpose-visit-requires
     add-j
     loop-less
     loop-again

@@ -7,7 +7,7 @@ use Rattle.fc3.proofs.compact.set_permutation_symmetry_compact_fc3.Read
 use Rattle.fc3.proofs.compact.set_permutation_symmetry_compact_fc3.Lts as lts
 use Rattle.fc3.proofs.compact.slabs.Reads as slabs-reads
 use Rattle.lists.proofs.clear_bytes.Reads as clear-bytes-reads
-use Rattle.tables.proofs.guard.judge_compact.Reads as judge-compact-reads
+use Rattle.shifts.proofs.judge_compact.Reads as judge-compact-reads
 use Rattle.tables.proofs.is_refusal.Reads as is-refusal-reads
 
 -- src/compact.rt:176:9

@@ -7,7 +7,7 @@ use Rattle.fc3.proofs.full.full_group.Tie as tie
 use Rattle.fc3.proofs.full.full_group.Reads as reads
 use Rattle.fc3.proofs.full.full_group.Lts as lts
 use Rattle.fc3.proofs.full.rising.Reads as rising-reads
-use Rattle.fc3.proofs.spread.work_known.Reads as work-known-reads
+use Rattle.fc3_groups.proofs.spread.work_known.Reads as work-known-reads
 use Rattle.places.proofs.full3.Reads as full3-reads
 
 -- src/full.rt:31:9

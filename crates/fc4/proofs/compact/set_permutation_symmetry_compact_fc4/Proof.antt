@@ -15,8 +15,8 @@ returns c =
     let s = c .before .before .before .before .before in
     symmetrize-refused (s .args .fc4 .now) _ (s .args .done .now) (c .before .before .judge-compact .result) (c .before .before .judge-compact .ensures) (sym (c .before .is-refusal .ensures) ∙ c .if1 .taken)
 
-places-requires : tie.Need-places-requires
-places-requires c κs = search needs
+addresses-requires : tie.Need-addresses-requires
+addresses-requires c κs = search needs
 
 clear-bytes-requires : tie.Need-clear-bytes-requires
 clear-bytes-requires c κs = search needs
@@ -24,7 +24,7 @@ clear-bytes-requires c κs = search needs
 all-blocks-requires : tie.Need-all-blocks-requires
 all-blocks-requires c κs =
     let s = c .before .before .before .before .before .before .before .before .before .before .before .before .before in
-    (rw (c .before .before .before .before .before .clear-bytes .kept .0) (symmetrize-ready (s .args .fc4 .now) _ (s .args .done .now) (c .before .before .before .before .before .before .before .before .before .before .judge-compact .result) (c .before .before .before .before .before .before .before .before .before .before .judge-compact .ensures) (sym (c .before .before .before .before .before .before .before .before .before .is-refusal .ensures) ∙ c .before .before .before .before .before .before .before .before .if1 .left)), c .before .before .before .before .before .before .before .places .ensures)
+    (rw (c .before .before .before .before .before .clear-bytes .kept .0) (symmetrize-ready (s .args .fc4 .now) _ (s .args .done .now) (c .before .before .before .before .before .before .before .before .before .before .judge-compact .result) (c .before .before .before .before .before .before .before .before .before .before .judge-compact .ensures) (sym (c .before .before .before .before .before .before .before .before .before .is-refusal .ensures) ∙ c .before .before .before .before .before .before .before .before .if1 .left)), c .before .before .before .before .before .before .before .addresses .ensures)
 
 clear-bytes-requires-2 : tie.Need-clear-bytes-requires-2
 clear-bytes-requires-2 c κs = search needs
@@ -48,7 +48,7 @@ set-permutation-symmetry-compact-fc4-spec =
     judge-compact-requires
     is-refusal-requires
     returns
-    places-requires
+    addresses-requires
     clear-bytes-requires
     all-blocks-requires
     clear-bytes-requires-2

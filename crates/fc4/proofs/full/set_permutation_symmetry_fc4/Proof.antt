@@ -15,8 +15,8 @@ returns c =
     let s = c .before .before .before .before .before in
     full-refused (s .args .fc4 .now) (s .args .done .now) (s .args .num-atom) (c .before .before .judge-full .result) (c .before .before .judge-full .ensures) (sym (c .before .is-refusal .ensures) ∙ c .if1 .taken)
 
-places-requires : tie.Need-places-requires
-places-requires c κs = search needs
+addresses-requires : tie.Need-addresses-requires
+addresses-requires c κs = search needs
 
 clear-bytes-requires : tie.Need-clear-bytes-requires
 clear-bytes-requires c κs = search needs
@@ -24,7 +24,7 @@ clear-bytes-requires c κs = search needs
 full-blocks-requires : tie.Need-full-blocks-requires
 full-blocks-requires c κs =
     let s = c .before .before .before .before .before .before .before .before .before .before .before .before .before in
-    (rw (c .before .before .before .before .before .clear-bytes .kept .0) (full-ready (s .args .fc4 .now) (s .args .done .now) (s .args .num-atom) (c .before .before .before .before .before .before .before .before .before .before .judge-full .result) (c .before .before .before .before .before .before .before .before .before .before .judge-full .ensures) (sym (c .before .before .before .before .before .before .before .before .before .is-refusal .ensures) ∙ c .before .before .before .before .before .before .before .before .if1 .left)), c .before .before .before .before .before .before .before .places .ensures)
+    (rw (c .before .before .before .before .before .clear-bytes .kept .0) (full-ready (s .args .fc4 .now) (s .args .done .now) (s .args .num-atom) (c .before .before .before .before .before .before .before .before .before .before .judge-full .result) (c .before .before .before .before .before .before .before .before .before .before .judge-full .ensures) (sym (c .before .before .before .before .before .before .before .before .before .is-refusal .ensures) ∙ c .before .before .before .before .before .before .before .before .if1 .left)), c .before .before .before .before .before .before .before .addresses .ensures)
 
 clear-bytes-requires-2 : tie.Need-clear-bytes-requires-2
 clear-bytes-requires-2 c κs = search needs
@@ -48,7 +48,7 @@ set-permutation-symmetry-fc4-spec =
     judge-full-requires
     is-refusal-requires
     returns
-    places-requires
+    addresses-requires
     clear-bytes-requires
     full-blocks-requires
     clear-bytes-requires-2

@@ -1,102 +1,108 @@
+use Prim.Native.Nat.{_<_}
 use native.Mathlib.Omega.{arith}
 use mathlib.Core.Path.{_≡_, _∙_}
 use Rattle.lists.specs.Digits.{horner}
-use Rattle.fc4.specs.Blocks.{whole-below, whole-pos, whole-are, joined-are}
+use Rattle.fc4.specs.Blocks.{whole-below, whole-pos, whole-are, joined-are, legs-are, same-atoms}
 use borrow.Author.Needs.{needs}
 use Rattle.fc4.proofs.group.full_group_blocks.Statement.{statement}
 use Rattle.fc4.proofs.group.full_group_blocks.Tie as tie
 
-rem-t11 : tie.Need-rem-t11
-rem-t11 c =
-    let s = c in
-    omega (arith, whole-pos (s .args .n) (s .args .b) (s .pre .1))
+last-leg-requires : tie.Need-last-leg-requires
+last-leg-requires c κs =
+    let a = c in
+    whole-pos (a .args .n) (a .args .b) (a .pre .1)
 
-div-t11 : tie.Need-div-t11
-div-t11 c =
-    let s = c in
-    omega (arith, whole-pos (s .args .n) (s .args .b) (s .pre .1))
+legs-before-requires : tie.Need-legs-before-requires
+legs-before-requires c κs =
+    let a = c .before in
+    whole-pos (a .args .n) (a .args .b) (a .pre .1)
 
-rem-t12 : tie.Need-rem-t12
-rem-t12 c =
-    let s = c in
-    omega (arith, whole-pos (s .args .n) (s .args .b) (s .pre .1))
+last-leg-requires-2 : tie.Need-last-leg-requires-2
+last-leg-requires-2 c κs =
+    let a = c .before .before in
+    whole-pos (a .args .n) (a .args .b) (a .pre .1)
 
-div-t11-2 : tie.Need-div-t11-2
-div-t11-2 c =
-    let s = c in
-    omega (arith, whole-pos (s .args .n) (s .args .b) (s .pre .1))
+legs-before-requires-2 : tie.Need-legs-before-requires-2
+legs-before-requires-2 c κs =
+    let a = c .before .before .before in
+    whole-pos (a .args .n) (a .args .b) (a .pre .1)
 
-div-t12 : tie.Need-div-t12
-div-t12 c =
-    let s = c in
-    omega (arith, whole-pos (s .args .n) (s .args .b) (s .pre .1))
+last-leg-requires-3 : tie.Need-last-leg-requires-3
+last-leg-requires-3 c κs =
+    let a = c .before .before .before .before in
+    whole-pos (a .args .n) (a .args .b) (a .pre .1)
 
-rem-t13 : tie.Need-rem-t13
-rem-t13 c =
-    let s = c in
-    omega (arith, whole-pos (s .args .n) (s .args .b) (s .pre .1))
-
-div-t11-3 : tie.Need-div-t11-3
-div-t11-3 c =
-    let s = c in
-    omega (arith, whole-pos (s .args .n) (s .args .b) (s .pre .1))
-
-div-t13 : tie.Need-div-t13
-div-t13 c =
-    let s = c in
-    omega (arith, whole-pos (s .args .n) (s .args .b) (s .pre .1))
-
-div-t12-2 : tie.Need-div-t12-2
-div-t12-2 c =
-    let s = c in
-    omega (arith, whole-pos (s .args .n) (s .args .b) (s .pre .1))
+legs-before-requires-3 : tie.Need-legs-before-requires-3
+legs-before-requires-3 c κs =
+    let a = c .before .before .before .before .before in
+    whole-pos (a .args .n) (a .args .b) (a .pre .1)
 
 full-six-from-requires : tie.Need-full-six-from-requires
 full-six-from-requires c κs =
-    let s = c in
-    let o = whole-below (s .args .n) (s .args .b) (s .pre .1) in
-    (s .pre .0, o .0, o .1, o .2, o .3)
+    let a = c .before .before .before .before .before .before in
+    let o = whole-below (a .args .n) (a .args .b) (a .pre .1) in
+    let (ep, ej, ek) = legs-are (a .args .b) (a .args .n) (c .before .before .before .before .legs-before .ensures) (c .before .before .before .last-leg2 .ensures) (c .before .before .legs-before2 .ensures) (c .before .last-leg3 .ensures) (c .legs-before3 .ensures) in
+    let i : c .legs-before3 .result < a .args .n = rw ep (o .0) in
+    let j : c .before .last-leg3 .result < a .args .n = rw ej (o .1) in
+    let k : c .before .before .before .last-leg2 .result < a .args .n = rw ek (o .2) in
+    let l : c .before .before .before .before .before .last-leg .result < a .args .n = rw (c .before .before .before .before .before .last-leg .ensures) (o .3) in
+    (a .pre .0, i, j, k, l)
 
 full-six-from-requires-2 : tie.Need-full-six-from-requires-2
 full-six-from-requires-2 c κs =
-    let s = c .before in
-    let o = whole-below (s .args .n) (s .args .b) (s .pre .1) in
-    (s .pre .0, o .1, o .0, o .2, o .3)
+    let a = c .before .before .before .before .before .before .before in
+    let o = whole-below (a .args .n) (a .args .b) (a .pre .1) in
+    let (ep, ej, ek) = legs-are (a .args .b) (a .args .n) (c .before .before .before .before .before .legs-before .ensures) (c .before .before .before .before .last-leg2 .ensures) (c .before .before .before .legs-before2 .ensures) (c .before .before .last-leg3 .ensures) (c .before .legs-before3 .ensures) in
+    let i : c .before .legs-before3 .result < a .args .n = rw ep (o .0) in
+    let j : c .before .before .last-leg3 .result < a .args .n = rw ej (o .1) in
+    let k : c .before .before .before .before .last-leg2 .result < a .args .n = rw ek (o .2) in
+    let l : c .before .before .before .before .before .before .last-leg .result < a .args .n = rw (c .before .before .before .before .before .before .last-leg .ensures) (o .3) in
+    (a .pre .0, j, i, k, l)
 
 full-six-from-requires-3 : tie.Need-full-six-from-requires-3
 full-six-from-requires-3 c κs =
-    let s = c .before .before in
-    let o = whole-below (s .args .n) (s .args .b) (s .pre .1) in
-    (s .pre .0, o .2, o .0, o .1, o .3)
+    let a = c .before .before .before .before .before .before .before .before in
+    let o = whole-below (a .args .n) (a .args .b) (a .pre .1) in
+    let (ep, ej, ek) = legs-are (a .args .b) (a .args .n) (c .before .before .before .before .before .before .legs-before .ensures) (c .before .before .before .before .before .last-leg2 .ensures) (c .before .before .before .before .legs-before2 .ensures) (c .before .before .before .last-leg3 .ensures) (c .before .before .legs-before3 .ensures) in
+    let i : c .before .before .legs-before3 .result < a .args .n = rw ep (o .0) in
+    let j : c .before .before .before .last-leg3 .result < a .args .n = rw ej (o .1) in
+    let k : c .before .before .before .before .before .last-leg2 .result < a .args .n = rw ek (o .2) in
+    let l : c .before .before .before .before .before .before .before .last-leg .result < a .args .n = rw (c .before .before .before .before .before .before .before .last-leg .ensures) (o .3) in
+    (a .pre .0, k, i, j, l)
 
 full-six-from-requires-4 : tie.Need-full-six-from-requires-4
 full-six-from-requires-4 c κs =
-    let s = c .before .before .before in
-    let o = whole-below (s .args .n) (s .args .b) (s .pre .1) in
-    (s .pre .0, o .3, o .0, o .1, o .2)
+    let a = c .before .before .before .before .before .before .before .before .before in
+    let o = whole-below (a .args .n) (a .args .b) (a .pre .1) in
+    let (ep, ej, ek) = legs-are (a .args .b) (a .args .n) (c .before .before .before .before .before .before .before .legs-before .ensures) (c .before .before .before .before .before .before .last-leg2 .ensures) (c .before .before .before .before .before .legs-before2 .ensures) (c .before .before .before .before .last-leg3 .ensures) (c .before .before .before .legs-before3 .ensures) in
+    let i : c .before .before .before .legs-before3 .result < a .args .n = rw ep (o .0) in
+    let j : c .before .before .before .before .last-leg3 .result < a .args .n = rw ej (o .1) in
+    let k : c .before .before .before .before .before .before .last-leg2 .result < a .args .n = rw ek (o .2) in
+    let l : c .before .before .before .before .before .before .before .before .last-leg .result < a .args .n = rw (c .before .before .before .before .before .before .before .before .last-leg .ensures) (o .3) in
+    (a .pre .0, l, i, j, k)
 
 joined-requires : tie.Need-joined-requires
 joined-requires c κs = search needs
 
 returns : tie.Need-returns
 returns c =
-    let s = c .before .before .before .before .before in
-    joined-are (horner (s .args .n)) _ _ _ _ (c .joined .ensures) (c .before .before .before .before .full-six-from .ensures) (c .before .before .before .full-six-from2 .ensures) (c .before .before .full-six-from3 .ensures) (c .before .full-six-from4 .ensures)
+    let s = c .before .before .before .before .before .before .before .before .before .before .before in
+    let f = horner (s .args .n) in
+    let (ep, ej, ek) = legs-are (s .args .b) (s .args .n) (c .before .before .before .before .before .before .before .before .before .legs-before .ensures) (c .before .before .before .before .before .before .before .before .last-leg2 .ensures) (c .before .before .before .before .before .before .before .legs-before2 .ensures) (c .before .before .before .before .before .before .last-leg3 .ensures) (c .before .before .before .before .before .legs-before3 .ensures) in
+    joined-are f _ _ _ _ (c .joined .ensures) (c .before .before .before .before .full-six-from .ensures) (c .before .before .before .full-six-from2 .ensures) (c .before .before .full-six-from3 .ensures) (c .before .full-six-from4 .ensures)
+    ∙ same-atoms f ep ej ek (c .before .before .before .before .before .before .before .before .before .before .last-leg .ensures)
     ∙ whole-are (s .args .n) (s .args .b) (s .pre .1)
 
 pub full-group-blocks-spec : {M : Type 1} → statement M
 full-group-blocks-spec =
     tie.close
     (tie.spec
-    rem-t11
-    div-t11
-    rem-t12
-    div-t11-2
-    div-t12
-    rem-t13
-    div-t11-3
-    div-t13
-    div-t12-2
+    last-leg-requires
+    legs-before-requires
+    last-leg-requires-2
+    legs-before-requires-2
+    last-leg-requires-3
+    legs-before-requires-3
     full-six-from-requires
     full-six-from-requires-2
     full-six-from-requires-3

@@ -1,121 +1,118 @@
 use Prim.Native.Nat.{_<_}
 use native.Mathlib.Omega.{arith}
-use mathlib.Core.Path.{_≡_, _∙_}
+use mathlib.Core.Path.{_≡_, refl, ap, _∙_}
+use Rattle.tables.specs.Conditions.{indexAt}
 use Rattle.places.specs.ReadOuts.{storedIn}
-use Rattle.fc4.specs.Blocks.{read-tables, others-below, satoms-pos, p2s-read, found-are, joined-are}
+use Rattle.fc4.specs.Blocks.{read-tables, others-below, satoms-pos, p2s-read, found-are, joined-are, legs-are, same-atoms}
 use borrow.Author.Needs.{needs}
 use Rattle.fc4.proofs.group.group_blocks.Statement.{statement}
 use Rattle.fc4.proofs.group.group_blocks.Tie as tie
 
-rem-t18 : tie.Need-rem-t18
-rem-t18 c =
-    let s = c in
-    omega (arith, satoms-pos _ (s .pre .0) (s .args .b) (s .pre .1))
+last-leg-requires : tie.Need-last-leg-requires
+last-leg-requires c κs =
+    let a = c in
+    satoms-pos _ (a .pre .0) (a .args .b) (a .pre .1)
 
-div-t18 : tie.Need-div-t18
-div-t18 c =
-    let s = c in
-    omega (arith, satoms-pos _ (s .pre .0) (s .args .b) (s .pre .1))
+legs-before-requires : tie.Need-legs-before-requires
+legs-before-requires c κs =
+    let a = c .before in
+    satoms-pos _ (a .pre .0) (a .args .b) (a .pre .1)
 
-rem-t19 : tie.Need-rem-t19
-rem-t19 c =
-    let s = c in
-    omega (arith, satoms-pos _ (s .pre .0) (s .args .b) (s .pre .1))
+last-leg-requires-2 : tie.Need-last-leg-requires-2
+last-leg-requires-2 c κs =
+    let a = c .before .before in
+    satoms-pos _ (a .pre .0) (a .args .b) (a .pre .1)
 
-div-t18-2 : tie.Need-div-t18-2
-div-t18-2 c =
-    let s = c in
-    omega (arith, satoms-pos _ (s .pre .0) (s .args .b) (s .pre .1))
+legs-before-requires-2 : tie.Need-legs-before-requires-2
+legs-before-requires-2 c κs =
+    let a = c .before .before .before in
+    satoms-pos _ (a .pre .0) (a .args .b) (a .pre .1)
 
-div-t19 : tie.Need-div-t19
-div-t19 c =
-    let s = c in
-    omega (arith, satoms-pos _ (s .pre .0) (s .args .b) (s .pre .1))
+last-leg-requires-3 : tie.Need-last-leg-requires-3
+last-leg-requires-3 c κs =
+    let a = c .before .before .before .before in
+    satoms-pos _ (a .pre .0) (a .args .b) (a .pre .1)
 
-rem-t20 : tie.Need-rem-t20
-rem-t20 c =
-    let s = c in
-    omega (arith, satoms-pos _ (s .pre .0) (s .args .b) (s .pre .1))
-
-div-t18-3 : tie.Need-div-t18-3
-div-t18-3 c =
-    let s = c in
-    omega (arith, satoms-pos _ (s .pre .0) (s .args .b) (s .pre .1))
-
-div-t20 : tie.Need-div-t20
-div-t20 c =
-    let s = c in
-    omega (arith, satoms-pos _ (s .pre .0) (s .args .b) (s .pre .1))
-
-div-t19-2 : tie.Need-div-t19-2
-div-t19-2 c =
-    let s = c in
-    omega (arith, satoms-pos _ (s .pre .0) (s .args .b) (s .pre .1))
+legs-before-requires-3 : tie.Need-legs-before-requires-3
+legs-before-requires-3 c κs =
+    let a = c .before .before .before .before .before in
+    satoms-pos _ (a .pre .0) (a .args .b) (a .pre .1)
 
 p2s-at-requires : tie.Need-p2s-at-requires
 p2s-at-requires c κs =
-    let s = c in
-    p2s-read _ (s .pre .0) (s .args .b) (s .pre .1) .0
+    let a = c .before .before .before .before .before .before in
+    let (ep, ej, ek) = legs-are (a .args .b) (a .args .n-satom) (c .before .before .before .before .legs-before .ensures) (c .before .before .before .last-leg2 .ensures) (c .before .before .legs-before2 .ensures) (c .before .last-leg3 .ensures) (c .legs-before3 .ensures) in
+    rw ep (p2s-read _ (a .pre .0) (a .args .b) (a .pre .1) .0)
 
 six-from-requires : tie.Need-six-from-requires
 six-from-requires c κs =
-    let a = c .before in
+    let a = c .before .before .before .before .before .before .before in
     let F = a .pre .0 in
     let h = a .pre .1 in
     let o = others-below _ F (a .args .b) h in
-    let i : c .p2s-at .result .0 < a .args .n-satom = rw (c .p2s-at .ensures) (p2s-read _ F (a .args .b) h .1) in
-    (read-tables _ F (a .args .b) h, i, o .0, o .1, o .2)
+    let (ep, ej, ek) = legs-are (a .args .b) (a .args .n-satom) (c .before .before .before .before .before .legs-before .ensures) (c .before .before .before .before .last-leg2 .ensures) (c .before .before .before .legs-before2 .ensures) (c .before .before .last-leg3 .ensures) (c .before .legs-before3 .ensures) in
+    let el : c .before .before .before .before .before .before .last-leg .result < a .args .n-satom = rw (c .before .before .before .before .before .before .last-leg .ensures) (o .2) in
+    let i : c .p2s-at .result .0 < a .args .n-satom = rw (c .p2s-at .ensures, ep) (p2s-read _ F (a .args .b) h .1) in
+    (read-tables _ F (a .args .b) h, i, rw ej (o .0), rw ek (o .1), el)
 
 six-from-requires-2 : tie.Need-six-from-requires-2
 six-from-requires-2 c κs =
-    let a = c .before .before in
+    let a = c .before .before .before .before .before .before .before .before in
     let F = a .pre .0 in
     let h = a .pre .1 in
     let o = others-below _ F (a .args .b) h in
-    let i : c .before .p2s-at .result .0 < a .args .n-satom = rw (c .before .p2s-at .ensures) (p2s-read _ F (a .args .b) h .1) in
-    (read-tables _ F (a .args .b) h, o .0, i, o .1, o .2)
+    let (ep, ej, ek) = legs-are (a .args .b) (a .args .n-satom) (c .before .before .before .before .before .before .legs-before .ensures) (c .before .before .before .before .before .last-leg2 .ensures) (c .before .before .before .before .legs-before2 .ensures) (c .before .before .before .last-leg3 .ensures) (c .before .before .legs-before3 .ensures) in
+    let el : c .before .before .before .before .before .before .before .last-leg .result < a .args .n-satom = rw (c .before .before .before .before .before .before .before .last-leg .ensures) (o .2) in
+    let i : c .before .p2s-at .result .0 < a .args .n-satom = rw (c .before .p2s-at .ensures, ep) (p2s-read _ F (a .args .b) h .1) in
+    (read-tables _ F (a .args .b) h, rw ej (o .0), i, rw ek (o .1), el)
 
 six-from-requires-3 : tie.Need-six-from-requires-3
 six-from-requires-3 c κs =
-    let a = c .before .before .before in
+    let a = c .before .before .before .before .before .before .before .before .before in
     let F = a .pre .0 in
     let h = a .pre .1 in
     let o = others-below _ F (a .args .b) h in
-    let i : c .before .before .p2s-at .result .0 < a .args .n-satom = rw (c .before .before .p2s-at .ensures) (p2s-read _ F (a .args .b) h .1) in
-    (read-tables _ F (a .args .b) h, o .1, i, o .0, o .2)
+    let (ep, ej, ek) = legs-are (a .args .b) (a .args .n-satom) (c .before .before .before .before .before .before .before .legs-before .ensures) (c .before .before .before .before .before .before .last-leg2 .ensures) (c .before .before .before .before .before .legs-before2 .ensures) (c .before .before .before .before .last-leg3 .ensures) (c .before .before .before .legs-before3 .ensures) in
+    let el : c .before .before .before .before .before .before .before .before .last-leg .result < a .args .n-satom = rw (c .before .before .before .before .before .before .before .before .last-leg .ensures) (o .2) in
+    let i : c .before .before .p2s-at .result .0 < a .args .n-satom = rw (c .before .before .p2s-at .ensures, ep) (p2s-read _ F (a .args .b) h .1) in
+    (read-tables _ F (a .args .b) h, rw ek (o .1), i, rw ej (o .0), el)
 
 six-from-requires-4 : tie.Need-six-from-requires-4
 six-from-requires-4 c κs =
-    let a = c .before .before .before .before in
+    let a = c .before .before .before .before .before .before .before .before .before .before in
     let F = a .pre .0 in
     let h = a .pre .1 in
     let o = others-below _ F (a .args .b) h in
-    let i : c .before .before .before .p2s-at .result .0 < a .args .n-satom = rw (c .before .before .before .p2s-at .ensures) (p2s-read _ F (a .args .b) h .1) in
-    (read-tables _ F (a .args .b) h, o .2, i, o .0, o .1)
+    let (ep, ej, ek) = legs-are (a .args .b) (a .args .n-satom) (c .before .before .before .before .before .before .before .before .legs-before .ensures) (c .before .before .before .before .before .before .before .last-leg2 .ensures) (c .before .before .before .before .before .before .legs-before2 .ensures) (c .before .before .before .before .before .last-leg3 .ensures) (c .before .before .before .before .legs-before3 .ensures) in
+    let el : c .before .before .before .before .before .before .before .before .before .last-leg .result < a .args .n-satom = rw (c .before .before .before .before .before .before .before .before .before .last-leg .ensures) (o .2) in
+    let i : c .before .before .before .p2s-at .result .0 < a .args .n-satom = rw (c .before .before .before .p2s-at .ensures, ep) (p2s-read _ F (a .args .b) h .1) in
+    (read-tables _ F (a .args .b) h, el, i, rw ej (o .0), rw ek (o .1))
 
 joined-requires : tie.Need-joined-requires
 joined-requires c κs = search needs
 
 returns : tie.Need-returns
 returns c =
-    let s = c .before .before .before .before .before .before in
+    let s = c .before .before .before .before .before .before .before .before .before .before .before .before in
     let a = s .args in
-    joined-are (storedIn (a .n-satom) (a .s2pp .now) (a .nsym-list .now) (a .perms .now)) _ _ _ _ (c .joined .ensures) (c .before .before .before .before .six-from .ensures) (c .before .before .before .six-from2 .ensures) (c .before .before .six-from3 .ensures) (c .before .six-from4 .ensures)
-    ∙ found-are _ (s .pre .0) (s .args .b) (s .pre .1) (c .before .before .before .before .before .p2s-at .result .0) (c .before .before .before .before .before .p2s-at .ensures)
+    let f = storedIn (a .n-satom) (a .s2pp .now) (a .nsym-list .now) (a .perms .now) in
+    let (ep, ej, ek) = legs-are (s .args .b) (s .args .n-satom) (c .before .before .before .before .before .before .before .before .before .before .legs-before .ensures) (c .before .before .before .before .before .before .before .before .before .last-leg2 .ensures) (c .before .before .before .before .before .before .before .before .legs-before2 .ensures) (c .before .before .before .before .before .before .before .last-leg3 .ensures) (c .before .before .before .before .before .before .legs-before3 .ensures) in
+    let i = c .before .before .before .before .before .p2s-at .result .0 in
+    let ei : i ≡ indexAt (a .p2s .now) _ = c .before .before .before .before .before .p2s-at .ensures ∙ ap (indexAt (a .p2s .now)) ep in
+    joined-are f _ _ _ _ (c .joined .ensures) (c .before .before .before .before .six-from .ensures) (c .before .before .before .six-from2 .ensures) (c .before .before .six-from3 .ensures) (c .before .six-from4 .ensures)
+    ∙ same-atoms f refl ej ek (c .before .before .before .before .before .before .before .before .before .before .before .last-leg .ensures)
+    ∙ found-are _ (s .pre .0) (s .args .b) (s .pre .1) i ei
 
 pub group-blocks-spec : {M : Type 1} → statement M
 group-blocks-spec =
     tie.close
     (tie.spec
-    rem-t18
-    div-t18
-    rem-t19
-    div-t18-2
-    div-t19
-    rem-t20
-    div-t18-3
-    div-t20
-    div-t19-2
+    last-leg-requires
+    legs-before-requires
+    last-leg-requires-2
+    legs-before-requires-2
+    last-leg-requires-3
+    legs-before-requires-3
     p2s-at-requires
     six-from-requires
     six-from-requires-2

@@ -4,7 +4,7 @@ use native.Mathlib.Omega.{arith}
 use mathlib.Core.Path.{_≡_, refl, _∙_}
 use lib.ListN.{length, getD, set, length-set}
 use Rattle.lists.specs.Tab.{times, times-none, times-more}
-use Rattle.fc4.specs.Spread.{stored-marks}
+use Rattle.fc4.specs.Loops.{stored-marks}
 use borrow.Author.Needs.{needs}
 use Rattle.fc4.proofs.group.mark.Statement.{statement}
 use Rattle.fc4.proofs.group.mark.Tie as tie

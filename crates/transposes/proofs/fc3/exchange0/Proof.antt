@@ -1,8 +1,8 @@
 use mathlib.Core.Path.{refl}
 use Rattle.places.specs.Moves.{order}
-use Rattle.orbits.specs.Transposed.{turned}
+use Rattle.blocks.specs.Permuted.{permuted}
 use Rattle.transposes.specs.Exchange.{exchanged}
-use Rattle.transposes.specs.Fc3Loops.{turned-0}
+use Rattle.transposes.specs.Fc3Loops.{permuted-0}
 use borrow.Author.Needs.{needs}
 use Rattle.transposes.proofs.fc3.exchange0.Statement.{statement}
 use Rattle.transposes.proofs.fc3.exchange0.Tie as tie
@@ -13,14 +13,14 @@ read27-requires c κs = search needs
 read27-requires-2 : tie.Need-read27-requires-2
 read27-requires-2 c κs = search needs
 
-turn-mln-requires : tie.Need-turn-mln-requires
-turn-mln-requires c κs = search needs
+permute-mln-requires : tie.Need-permute-mln-requires
+permute-mln-requires c κs = search needs
 
 write27-requires : tie.Need-write27-requires
 write27-requires c κs = search needs
 
-turn-mln-requires-2 : tie.Need-turn-mln-requires-2
-turn-mln-requires-2 c κs = search needs
+permute-mln-requires-2 : tie.Need-permute-mln-requires-2
+permute-mln-requires-2 c κs = search needs
 
 write27-requires-2 : tie.Need-write27-requires-2
 write27-requires-2 c κs = search needs
@@ -35,7 +35,7 @@ returns c =
     let r2 = w1 .before .before .before in
     let r1 = r2 .before .before in
     let a = r1 .before .before .before .args in
-    exchanged 27 (turned 2 (order 0)) (a .a) (a .b) (a .fc3 .now) (r1 .read27 .ensures) (r2 .read272 .ensures) (turned-0 _ 0 refl (w1 .before .turn-mln .ensures)) (turned-0 _ 0 refl (w2 .before .turn-mln2 .ensures)) (w1 .write27 .ensures) (w2 .write272 .ensures)
+    exchanged 27 (permuted 2 (order 0)) (a .a) (a .b) (a .fc3 .now) (r1 .read27 .ensures) (r2 .read272 .ensures) (permuted-0 _ 0 refl (w1 .before .permute-mln .ensures)) (permuted-0 _ 0 refl (w2 .before .permute-mln2 .ensures)) (w1 .write27 .ensures) (w2 .write272 .ensures)
 
 pub exchange0-spec : {M : Type 1} → statement M
 exchange0-spec =
@@ -43,9 +43,9 @@ exchange0-spec =
     (tie.spec
     read27-requires
     read27-requires-2
-    turn-mln-requires
+    permute-mln-requires
     write27-requires
-    turn-mln-requires-2
+    permute-mln-requires-2
     write27-requires-2
     same-length
     returns)

@@ -1,8 +1,8 @@
 use mathlib.Core.Path.{refl}
 use Rattle.places.specs.Moves.{order}
-use Rattle.orbits.specs.Transposed.{turned}
+use Rattle.blocks.specs.Permuted.{permuted}
 use Rattle.transposes.specs.Exchange.{exchanged}
-use Rattle.transposes.specs.Fc3Loops.{turned-1}
+use Rattle.transposes.specs.Fc3Loops.{permuted-1}
 use borrow.Author.Needs.{needs}
 use Rattle.transposes.proofs.fc3.exchange1.Statement.{statement}
 use Rattle.transposes.proofs.fc3.exchange1.Tie as tie
@@ -13,14 +13,14 @@ read27-requires c κs = search needs
 read27-requires-2 : tie.Need-read27-requires-2
 read27-requires-2 c κs = search needs
 
-turn-nml-requires : tie.Need-turn-nml-requires
-turn-nml-requires c κs = search needs
+permute-nml-requires : tie.Need-permute-nml-requires
+permute-nml-requires c κs = search needs
 
 write27-requires : tie.Need-write27-requires
 write27-requires c κs = search needs
 
-turn-nml-requires-2 : tie.Need-turn-nml-requires-2
-turn-nml-requires-2 c κs = search needs
+permute-nml-requires-2 : tie.Need-permute-nml-requires-2
+permute-nml-requires-2 c κs = search needs
 
 write27-requires-2 : tie.Need-write27-requires-2
 write27-requires-2 c κs = search needs
@@ -35,7 +35,7 @@ returns c =
     let r2 = w1 .before .before .before in
     let r1 = r2 .before .before in
     let a = r1 .before .before .before .args in
-    exchanged 27 (turned 2 (order 1)) (a .a) (a .b) (a .fc3 .now) (r1 .read27 .ensures) (r2 .read272 .ensures) (turned-1 _ 1 refl (w1 .before .turn-nml .ensures)) (turned-1 _ 1 refl (w2 .before .turn-nml2 .ensures)) (w1 .write27 .ensures) (w2 .write272 .ensures)
+    exchanged 27 (permuted 2 (order 1)) (a .a) (a .b) (a .fc3 .now) (r1 .read27 .ensures) (r2 .read272 .ensures) (permuted-1 _ 1 refl (w1 .before .permute-nml .ensures)) (permuted-1 _ 1 refl (w2 .before .permute-nml2 .ensures)) (w1 .write27 .ensures) (w2 .write272 .ensures)
 
 pub exchange1-spec : {M : Type 1} → statement M
 exchange1-spec =
@@ -43,9 +43,9 @@ exchange1-spec =
     (tie.spec
     read27-requires
     read27-requires-2
-    turn-nml-requires
+    permute-nml-requires
     write27-requires
-    turn-nml-requires-2
+    permute-nml-requires-2
     write27-requires-2
     same-length
     returns)

@@ -1,76 +1,51 @@
--- The loop over the three thirds. Assumes nothing.
-use Prim.Native.Nat.{_+_, _*_, _≤_, _-_}
-use native.Mathlib.Omega.{arith}
-use mathlib.Core.Path.{_≡_, refl, _∙_}
-use lib.ListN.{length}
-use Rattle.lists.specs.Tab.{times, times-none, times-more}
-use Rattle.orbits.specs.BlockPairs.{joinedPair}
-use Rattle.orbits.specs.Trading.{theOther}
-use Rattle.transposes.specs.Exchange.{runFrom, thirds-are}
+use mathlib.Core.Path.{refl}
+use Rattle.places.specs.Moves.{order}
+use Rattle.blocks.specs.Permuted.{permuted}
+use Rattle.transposes.specs.Exchange.{exchanged}
+use Rattle.transposes.specs.Fc3Loops.{permuted-2}
 use borrow.Author.Needs.{needs}
 use Rattle.transposes.proofs.fc3.exchange2.Statement.{statement}
 use Rattle.transposes.proofs.fc3.exchange2.Tie as tie
 
-abbrev Inv-loop : tie.InvT-loop
-Inv-loop fc3₀ a b l₀ fc3 l = (l ≤ 3) × (length fc3 ≡ length fc3₀) × (fc3 ≡ times l (λ l. joinedPair theOther 9 runFrom (a * 3 + l) (b * 3 + l)) fc3₀)
+read27-requires : tie.Need-read27-requires
+read27-requires c κs = search needs
 
-abbrev μ-loop : tie.MeasureT-loop
-μ-loop fc3₀ a b l₀ fc3 l = 3 - l
+read27-requires-2 : tie.Need-read27-requires-2
+read27-requires-2 c κs = search needs
 
-loop-holds : tie.Need-loop-holds Inv-loop μ-loop
-loop-holds c = (omega arith, refl, times-none _ _)
+permute-lnm-requires : tie.Need-permute-lnm-requires
+permute-lnm-requires c κs = search needs
 
-mul-exchange9 : tie.Need-mul-exchange9 Inv-loop μ-loop
-mul-exchange9 c = search needs
+write27-requires : tie.Need-write27-requires
+write27-requires c κs = search needs
 
-add-exchange9 : tie.Need-add-exchange9 Inv-loop μ-loop
-add-exchange9 c = search needs
+permute-lnm-requires-2 : tie.Need-permute-lnm-requires-2
+permute-lnm-requires-2 c κs = search needs
 
-mul-exchange9-2 : tie.Need-mul-exchange9-2 Inv-loop μ-loop
-mul-exchange9-2 c = search needs
+write27-requires-2 : tie.Need-write27-requires-2
+write27-requires-2 c κs = search needs
 
-add-exchange9-2 : tie.Need-add-exchange9-2 Inv-loop μ-loop
-add-exchange9-2 c = search needs
-
-exchange9-requires : tie.Need-exchange9-requires Inv-loop μ-loop
-exchange9-requires c κs = search needs
-
-add-l : tie.Need-add-l Inv-loop μ-loop
-add-l c = search needs
-
-loop-less : tie.Need-loop-less Inv-loop μ-loop
-loop-less c = search needs
-
-loop-again : tie.Need-loop-again Inv-loop μ-loop
-loop-again c =
-    let v = c .before .before in
-    let l = v .before .before .before .loop in
-    (omega arith, v .exchange9 .kept .0 ∙ l .inv .1, times-more (l .l) _ _ (l .inv .2) (v .exchange9 .ensures))
-
-same-length : tie.Need-same-length Inv-loop μ-loop
+same-length : tie.Need-same-length
 same-length c = search needs
 
-returns : tie.Need-returns Inv-loop μ-loop
+returns : tie.Need-returns
 returns c =
-    let l = c .before .loop in
-    let s = c .before .before .before in
-    let e : l .l ≡ 3 = omega arith in
-    l .inv .2 ∙ rw e (thirds-are (s .args .a) (s .args .b) (s .args .fc3 .now) (s .pre .0) (s .pre .1))
+    let w2 = c .before .before in
+    let w1 = w2 .before .before .before .before .before in
+    let r2 = w1 .before .before .before in
+    let r1 = r2 .before .before in
+    let a = r1 .before .before .before .args in
+    exchanged 27 (permuted 2 (order 2)) (a .a) (a .b) (a .fc3 .now) (r1 .read27 .ensures) (r2 .read272 .ensures) (permuted-2 _ 2 refl (w1 .before .permute-lnm .ensures)) (permuted-2 _ 2 refl (w2 .before .permute-lnm2 .ensures)) (w1 .write27 .ensures) (w2 .write272 .ensures)
 
 pub exchange2-spec : {M : Type 1} → statement M
 exchange2-spec =
     tie.close
     (tie.spec
-    Inv-loop
-    μ-loop
-    loop-holds
-    mul-exchange9
-    add-exchange9
-    mul-exchange9-2
-    add-exchange9-2
-    exchange9-requires
-    add-l
-    loop-less
-    loop-again
+    read27-requires
+    read27-requires-2
+    permute-lnm-requires
+    write27-requires
+    permute-lnm-requires-2
+    write27-requires-2
     same-length
     returns)

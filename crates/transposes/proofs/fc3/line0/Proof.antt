@@ -6,14 +6,14 @@ use lib.ListN.{length}
 use borrow.Author.Needs.{needs}
 use Rattle.lists.specs.Tab.{times, times-none, times-more}
 use Rattle.tables.specs.Compact.{shiftTables}
-use Rattle.transposes.specs.Fc3Loops.{at3, turnAt, rowT}
+use Rattle.transposes.specs.Fc3Loops.{at3, exchangeAt, rowT}
 use Rattle.transposes.proofs.fc3.line0.Statement.{statement}
 use Rattle.transposes.proofs.fc3.line0.Tie as tie
 
 abbrev Inv-loop : tie.InvT-loop
 Inv-loop fc3₀ p2s s2pp nsym-list perms n-satom n-patom num-trans p i j k₀ fc3 k =
     let T = shiftTables p2s s2pp nsym-list perms n-satom n-patom num-trans in
-    (k ≤ n-satom) × (length fc3 ≡ length fc3₀) × (fc3 ≡ times k (λ k. turnAt T 0 (at3 T (p .0) (j .0) k)) fc3₀)
+    (k ≤ n-satom) × (length fc3 ≡ length fc3₀) × (fc3 ≡ times k (λ k. exchangeAt T 0 (at3 T (p .0) (j .0) k)) fc3₀)
 
 abbrev μ-loop : tie.MeasureT-loop
 μ-loop fc3₀ p2s s2pp nsym-list perms n-satom n-patom num-trans p i j k₀ fc3 k = n-satom - k

@@ -1,7 +1,6 @@
-use mathlib.Core.Path.{refl}
 use Rattle.places.specs.Moves.{order4}
-use Rattle.orbits.specs.Transposed.{turned}
-use Rattle.transposes.specs.Exchange.{exchanged, exchanged-own}
+use Rattle.blocks.specs.Permuted.{permuted}
+use Rattle.transposes.specs.Exchange.{exchanged}
 use borrow.Author.Needs.{needs}
 use Rattle.transposes.proofs.fc4.exchange.Statement.{statement}
 use Rattle.transposes.proofs.fc4.exchange.Tie as tie
@@ -9,46 +8,42 @@ use Rattle.transposes.proofs.fc4.exchange.Tie as tie
 read81-requires : tie.Need-read81-requires
 read81-requires c κs = search needs
 
-put-turned-requires : tie.Need-put-turned-requires
-put-turned-requires c κs = search needs
+read81-requires-2 : tie.Need-read81-requires-2
+read81-requires-2 c κs = search needs
+
+permuted81-requires : tie.Need-permuted81-requires
+permuted81-requires c κs = search needs
+
+write81-requires : tie.Need-write81-requires
+write81-requires c κs = search needs
+
+permuted81-requires-2 : tie.Need-permuted81-requires-2
+permuted81-requires-2 c κs = search needs
+
+write81-requires-2 : tie.Need-write81-requires-2
+write81-requires-2 c κs = search needs
 
 same-length : tie.Need-same-length
 same-length c = search needs
 
 returns : tie.Need-returns
 returns c =
-    let w = c .before .before in
-    let i = w .before .before .before in
-    let r = i .before in
-    let a = r .before .before .before .args in
-    exchanged-own 81 (turned 3 (order4 0)) (a .a) (a .b) (a .fc4 .now) (i .if1 .taken) (r .read81 .ensures) (w .put-turned .ensures)
-
-copy-turned-requires : tie.Need-copy-turned-requires
-copy-turned-requires c κs = search needs
-
-put-turned-requires-2 : tie.Need-put-turned-requires-2
-put-turned-requires-2 c κs = search needs
-
-same-length-2 : tie.Need-same-length-2
-same-length-2 c = search needs
-
-returns-2 : tie.Need-returns-2
-returns-2 c =
-    let w = c .before .before in
-    let k = w .before .before .before .before .before in
-    let r = k .before .before .before in
-    let a = r .before .before .before .args in
-    exchanged 81 (turned 3 (order4 0)) (a .a) (a .b) (a .fc4 .now) (r .read81 .ensures) refl refl refl (k .copy-turned .ensures) (w .put-turned2 .ensures)
+    let w2 = c .before .before in
+    let w1 = w2 .before .before .before .before .before in
+    let r2 = w1 .before .before .before in
+    let r1 = r2 .before .before in
+    let a = r1 .before .before .before .args in
+    exchanged 81 (permuted 3 (order4 0)) (a .a) (a .b) (a .fc4 .now) (r1 .read81 .ensures) (r2 .read812 .ensures) (w1 .before .permuted81 .ensures) (w2 .before .permuted812 .ensures) (w1 .write81 .ensures) (w2 .write812 .ensures)
 
 pub exchange-spec : {M : Type 1} → statement M
 exchange-spec =
     tie.close
     (tie.spec
     read81-requires
-    put-turned-requires
+    read81-requires-2
+    permuted81-requires
+    write81-requires
+    permuted81-requires-2
+    write81-requires-2
     same-length
-    returns
-    copy-turned-requires
-    put-turned-requires-2
-    same-length-2
-    returns-2)
+    returns)

@@ -1,62 +1,72 @@
-use native.Mathlib.Omega.{arith}
 use mathlib.Core.Path.{sym, ap, _∙_}
 use Rattle.tables.specs.Compact.{shiftTables}
 use Rattle.transposes.specs.HalfShift.{rep-read}
-use Rattle.transposes.specs.Fc4Loops.{plane4, pair-stays, pair-pos, pair-first, pair-second, pair-is-q}
+use Rattle.transposes.specs.Fc4Loops.{plane4, pair-stays, pair-pos, pair-first, pair-second, pair-found}
 use borrow.Author.Needs.{needs}
 use Rattle.transposes.proofs.fc4.pair.Statement.{statement}
 use Rattle.transposes.proofs.fc4.pair.Tie as tie
 
-div-first : tie.Need-div-first
-div-first c =
+legs-before-requires : tie.Need-legs-before-requires
+legs-before-requires c κs =
     let s = c .before in
-    omega (arith, pair-pos (shiftTables (s .args .p2s .now) (s .args .s2pp .now) (s .args .nsym-list .now) (s .args .perms .now) (s .args .n-satom) (s .args .n-patom) (s .args .num-trans)) (s .args .q) (s .pre .1))
+    pair-pos (shiftTables (s .args .p2s .now) (s .args .s2pp .now) (s .args .nsym-list .now) (s .args .perms .now) (s .args .n-satom) (s .args .n-patom) (s .args .num-trans)) (s .args .q) (s .pre .1)
 
-rem-second : tie.Need-rem-second
-rem-second c =
-    let s = c .before in
-    omega (arith, pair-pos (shiftTables (s .args .p2s .now) (s .args .s2pp .now) (s .args .nsym-list .now) (s .args .perms .now) (s .args .n-satom) (s .args .n-patom) (s .args .num-trans)) (s .args .q) (s .pre .1))
+last-leg-requires : tie.Need-last-leg-requires
+last-leg-requires c κs =
+    let s = c .before .before in
+    pair-pos (shiftTables (s .args .p2s .now) (s .args .s2pp .now) (s .args .nsym-list .now) (s .args .perms .now) (s .args .n-satom) (s .args .n-patom) (s .args .num-trans)) (s .args .q) (s .pre .1)
 
 stays-requires : tie.Need-stays-requires
 stays-requires c κs =
-    let s = c .before in
+    let s = c .before .before .before in
     let T = shiftTables (s .args .p2s .now) (s .args .s2pp .now) (s .args .nsym-list .now) (s .args .perms .now) (s .args .n-satom) (s .args .n-patom) (s .args .num-trans) in
-    (s .pre .0 .sound, (pair-first T (s .args .q) (s .pre .1), pair-second T (s .args .q) (s .pre .1)))
+    (s .pre .0 .sound, (rw (c .before .legs-before .ensures) (pair-first T (s .args .q) (s .pre .1)), rw (c .last-leg .ensures) (pair-second T (s .args .q) (s .pre .1))))
 
 returns : tie.Need-returns
 returns c =
-    let s = c .before .before .before in
+    let s = c .before .before .before .before .before in
     let T = shiftTables (s .args .p2s .now) (s .args .s2pp .now) (s .args .nsym-list .now) (s .args .perms .now) (s .args .n-satom) (s .args .n-patom) (s .args .num-trans) in
-    pair-stays T (s .pre .0 .sound .rules) _ _ (pair-first T (s .args .q) (s .pre .1)) (pair-second T (s .args .q) (s .pre .1)) (sym (c .before .stays .ensures) ∙ c .if1 .taken) (s .args .fc4 .now)
-    ∙ ap (λ q. plane4 T q (s .args .fc4 .now)) (pair-is-q T (s .args .q) (s .pre .1))
+    let p = c .before .before .before .legs-before .ensures in
+    let j = c .before .before .last-leg .ensures in
+    pair-stays T (s .pre .0 .sound .rules) _ _ (rw p (pair-first T (s .args .q) (s .pre .1))) (rw j (pair-second T (s .args .q) (s .pre .1))) (sym (c .before .stays .ensures) ∙ c .if1 .taken) (s .args .fc4 .now)
+    ∙ ap (λ q. plane4 T q (s .args .fc4 .now)) (pair-found T (s .args .q) (s .pre .1) p j)
 
 p2s-at-requires : tie.Need-p2s-at-requires
 p2s-at-requires c κs =
-    let s = c .before .before .before in
+    let s = c .before .before .before .before .before in
     let T = shiftTables (s .args .p2s .now) (s .args .s2pp .now) (s .args .nsym-list .now) (s .args .perms .now) (s .args .n-satom) (s .args .n-patom) (s .args .num-trans) in
-    rep-read T (s .pre .0 .sound) _ (pair-first T (s .args .q) (s .pre .1)) .0
+    let p = c .before .before .before .legs-before in
+    rep-read T (s .pre .0 .sound) (p .result) (rw (p .ensures) (pair-first T (s .args .q) (s .pre .1))) .0
 
 plane-requires : tie.Need-plane-requires
 plane-requires c κs =
-    let s = c .before .before .before .before .before in
+    let t = c .before .before .before in
+    let s = t .before .before .before .before in
     let T = shiftTables (s .args .p2s .now) (s .args .s2pp .now) (s .args .nsym-list .now) (s .args .perms .now) (s .args .n-satom) (s .args .n-patom) (s .args .num-trans) in
-    record { trading = s .pre .0; first = pair-first T (s .args .q) (s .pre .1); second = pair-second T (s .args .q) (s .pre .1); rep = c .before .p2s-at .ensures; moves = sym (c .before .before .before .stays .ensures) ∙ c .before .before .if1 .left }
+    record {
+      trading = s .pre .0;
+      first = rw (t .before .before .legs-before .ensures) (pair-first T (s .args .q) (s .pre .1));
+      second = rw (t .before .last-leg .ensures) (pair-second T (s .args .q) (s .pre .1));
+      rep = c .before .p2s-at .ensures;
+      moves = sym (t .stays .ensures) ∙ c .before .before .if1 .left;
+    }
 
 same-length : tie.Need-same-length
 same-length c = search needs
 
 returns-2 : tie.Need-returns-2
 returns-2 c =
-    let s = c .before .before .before .before .before .before .before .before in
+    let s = c .before .before .before .before .before .before .before .before .before .before in
     let T = shiftTables (s .args .p2s .now) (s .args .s2pp .now) (s .args .nsym-list .now) (s .args .perms .now) (s .args .n-satom) (s .args .n-patom) (s .args .num-trans) in
-    c .before .before .plane .ensures ∙ ap (λ q. plane4 T q (s .args .fc4 .now)) (pair-is-q T (s .args .q) (s .pre .1))
+    c .before .before .plane .ensures
+    ∙ ap (λ q. plane4 T q (s .args .fc4 .now)) (pair-found T (s .args .q) (s .pre .1) (c .before .before .before .before .before .before .before .before .legs-before .ensures) (c .before .before .before .before .before .before .before .last-leg .ensures))
 
 pub pair-spec : {M : Type 1} → statement M
 pair-spec =
     tie.close
     (tie.spec
-    div-first
-    rem-second
+    legs-before-requires
+    last-leg-requires
     stays-requires
     returns
     p2s-at-requires

@@ -1,0 +1,92 @@
+// C names over the crates common, tables and cells. A slice is passed as a pointer and its length; include/gullyfork.h says the rest.
+ghost use mathlib.Core.Path.{_≡_};
+ghost use lib.Ieee.{binary64};
+ghost use Rattle.common.specs.Root.{sqrt};
+ghost use Rattle.common.specs.Whole.{nearestWhole, nint};
+ghost use mathlib.Core.List.{[]};
+ghost use Rattle.tables.specs.Answers.{numberOf};
+ghost use Rattle.tables.specs.Limits.{limit2};
+ghost use Rattle.tables.specs.Compact.{shiftTables, judgedTables};
+ghost use lib.ListN.{length};
+ghost use Rattle.capi_cells.specs.Cells.{permutation};
+use cells::Cell;
+use tables::limits::LIMIT2;
+
+// The nearest whole number as an integer.
+#[no_mangle]
+pub extern "C" fn gf_nint(x: f64) -> i64
+    ensures { λ r. ⌜ r ≡ nint x ⌝ }
+{
+    common::nint(x)
+}
+
+// x to the nearest whole number, halves away from zero.
+#[no_mangle]
+pub extern "C" fn gf_round(x: f64) -> f64
+    ensures { λ r. ⌜ r ≡ nearestWhole x ⌝ }
+{
+    common::round(x)
+}
+
+// The square root of x, to the nearest, ties to even.
+#[no_mangle]
+pub extern "C" fn gf_sqrt(x: f64) -> f64
+    ensures { λ r. ⌜ r ≡ sqrt binary64 x ⌝ }
+{
+    common::sqrt(x)
+}
+
+// Whether shift tables keep every rule of "Shift tables": document 01's number of the refusal, 0 if they do.
+#[no_mangle]
+pub extern "C" fn gf_check_shift_tables(
+    p2s: &[i64],
+    s2pp: &[i64],
+    nsym_list: &[i64],
+    perms: &[i64],
+    n_satom: usize,
+    n_patom: usize,
+    num_trans: usize,
+) -> u8
+    ensures { λ r. ⌜ r ≡ numberOf (judgedTables limit2 [] (shiftTables (now (p2s .entry)) (now (s2pp .entry)) (now («nsym_list» .entry)) (now (perms .entry)) «n_satom» «n_patom» «num_trans»)) ⌝ }
+{
+    let a = shifts::check_shift_tables(p2s, s2pp, nsym_list, perms, n_satom, n_patom, num_trans);
+    tables::number(a)
+}
+
+// The nine lattice numbers.
+fn nine(lattice: &[f64]) -> [f64; 9]
+    requires { ⌜ length (now lattice) ≡ 9 ⌝ }
+    ensures { λ r. ⌜ r ≡ now (lattice .entry) ⌝ }
+{
+    let mut l = [0.0f64; 9];
+    lists::copy_all(&mut l, lattice);
+    l
+}
+
+// Which position each rotated position comes from: slot j of rot_atom gets the number of the position that is near rot_pos j, or -1.
+// 0 if all slots are filled, 64 if not, or document 01's number of the refusal.
+#[no_mangle]
+pub extern "C" fn gf_compute_permutation(
+    rot_atom: &mut [i64],
+    lattice: &[f64],
+    symprec: f64,
+    pos: &[f64],
+    rot_pos: &[f64],
+    num_pos: usize,
+) -> u8
+    ensures { λ r. ⌜ (r, now («rot_atom» .exit)) ≡ permutation (now («rot_atom» .entry)) (now (lattice .entry)) symprec (now (pos .entry)) (now («rot_pos» .entry)) «num_pos» ⌝ }
+{
+    if lattice.len() == 9 {
+        let l = nine(lattice);
+        let cell = Cell {
+            lattice: l,
+            symprec: symprec,
+        };
+        let m = cells::compute_permutation(rot_atom, cell, pos, rot_pos, num_pos);
+        return cells::matching_number(m);
+    }
+    if num_pos > LIMIT2 {
+        return 1;
+    }
+    2
+}

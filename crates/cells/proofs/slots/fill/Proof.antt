@@ -1,0 +1,36 @@
+-- `cells::slots::fill` meets its contract. Assumes nothing.
+use mathlib.Core.Path.{refl, sym, ap, _∙_}
+use native.Mathlib.Omega.{arith}
+use lib.IntN.{negsuc}
+use lib.ListN.{length, length-replicate}
+use Rattle.cells.specs.Near.{near}
+use Rattle.cells.specs.Outcome.{cleared-placed}
+use borrow.Author.Needs.{needs}
+use Rattle.cells.proofs.slots.fill.Statement.{statement}
+use Rattle.cells.proofs.slots.fill.Tie as tie
+
+clear-requires : tie.Need-clear-requires
+clear-requires c κs = search needs
+
+place-all-requires : tie.Need-place-all-requires
+place-all-requires c κs =
+    let s = c .before .before .before .before .before .before in
+    let l = ap length (c .before .before .clear .ensures) ∙ length-replicate (length (s .args .rot-atom .now)) (negsuc 0) in
+    record { pos-len = omega (arith, l, s .pre .pos-len); rot-len = omega (arith, l, s .pre .rot-len) }
+
+all-filled-requires : tie.Need-all-filled-requires
+all-filled-requires c κs = search needs
+
+same-length : tie.Need-same-length
+same-length c = search needs
+
+returns : tie.Need-returns
+returns c =
+    let p = c .before .before .before in
+    let z = p .before .before .before in
+    let a = z .before .before .before .before .args in
+    (cleared-placed (near (a .cell) (a .pos .now) (a .rot-pos .now)) (length (a .rot-atom .now)) _ _ (z .clear .ensures) (p .place-all .ensures), c .all-filled .ensures)
+
+pub fill-spec : {M : Type 1} → statement M
+fill-spec =
+    tie.close (tie.spec clear-requires place-all-requires all-filled-requires same-length returns)

@@ -1,0 +1,48 @@
+use mathlib.Core.Path.{ap, ap₂, _∙_}
+use Rattle.blocks.specs.Block.{putBlock}
+use Rattle.lines.specs.Nine.{added}
+use Rattle.rotations.specs.Rotation.{rotated}
+use Rattle.distribute_fc2.specs.Fc2.{addBlock}
+use borrow.Author.Needs.{needs}
+use Rattle.distribute_fc2.proofs.add_block.Statement.{statement}
+use Rattle.distribute_fc2.proofs.add_block.Tie as tie
+
+read9-requires : tie.Need-read9-requires
+read9-requires c κs = search needs
+
+rotated9-requires : tie.Need-rotated9-requires
+rotated9-requires c κs = search needs
+
+read9-requires-2 : tie.Need-read9-requires-2
+read9-requires-2 c κs = search needs
+
+added-requires : tie.Need-added-requires
+added-requires c κs = search needs
+
+write9-requires : tie.Need-write9-requires
+write9-requires c κs = search needs
+
+same-length : tie.Need-same-length
+same-length c = search needs
+
+returns : tie.Need-returns
+unfolding addBlock
+returns c =
+    let a = c .before .before .before .before .before .before .before .before .before .before .before .args in
+    λ m e. c .before .before .write9 .ensures
+    ∙ ap (λ v. putBlock 9 (a .target) v (a .fc2 .now))
+    (c .before .before .before .added .ensures
+    ∙ ap₂ added (c .before .before .before .before .before .read92 .ensures)
+    (c .before .before .before .before .before .before .before .rotated9 .ensures m e ∙ ap (rotated m 2) (c .before .before .before .before .before .before .before .before .read9 .ensures)))
+
+pub add-block-spec : {M : Type 1} → statement M
+add-block-spec =
+    tie.close
+    (tie.spec
+    read9-requires
+    rotated9-requires
+    read9-requires-2
+    added-requires
+    write9-requires
+    same-length
+    returns)

@@ -1,0 +1,2 @@
+pub mod Fc2
+pub mod Fc2Laws

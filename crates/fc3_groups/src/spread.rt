@@ -1,0 +1,292 @@
+// The means of a group written back to its six blocks.
+ghost use mathlib.Core.Path.{_≡_};
+ghost use mathlib.Core.Bool.{true};
+ghost use mathlib.Core.List.{[], _∷_};
+ghost use Prim.Native.Nat.{_+_, _*_, _<_, _≤_};
+ghost use lib.ListN.{length, set};
+ghost use Rattle.blocks.specs.Block.{block, putBlock};
+ghost use Rattle.places.specs.Permutations.{six};
+ghost use Rattle.orbits.specs.Groups.{spots, meanBlock, spreadBlock, Apart, Distinct};
+ghost use Rattle.orbits.specs.Spread.{setAll};
+ghost use Rattle.fc3_groups.specs.Mean.{mean6, Blocks6};
+ghost use Rattle.fc3_groups.specs.Spread.{putSix, lineAt, planeAt};
+ghost use Rattle.fc3_groups.specs.Coinciding.{firstAt, copySix};
+use crate::mean::group_means;
+use blocks::permute;
+use places::dir3;
+use places::with_leg;
+
+// x written at directions l, m, n of block s of the group's local.
+fn put(group: &mut [f64], s: usize, l: usize, m: usize, n: usize, x: f64)
+    requires { ⌜ (s * 27 + 27 ≤ length (now group)) × (length (now group) ≤ 162) × (l < 3) × (m < 3) × (n < 3) ⌝ }
+    ensures { λ _. ⌜ now (group .exit) ≡ set (now (group .entry)) (s * 27 + ((l * 3 + m) * 3 + n)) x ⌝ }
+{
+    let at = with_leg(s, 27, dir3(l, m, n));
+    group[at] = x;
+}
+
+// The mean x of directions l, m, n written to its six places.
+fn put_spots(
+    group: &mut [f64],
+    s0: usize,
+    s1: usize,
+    s2: usize,
+    s3: usize,
+    s4: usize,
+    s5: usize,
+    l: usize,
+    m: usize,
+    n: usize,
+    x: f64,
+)
+    requires { ⌜ Blocks6 (length (now group)) s0 s1 s2 s3 s4 s5 × (length (now group) ≤ 162) × (l < 3) × (m < 3) × (n < 3) ⌝ }
+    ensures { λ _. ⌜ now (group .exit) ≡ setAll (spots 2 six (s0 ∷ s1 ∷ s2 ∷ s3 ∷ s4 ∷ s5 ∷ []) ((l * 3 + m) * 3 + n)) x (now (group .entry)) ⌝ }
+{
+    put(group, s0, l, m, n, x);
+    put(group, s1, l, n, m, x);
+    put(group, s2, m, l, n, x);
+    put(group, s3, m, n, l, x);
+    put(group, s4, n, l, m, x);
+    put(group, s5, n, m, l, x);
+}
+
+// The positions of directions l, m.
+fn put_line(
+    group: &mut [f64],
+    s0: usize,
+    s1: usize,
+    s2: usize,
+    s3: usize,
+    s4: usize,
+    s5: usize,
+    l: usize,
+    m: usize,
+    v: [f64; 27],
+)
+    requires { ⌜ Blocks6 (length (now group)) s0 s1 s2 s3 s4 s5 × (length (now group) ≤ 162) × (l < 3) × (m < 3) ⌝ }
+    ensures { λ _. ⌜ now (group .exit) ≡ lineAt (s0 ∷ s1 ∷ s2 ∷ s3 ∷ s4 ∷ s5 ∷ []) v l m (now (group .entry)) ⌝ }
+{
+    let mut n = 0;
+    while n < 3 {
+        let k = dir3(l, m, n);
+        put_spots(group, s0, s1, s2, s3, s4, s5, l, m, n, v[k]);
+        n += 1;
+    }
+}
+
+// The positions of direction l.
+fn put_plane(
+    group: &mut [f64],
+    s0: usize,
+    s1: usize,
+    s2: usize,
+    s3: usize,
+    s4: usize,
+    s5: usize,
+    l: usize,
+    v: [f64; 27],
+)
+    requires { ⌜ Blocks6 (length (now group)) s0 s1 s2 s3 s4 s5 × (length (now group) ≤ 162) × (l < 3) ⌝ }
+    ensures { λ _. ⌜ now (group .exit) ≡ planeAt (s0 ∷ s1 ∷ s2 ∷ s3 ∷ s4 ∷ s5 ∷ []) v l (now (group .entry)) ⌝ }
+{
+    let mut m = 0;
+    while m < 3 {
+        put_line(group, s0, s1, s2, s3, s4, s5, l, m, v);
+        m += 1;
+    }
+}
+
+// Position after position: where two of the blocks are the same one, the last position that writes a place holds.
+fn put_planes(
+    group: &mut [f64],
+    s0: usize,
+    s1: usize,
+    s2: usize,
+    s3: usize,
+    s4: usize,
+    s5: usize,
+    v: [f64; 27],
+)
+    requires { ⌜ Blocks6 (length (now group)) s0 s1 s2 s3 s4 s5 × (length (now group) ≤ 162) ⌝ }
+    ensures { λ _. ⌜ now (group .exit) ≡ spreadBlock 2 six (s0 ∷ s1 ∷ s2 ∷ s3 ∷ s4 ∷ s5 ∷ []) v (now (group .entry)) ⌝ }
+{
+    let mut l = 0;
+    while l < 3 {
+        put_plane(group, s0, s1, s2, s3, s4, s5, l, v);
+        l += 1;
+    }
+}
+
+// Where block b stands in the group's local: at the first of the group's blocks that is the same one.
+fn slot(b: usize, b0: usize, b1: usize, b2: usize, b3: usize, b4: usize) -> usize
+    ensures { λ r. ⌜ (r ≡ firstAt (b0 ∷ b1 ∷ b2 ∷ b3 ∷ b4 ∷ []) b) × (r < 6) ⌝ }
+{
+    if b0 == b {
+        return 0;
+    }
+    if b1 == b {
+        return 1;
+    }
+    if b2 == b {
+        return 2;
+    }
+    if b3 == b {
+        return 3;
+    }
+    if b4 == b {
+        return 4;
+    }
+    5
+}
+
+// Block s of the group's local becomes block b of the set.
+fn copy_block(fc3: &mut [f64], b: usize, group: &[f64], s: usize)
+    requires { ⌜ (b * 27 + 27 ≤ length (now fc3)) × (s * 27 + 27 ≤ length (now group)) ⌝ }
+    ensures { λ _. ⌜ now (fc3 .exit) ≡ putBlock 27 b (block 27 s (now (group .entry))) (now (fc3 .entry)) ⌝ }
+{
+    let v = blocks::read27(group, s);
+    blocks::write27(fc3, b, v);
+}
+
+// The group's six blocks written whole.
+fn copy_blocks(
+    fc3: &mut [f64],
+    b0: usize,
+    b1: usize,
+    b2: usize,
+    b3: usize,
+    b4: usize,
+    b5: usize,
+    group: &[f64],
+    s0: usize,
+    s1: usize,
+    s2: usize,
+    s3: usize,
+    s4: usize,
+    s5: usize,
+)
+    requires { ⌜ Blocks6 (length (now fc3)) b0 b1 b2 b3 b4 b5 × Blocks6 (length (now group)) s0 s1 s2 s3 s4 s5 ⌝ }
+    ensures { λ _. ⌜ now (fc3 .exit) ≡ copySix b0 b1 b2 b3 b4 b5 s0 s1 s2 s3 s4 s5 (now (group .entry)) (now (fc3 .entry)) ⌝ }
+{
+    copy_block(fc3, b0, group, s0);
+    copy_block(fc3, b1, group, s1);
+    copy_block(fc3, b2, group, s2);
+    copy_block(fc3, b3, group, s3);
+    copy_block(fc3, b4, group, s4);
+    copy_block(fc3, b5, group, s5);
+}
+
+// Blocks of which some may be the same one: the group's six blocks are filled in a local and written whole.
+fn put_positions(
+    fc3: &mut [f64],
+    b0: usize,
+    b1: usize,
+    b2: usize,
+    b3: usize,
+    b4: usize,
+    b5: usize,
+    v: [f64; 27],
+)
+    requires { ⌜ Blocks6 (length (now fc3)) b0 b1 b2 b3 b4 b5 ⌝ }
+    ensures { λ _. ⌜ now (fc3 .exit) ≡ spreadBlock 2 six (b0 ∷ b1 ∷ b2 ∷ b3 ∷ b4 ∷ b5 ∷ []) v (now (fc3 .entry)) ⌝ }
+{
+    let s0 = slot(b0, b0, b1, b2, b3, b4);
+    let s1 = slot(b1, b0, b1, b2, b3, b4);
+    let s2 = slot(b2, b0, b1, b2, b3, b4);
+    let s3 = slot(b3, b0, b1, b2, b3, b4);
+    let s4 = slot(b4, b0, b1, b2, b3, b4);
+    let s5 = slot(b5, b0, b1, b2, b3, b4);
+    let mut group = [0.0f64; 162];
+    put_planes(&mut group, s0, s1, s2, s3, s4, s5, v);
+    copy_blocks(fc3, b0, b1, b2, b3, b4, b5, &group, s0, s1, s2, s3, s4, s5);
+}
+
+// Six whole blocks, each with the means permuted to its own directions.
+fn put_blocks(
+    fc3: &mut [f64],
+    b0: usize,
+    b1: usize,
+    b2: usize,
+    b3: usize,
+    b4: usize,
+    b5: usize,
+    v: [f64; 27],
+)
+    requires { ⌜ Blocks6 (length (now fc3)) b0 b1 b2 b3 b4 b5 ⌝ }
+    ensures { λ _. ⌜ now (fc3 .exit) ≡ putSix b0 b1 b2 b3 b4 b5 v (now (fc3 .entry)) ⌝ }
+{
+    blocks::write27(fc3, b0, v);
+    blocks::write27(fc3, b1, permute::permute_lnm(v));
+    blocks::write27(fc3, b2, permute::permute_mln(v));
+    blocks::write27(fc3, b3, permute::permute_nlm(v));
+    blocks::write27(fc3, b4, permute::permute_mnl(v));
+    blocks::write27(fc3, b5, permute::permute_nml(v));
+}
+
+// Whether a differs from each of five numbers.
+fn apart(a: usize, b: usize, c: usize, d: usize, e: usize, f: usize) -> bool
+    ensures { λ r. ⌜ (r ≡ true → Apart a (b ∷ c ∷ d ∷ e ∷ f ∷ [])) ⌝ }
+{
+    if a == b {
+        return false;
+    }
+    if a == c {
+        return false;
+    }
+    if a == d {
+        return false;
+    }
+    if a == e {
+        return false;
+    }
+    a != f
+}
+
+// Whether six blocks are all different. Where fewer are left to compare, one is given more than once.
+fn distinct(b0: usize, b1: usize, b2: usize, b3: usize, b4: usize, b5: usize) -> bool
+    ensures { λ r. ⌜ (r ≡ true → Distinct (b0 ∷ b1 ∷ b2 ∷ b3 ∷ b4 ∷ b5 ∷ [])) ⌝ }
+{
+    if apart(b0, b1, b2, b3, b4, b5) {
+        if apart(b1, b2, b3, b4, b5, b5) {
+            if apart(b2, b3, b4, b5, b5, b5) {
+                if apart(b3, b4, b5, b5, b5, b5) {
+                    return b4 != b5;
+                }
+            }
+        }
+    }
+    false
+}
+
+// A group worked out and written: all six places of each mean are read, and the mean is written to all six.
+// Blocks that are known to differ are written whole.
+pub fn work_known(
+    fc3: &mut [f64],
+    b0: usize,
+    b1: usize,
+    b2: usize,
+    b3: usize,
+    b4: usize,
+    b5: usize,
+    differ: bool,
+)
+    requires { ⌜ Blocks6 (length (now fc3)) b0 b1 b2 b3 b4 b5 ⌝ }
+    requires { ⌜ (differ ≡ true → Distinct (b0 ∷ b1 ∷ b2 ∷ b3 ∷ b4 ∷ b5 ∷ [])) ⌝ }
+    ensures { λ _. ⌜ now (fc3 .exit) ≡ spreadBlock 2 six (b0 ∷ b1 ∷ b2 ∷ b3 ∷ b4 ∷ b5 ∷ []) (meanBlock mean6 2 six (b0 ∷ b1 ∷ b2 ∷ b3 ∷ b4 ∷ b5 ∷ []) (now (fc3 .entry))) (now (fc3 .entry)) ⌝ }
+{
+    let mean = group_means(fc3, b0, b1, b2, b3, b4, b5);
+    if differ {
+        put_blocks(fc3, b0, b1, b2, b3, b4, b5, mean);
+    } else {
+        put_positions(fc3, b0, b1, b2, b3, b4, b5, mean);
+    }
+}
+
+// The same where it is yet to be seen whether the blocks differ.
+pub fn work_group(fc3: &mut [f64], b0: usize, b1: usize, b2: usize, b3: usize, b4: usize, b5: usize)
+    requires { ⌜ Blocks6 (length (now fc3)) b0 b1 b2 b3 b4 b5 ⌝ }
+    ensures { λ _. ⌜ now (fc3 .exit) ≡ spreadBlock 2 six (b0 ∷ b1 ∷ b2 ∷ b3 ∷ b4 ∷ b5 ∷ []) (meanBlock mean6 2 six (b0 ∷ b1 ∷ b2 ∷ b3 ∷ b4 ∷ b5 ∷ []) (now (fc3 .entry))) (now (fc3 .entry)) ⌝ }
+{
+    let differ = distinct(b0, b1, b2, b3, b4, b5);
+    work_known(fc3, b0, b1, b2, b3, b4, b5, differ);
+}

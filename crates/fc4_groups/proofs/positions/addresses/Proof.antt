@@ -1,0 +1,17 @@
+-- The constant is the list of its rule, by computation over the whole of it. Assumes nothing.
+use mathlib.Core.Path.{refl}
+use Rattle.lists.specs.Tab.{tab, tabFrom}
+use Rattle.lists.specs.Elements.{pick}
+use Rattle.lists.specs.Digits.{horner, rest, digits}
+use Rattle.places.specs.Permutations.{twentyFour}
+use Rattle.blocks.specs.Permuted.{permuted}
+use Rattle.fc4_groups.specs.Positions.{permutationAt, entryOf, addressTable}
+use Rattle.fc4_groups.proofs.positions.addresses.Statement.{statement}
+use Rattle.fc4_groups.proofs.positions.addresses.Tie as tie
+
+returns : tie.Need-returns
+unfolding addressTable entryOf permutationAt permuted horner pick rest digits twentyFour tab tabFrom
+returns c = refl
+
+pub addresses-spec : {M : Type 1} → statement M
+addresses-spec = tie.close (tie.spec returns)

@@ -1,0 +1,4 @@
+pub mod Mean24
+pub mod Positions
+pub mod Mean
+pub mod Spread

@@ -1,0 +1,50 @@
+-- The table of positions over the 24 permutations of four legs and the 81 positions of a block, and its rule. Assumes nothing.
+use mathlib.Core.Path.{_≡_, refl, sym, ap, ap₂, _∙_}
+use Prim.Native.Nat.{ℕ, zero, suc, _+_, _*_, _/_, _%_, _≤_, _<_}
+use native.Mathlib.Omega.{arith}
+use mathlib.Core.List.{List, [], _∷_}
+use lib.ListN.{length, getD}
+use Rattle.lists.specs.Tab.{tab, tabFrom, getD-tab}
+use Rattle.lists.specs.Elements.{pick, all-at}
+use Rattle.lists.specs.Digits.{horner, room, rest, digits, quotient, remainder}
+use Rattle.lists.specs.Members.{in-all}
+use Rattle.places.specs.Permutations.{Permutation, Group, twentyFour, twentyFour-group}
+use Rattle.orbits.specs.Blockwise.{inBlock}
+use Rattle.orbits.specs.Transposed.{permuted-is-below}
+use Rattle.blocks.specs.Permuted.{permuted}
+
+-- permutation s of the 24
+unfoldable pub permutationAt : ℕ → List ℕ
+unfolding twentyFour
+permutationAt s = getD twentyFour s []
+
+-- the position of the directions of position k in permutation s, at entry s * 81 + k
+unfoldable pub entryOf : ℕ → ℕ
+unfolding permutationAt permuted
+entryOf i = permuted 3 (permutationAt (i / 81)) (i % 81)
+
+unfoldable pub addressTable : List ℕ
+unfolding entryOf
+addressTable = tab 1944 entryOf
+
+pub in81 : inBlock 3 ≡ 81
+unfolding inBlock room
+in81 = refl
+
+pub is-permutation : (s : ℕ) → s < 24 → Permutation 3 (permutationAt s)
+unfolding permutationAt
+is-permutation s h = all-at (Permutation 3) twentyFour s [] (in-all (Permutation 3) twentyFour (twentyFour-group .each)) (rw count h)
+  where
+    count : length twentyFour ≡ 24
+    count = unfold twentyFour in refl
+
+-- the rule at each entry
+module _ (t : List ℕ) (e : t ≡ addressTable) (s k : ℕ) (hs : s < 24) (hk : k < 81) where
+  pub at-entry : getD t (s * 81 + k) 0 ≡ permuted 3 (permutationAt s) k
+  unfolding addressTable entryOf
+  at-entry =
+      ap (λ t. getD t (s * 81 + k) 0) e ∙ getD-tab 1944 entryOf (s * 81 + k) 0 (omega arith)
+      ∙ ap₂ (λ s k. permuted 3 (permutationAt s) k) (quotient 81 s k hk) (remainder 81 s k hk)
+
+  pub below-entry : getD t (s * 81 + k) 0 < 81
+  below-entry = rw at-entry (rw in81 at (permuted-is-below 3 (permutationAt s) k (is-permutation s hs) (rw in81 hk)))

@@ -1,0 +1,88 @@
+-- The mean of document 01, said by the read-out alone: `IsMean`, and the theorem `symmetrized-is-mean`. "A group is worked out from its first
+-- member in loop order. Where .. several direction triples (quadruples) write the same places, the last in loop order holds." Assumes nothing.
+use mathlib.Core.Path.{_≡_, refl, sym, ap, ap₂, _∙_}
+use Prim.Native.Nat.{ℕ, zero, suc, _/_, _≤_, _<_}
+use mathlib.Core.List.{List, [], _∷_, map}
+use lib.ListN.{length, getD}
+use Rattle.lists.specs.Members.{In, in-map, map-in}
+use Rattle.lists.specs.Elements.{straight}
+use Rattle.tables.specs.Shifts.{Shifts, Laws}
+use Rattle.places.specs.Places.{Leg, Legs, stored, opened, address, place, at, readOut, readOut-fill, place-address, stored-place}
+use Rattle.places.specs.Permutations.{taken, Permutation, taken-legs, Group}
+use Rattle.orbits.specs.Blockwise.{inBlock}
+use Rattle.orbits.specs.Symmetric.{images, leader, leader-in, leader-first, leader-last, meanAt, symmetrized, images-stored}
+
+-- the address at which the number for the legs stands, and the block in which it lies; blocks and addresses rise in loop order
+abbrev pub standsAt : Shifts → List Leg → ℕ
+standsAt S xs = address S (stored S xs)
+
+abbrev pub blockOf : Shifts → ℕ → List Leg → ℕ
+blockOf S m xs = standsAt S xs / inBlock m
+
+-- Of a set that was old and is new, over the tables S, with m + 1 legs and their permutations os: what it reads out at the legs xs is the mean.
+-- τ is the permutation that the mean is worked out from.
+pub record IsMean {A : Type 0} (z : A) (mean : List A → A) (S : Shifts) (m : ℕ) (os : List (List ℕ)) (old new : List A) (xs : List Leg) : Type 0 where
+  pub τ : List ℕ
+  pub isOne : In τ os
+  -- no permutation of the legs has its number in an earlier block
+  pub firstMember : (σ : List ℕ) → In σ os → blockOf S m (taken τ xs) ≤ blockOf S m (taken σ xs)
+  -- and of those in that block none has it later
+  pub lastWriter : (σ : List ℕ) → In σ os → blockOf S m (taken σ xs) ≡ blockOf S m (taken τ xs) → standsAt S (taken σ xs) ≤ standsAt S (taken τ xs)
+  -- the value is the mean of what the old set read out at all permutations of the legs so permuted
+  pub value : readOut z S new xs ≡ mean (map (λ σ. readOut z S old (taken σ (taken τ xs))) os)
+
+-- ---- the theorem
+
+fuse : {A B C : Type 0} (f : B → C) (g : A → B) (l : List A) → map f (map g l) ≡ map (λ x. f (g x)) l
+fuse f g [] = refl
+fuse f g (x ∷ xs) = ap (λ l. f (g x) ∷ l) (fuse f g xs)
+
+module _ {A : Type 0} (z : A) (mean : List A → A) (S : Shifts) (L : Laws S) (m : ℕ) (os : List (List ℕ)) (G : Group m os) (old : List A) (xs : List Leg) (p : Legs S m xs) where
+  abbrev qs : List ℕ
+  qs = images S os xs
+
+  abbrev q : ℕ
+  q = leader (inBlock m) qs
+
+  member : (σ : List ℕ) → In σ os → In (standsAt S (taken σ xs)) qs
+  member σ s = unfold images in in-map (λ σ. address S (stored S (taken σ xs))) os σ s
+
+  start : In (standsAt S (taken (straight (suc m)) xs)) qs
+  start = member (straight (suc m)) (G .plain)
+
+  found : (τ : List ℕ) × In τ os × (q ≡ standsAt S (taken τ xs))
+  found =
+      let i = leader-in (inBlock m) qs (standsAt S (taken (straight (suc m)) xs)) start in
+      unfold images in map-in (λ σ. address S (stored S (taken σ xs))) os q i
+
+  at-mean : (ys : List Leg) → images S os (opened S (place S m (standsAt S ys))) ≡ images S os ys
+      → meanAt z mean S m os old (standsAt S ys) ≡ mean (map (λ r. getD old r z) (images S os ys))
+  unfolding meanAt
+  at-mean ys w = ap (λ l. mean (map (λ r. getD old r z) l)) w
+
+  worth : (τ : List ℕ) → In τ os → q ≡ standsAt S (taken τ xs)
+      → readOut z S (symmetrized z mean S m os old) xs ≡ mean (map (λ σ. readOut z S old (taken σ (taken τ xs))) os)
+  worth τ t e =
+      let ys = taken τ xs in
+      let hy = taken-legs S m τ xs (G .each τ t) p in
+      let v : readOut z S (symmetrized z mean S m os old) xs ≡ meanAt z mean S m os old q =
+      unfold symmetrized in
+      (readOut-fill S L z m (λ ys. meanAt z mean S m os old (leader (inBlock m) (images S os (opened S ys)))) xs p
+      ∙ ap (λ l. meanAt z mean S m os old (leader (inBlock m) l)) (images-stored S L m os G xs p)) in
+      let w : images S os (opened S (place S m (standsAt S ys))) ≡ images S os ys =
+      ap (λ y. images S os (opened S y)) (place-address S m (stored S ys) (stored-place S L m ys hy)) ∙ images-stored S L m os G ys hy in
+      let r = at-mean ys w in
+      let s : map (λ r. getD old r z) (images S os ys) ≡ map (λ σ. readOut z S old (taken σ ys)) os =
+      unfold images readOut at in fuse (λ r. getD old r z) (λ σ. address S (stored S (taken σ ys))) os in
+      v ∙ ap (meanAt z mean S m os old) e ∙ r ∙ ap mean s
+
+  pub symmetrized-is-mean : IsMean z mean S m os old (symmetrized z mean S m os old) xs
+  symmetrized-is-mean =
+      let (τ, t, e) = found in
+      record {
+        τ = τ;
+        isOne = t;
+        firstMember = λ σ s. rw (← e) (leader-first (inBlock m) qs (standsAt S (taken (straight (suc m)) xs)) start (standsAt S (taken σ xs)) (member σ s));
+        lastWriter = λ σ s f. rw (← e) (leader-last (inBlock m) qs (standsAt S (taken (straight (suc m)) xs)) start (standsAt S (taken σ xs)) (member σ s) (f ∙ ap (λ a. a / inBlock m) (sym e)));
+        value = worth τ t e;
+      }

@@ -1,0 +1,138 @@
+// Replays what the Rust answered for compact sets of second order, through the C names. Its input are pages of records,
+// which oracle/ makes; oracle/README.md says what the words of a record are. The numbers of sets and work slices are made
+// from the record's seed. It writes how many calls were compared, how many differ in the answer or in what a slice holds
+// afterwards, how many there are of each answer, and a checksum of the inputs and of all that was worked out from them.
+use capi_fc2::gf_perm_trans_symmetrize_compact_fc;
+use capi_fc2::gf_set_index_permutation_symmetry_compact_fc;
+use records::steps::count_of;
+use records::steps::ends;
+use records::steps::first;
+use records::steps::plus;
+use records::steps::size;
+use records::values;
+use records::wide;
+use replays::Tally;
+
+// What came of a call: its answer, the checksums of the set and of the work slice, and 0.
+type Outcome = [u64; 4];
+
+// The seed of the set is that of the record; that of the work slice is the next one.
+fn seed(r: &[u8], k: u64) -> u64 {
+    plus(records::word_of(r, 6), k)
+}
+
+// perm_trans_symmetrize_compact_fc, or set_index_permutation_symmetry_compact_fc.
+fn call_compact(
+    r: &[u8],
+    set: &mut [f64],
+    done: &mut [u8],
+    p2s: &[i64],
+    s2pp: &[i64],
+    nsym_list: &[i64],
+    perms: &[i64],
+) -> u64 {
+    let n_satom = count_of(r, 10);
+    let n_patom = count_of(r, 11);
+    let num_trans = count_of(r, 12);
+    let level = count_of(r, 13);
+    if count_of(r, 1) == 2 {
+        return wide(gf_perm_trans_symmetrize_compact_fc(
+            set,
+            p2s,
+            s2pp,
+            nsym_list,
+            perms,
+            done,
+            n_satom,
+            n_patom,
+            num_trans,
+            level,
+        ));
+    }
+    wide(gf_set_index_permutation_symmetry_compact_fc(
+        set,
+        p2s,
+        s2pp,
+        nsym_list,
+        perms,
+        done,
+        n_satom,
+        n_patom,
+        num_trans,
+        level == 1,
+    ))
+}
+
+// Takes the tables apart, which are one after another: perms, p2s, s2pp, nsym_list.
+fn compact(r: &[u8], set: &mut [f64], done: &mut [u8], all: &[i64]) -> u64 {
+    let a = ends(0, count_of(r, 14), all.len());
+    let b = ends(a, count_of(r, 15), all.len());
+    let c = ends(b, count_of(r, 16), all.len());
+    let d = ends(c, count_of(r, 17), all.len());
+    call_compact(r, set, done, &all[a..b], &all[b..c], &all[c..d], &all[0..a])
+}
+
+fn compact_work(r: &[u8], set: &mut [f64], done: &mut [u8], all: &[i64]) -> Outcome {
+    values::fill_bytes(done, seed(r, 1));
+    let a = compact(r, set, done, all);
+    [a, values::mix_floats(set, 0), values::mix_bytes(done, 0), 0]
+}
+
+fn with_work(r: &[u8], set: &mut [f64], all: &[i64]) -> Outcome {
+    let mut done = [0u8; 256];
+    let n = size(records::word_of(r, 9), 256);
+    compact_work(r, set, &mut done[0..n], all)
+}
+
+fn with_set(r: &[u8], set: &mut [f64]) -> Outcome {
+    let mut all = [0i64; 2560];
+    values::integers(r, 20, &mut all);
+    values::fill(set, seed(r, 0), records::word_of(r, 7));
+    with_work(r, set, &all)
+}
+
+fn came_of(r: &[u8]) -> Outcome {
+    let mut set = [0.0f64; 2048];
+    let n = size(records::word_of(r, 8), 2048);
+    with_set(r, &mut set[0..n])
+}
+
+// The record r.
+fn step(t: Tally, r: &[u8]) -> Tally {
+    let o = came_of(r);
+    let got = [records::word_of(r, 1), o[0], o[1], o[2], o[3]];
+    replays::compared(t, r, o[0], &got)
+}
+
+// The records of a page, after those of the pages before.
+fn replay(s: &[u8], so_far: Tally) -> Tally {
+    let mut t = so_far;
+    let n = records::count(s);
+    let mut at = first(s);
+    let mut i = 0;
+    while i < n {
+        let e = records::end(s, at);
+        let more = step(t, &s[at..e]);
+        t = more;
+        at = e;
+        i += 1;
+    }
+    t
+}
+
+fn read_page(so_far: Tally) -> Tally {
+    let mut page = io::large_buffer();
+    let n = io::read_full(0, &mut page);
+    replay(&page[..n], so_far)
+}
+
+fn two_pages(so_far: Tally) -> Tally {
+    let t = read_page(so_far);
+    read_page(t)
+}
+
+// No file has more than four pages: the report would not have the records of a fifth.
+fn main() {
+    let t = two_pages(replays::none());
+    replays::report(b"second order, compact sets", two_pages(t));
+}
