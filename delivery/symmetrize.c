@@ -3,7 +3,8 @@
  *
  * FOLDER holds cell.txt (lattice, positions), tables.txt (shift tables), fc2.f64 (full set of second order) and
  * fc3.f64 (compact set of third order); samples/README.md says what is in them. Prints the drift before and after,
- * how many orders of legs read out alike before and after, what becomes of damaged copies, and the time taken.
+ * how many orders of legs read out alike before and after, how many blocks each kind of transpose moves, what becomes of
+ * damaged copies, and the time taken.
  * With OUT, writes the symmetrized sets to OUT/fc2.f64 and OUT/fc3.f64. Exit status 0 only if all went well.
  */
 #include "gullyfork.h"
@@ -173,6 +174,56 @@ static size_t third_order(struct delivery *d)
     return unlike;
 }
 
+/* ---- transposes: the Rust's leave the blocks that a half shift exchanges, the true ones move every block */
+
+typedef uint8_t transpose(double *, size_t, const int64_t *, size_t, const int64_t *, size_t, const int64_t *, size_t,
+                          const int64_t *, size_t, uint8_t *, size_t, size_t, size_t, size_t, int64_t);
+
+static void transpose_third(const struct delivery *d, transpose *call, double *fc3, uint8_t *done, int64_t t_type)
+{
+    size_t n = d->n_satom, pairs = d->n_patom * n;
+    must(call(fc3, pairs * n * 27, d->p2s, d->n_patom, d->s2pp, n, d->nsym_list, n, d->perms, d->num_trans * n, done, pairs, n,
+              d->n_patom, d->num_trans, t_type),
+         "transpose of third order");
+}
+
+/* of how many places the new set reads out what the old one reads out with the first two pairs exchanged */
+static size_t moved(const struct delivery *old, const struct delivery *new)
+{
+    size_t legs = old->n_satom * 3, count = 0;
+    for (size_t x = 0; x < legs; x++)
+        for (size_t y = 0; y < legs; y++)
+            for (size_t z = 0; z < legs; z++)
+                count += (size_t)same_bits(read_out(new, x, y, z), read_out(old, y, x, z));
+    return count;
+}
+
+/* one transpose of each kind, and a list of true ones followed by its inverse, each on a copy of the set as delivered */
+static int transposes(const struct delivery *d)
+{
+    static const int64_t list[] = {0, 1, 2, 2, 1, 0};
+    size_t n = d->n_satom, numbers = d->n_patom * n * n * 27, legs = n * 3, all = legs * legs * legs;
+    struct delivery copy = *d;
+    copy.fc3 = room(numbers, sizeof *copy.fc3);
+    uint8_t *done = room(d->n_patom * n, 1);
+    memcpy(copy.fc3, d->fc3, numbers * sizeof *copy.fc3);
+    transpose_third(d, gf_transpose_compact_fc3, copy.fc3, done, 0);
+    size_t by_old = moved(d, &copy);
+    memcpy(copy.fc3, d->fc3, numbers * sizeof *copy.fc3);
+    transpose_third(d, gf_true_transpose_compact_fc3, copy.fc3, done, 0);
+    size_t by_true = moved(d, &copy);
+    memcpy(copy.fc3, d->fc3, numbers * sizeof *copy.fc3);
+    for (size_t k = 0; k < sizeof list / sizeof *list; k++)
+        transpose_third(d, gf_true_transpose_compact_fc3, copy.fc3, done, list[k]);
+    int back = memcmp(copy.fc3, d->fc3, numbers * sizeof *copy.fc3) == 0;
+    printf("transposes of type 0, as delivered: of %zu read-out entries %zu are right after the Rust's, %zu after the true one\n", all, by_old,
+           by_true);
+    printf("  true transposes 0, 1, 2, then 2, 1, 0: the bits are %s\n", back ? "as they were" : "NOT as they were");
+    free(copy.fc3);
+    free(done);
+    return by_true == all && back;
+}
+
 /* ---- damaged copies: each is refused with its reason, and the set that was lent is as it was */
 
 static int refuse(const struct delivery *d, const char *damage, const int64_t *nsym_list, size_t len)
@@ -217,11 +268,12 @@ int main(int argc, char **argv)
     printf("%zu atoms, %zu of them in the primitive cell, %zu shifts\n", d.n_satom, d.n_patom, d.num_trans);
     check_tables(&d);
     match_rows(&d);
+    int moves = transposes(&d);
     second_order(&d);
     size_t unlike = third_order(&d);
     int refused = damaged_copies(&d);
     if (argc == 3)
         write_delivery(argv[2], &d);
     free_delivery(&d);
-    return unlike == 0 && refused ? 0 : 1;
+    return unlike == 0 && moves && refused ? 0 : 1;
 }

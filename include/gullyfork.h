@@ -173,6 +173,22 @@ uint8_t gf_set_index_permutation_symmetry_compact_fc(
     bool transpose);
 
 /*
+ * Exchanges the two (atom, direction) pairs of every number of a compact set. Every number moves, also where a half shift (a shift that
+ * swaps the two atoms) exchanges the blocks: read out to all atoms, block (i, j), transposed, comes to stand at (j, i).
+ *   fc    n_patom x n_satom x 9
+ *   done  n_patom x n_satom, work
+ * Refusals: 1 (a count above 1,024), 2, 3, 6.
+ */
+uint8_t gf_true_transpose_compact_fc2(
+    double *fc, size_t fc_len,
+    const int64_t *p2s, size_t p2s_len,
+    const int64_t *s2pp, size_t s2pp_len,
+    const int64_t *nsym_list, size_t nsym_list_len,
+    const int64_t *perms, size_t perms_len,
+    uint8_t *done, size_t done_len,
+    size_t n_satom, size_t n_patom, size_t num_trans);
+
+/*
  * How far the rows of a full set are from the acoustic sum rule, by which they add up to zero: of each atom and pair of directions the
  * sum over the second atom.
  *   GF_DRIFT_STILL      all sums are zero; value 0.0, place 0, 0, 0
@@ -260,6 +276,23 @@ uint8_t gf_transpose_compact_fc3(
     int64_t t_type);
 
 /*
+ * Exchanges two of the three (atom, direction) pairs of every number of a compact set: t_type 0 the first two, 1 the first and the
+ * third, 2 the last two; any other t_type changes nothing. Every number moves, also where a half shift exchanges the blocks.
+ *   fc3   n_patom x n_satom x n_satom x 27
+ *   done  n_patom x n_satom, work
+ * Refusals, whatever the t_type: 1 (a count above 256), 2, 3, 6.
+ */
+uint8_t gf_true_transpose_compact_fc3(
+    double *fc3, size_t fc3_len,
+    const int64_t *p2s, size_t p2s_len,
+    const int64_t *s2pp, size_t s2pp_len,
+    const int64_t *nsym_list, size_t nsym_list_len,
+    const int64_t *perms, size_t perms_len,
+    uint8_t *done, size_t done_len,
+    size_t n_satom, size_t n_patom, size_t num_trans,
+    int64_t t_type);
+
+/*
  * Fills slab target from slab source, a slab being all blocks of one first atom: block (i, j) of the target is block
  * (atom_mapping[i], atom_mapping[j]) of the source, rotated by rot_cart on each leg. Other slabs stay.
  *   fc3           num_first x num_atom x num_atom x 27
@@ -332,6 +365,23 @@ uint8_t gf_set_permutation_symmetry_compact_fc4(
  * Refusals, whatever the t_type: 1 (a count above 64), 2, 3, 6.
  */
 uint8_t gf_transpose_compact_fc4(
+    double *fc4, size_t fc4_len,
+    const int64_t *p2s, size_t p2s_len,
+    const int64_t *s2pp, size_t s2pp_len,
+    const int64_t *nsym_list, size_t nsym_list_len,
+    const int64_t *perms, size_t perms_len,
+    uint8_t *done, size_t done_len,
+    size_t n_satom, size_t n_patom, size_t num_trans,
+    int64_t t_type);
+
+/*
+ * Exchanges the first two of the four (atom, direction) pairs of every number of a compact set, with t_type 0; any other t_type
+ * changes nothing. Every number moves, also where a half shift exchanges the blocks.
+ *   fc4   n_patom x n_satom x n_satom x n_satom x 81
+ *   done  n_patom x n_satom, work
+ * Refusals, whatever the t_type: 1 (a count above 64), 2, 3, 6.
+ */
+uint8_t gf_true_transpose_compact_fc4(
     double *fc4, size_t fc4_len,
     const int64_t *p2s, size_t p2s_len,
     const int64_t *s2pp, size_t s2pp_len,

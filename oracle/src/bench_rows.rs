@@ -7,6 +7,7 @@ use crate::call_distribute::Distribute;
 use crate::call_full::Full;
 use crate::call_matching::Matching;
 use crate::call_slabs::Slabs;
+use crate::compare_lists::half_shift;
 use crate::matching::{pair, Kind, SKEW};
 use crate::port;
 use crate::rng::Rng;
@@ -164,6 +165,29 @@ pub fn fourth(b: &Bench) {
     compact(b, "transpose_compact_fc4", Name::Transpose4, [2, 16], 0);
     slabs(b, "distribute_fc4", 4, 16);
     deltas(b, "rotate_delta_fc3s", 4, 16);
+}
+
+/// A true transpose beside the transpose that is the Rust's, both the library's, on one set.
+fn both_ways(b: &Bench, call: &str, names: [Name; 2], sizes: [usize; 2], t_type: i64) {
+    let mut c = Compact { t_type, ..Compact::new(names[0], shifts(sizes[0], sizes[1])) };
+    c.set = plain(&mut Rng::new(28), c.stated());
+    let halves = if half_shift(&c.tables) { "yes" } else { "no" };
+    let [old, new] = b.ways(&mut fitted(c), 2, |c, k| c.name = names[k])[..] else { unreachable!("two ways") };
+    println!("| {call} | {} × {} | {halves} | {:.1} | {:.1} | {:.2} |", sizes[0], sizes[1], old * 1e6, new * 1e6, old / new);
+}
+
+/// The true transposes beside the others, with half shifts among the tables, whose blocks only they move, and without.
+pub fn transposes(b: &Bench) {
+    println!("| call | size | half shifts | the other transpose, us | the true one, us | ratio |\n|---|---|---|---|---|---|");
+    for sizes in [[4, 512], [64, 256], [4, 500], [64, 192]] {
+        both_ways(b, "true_transpose_compact_fc2", [Name::Exchange2, Name::True2], sizes, 1);
+    }
+    for (sizes, t_type) in [[4, 64], [4, 60]].into_iter().flat_map(|sizes| (0..3).map(move |t_type| (sizes, t_type))) {
+        both_ways(b, &format!("true_transpose_compact_fc3, type {t_type}"), [Name::Transpose3, Name::True3], sizes, t_type);
+    }
+    for sizes in [[2, 16], [2, 18]] {
+        both_ways(b, "true_transpose_compact_fc4", [Name::Transpose4, Name::True4], sizes, 0);
+    }
 }
 
 /// Whether n numbers below n are all different.

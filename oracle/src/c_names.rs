@@ -78,4 +78,19 @@ extern "C" {
         rot_map_syms_len: usize, rot_delta: *mut f64, rot_delta_len: usize, num_atom: usize, num_site_sym: usize,
         num_disp: usize,
     ) -> u8;
+    pub fn gf_true_transpose_compact_fc2(
+        fc: *mut f64, fc_len: usize, p2s: *const i64, p2s_len: usize, s2pp: *const i64, s2pp_len: usize,
+        nsym_list: *const i64, nsym_list_len: usize, perms: *const i64, perms_len: usize, done: *mut u8,
+        done_len: usize, n_satom: usize, n_patom: usize, num_trans: usize,
+    ) -> u8;
+    pub fn gf_true_transpose_compact_fc3(
+        fc3: *mut f64, fc3_len: usize, p2s: *const i64, p2s_len: usize, s2pp: *const i64, s2pp_len: usize,
+        nsym_list: *const i64, nsym_list_len: usize, perms: *const i64, perms_len: usize, done: *mut u8,
+        done_len: usize, n_satom: usize, n_patom: usize, num_trans: usize, t_type: i64,
+    ) -> u8;
+    pub fn gf_true_transpose_compact_fc4(
+        fc4: *mut f64, fc4_len: usize, p2s: *const i64, p2s_len: usize, s2pp: *const i64, s2pp_len: usize,
+        nsym_list: *const i64, nsym_list_len: usize, perms: *const i64, perms_len: usize, done: *mut u8,
+        done_len: usize, n_satom: usize, n_patom: usize, num_trans: usize, t_type: i64,
+    ) -> u8;
 }

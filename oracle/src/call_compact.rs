@@ -1,5 +1,6 @@
 //! The calls on compact sets, of every order.
 use crate::call::{bytes, floats, index, Call, Parts, ATOMS, LEVEL};
+use crate::compare_true::exchanged;
 use crate::rng::Rng;
 use crate::shift_records::damage;
 use crate::shifts::Tables;
@@ -13,14 +14,17 @@ pub enum Name {
     Transpose3,
     Symmetrize4,
     Transpose4,
+    True2,
+    True3,
+    True4,
 }
 
 impl Name {
     pub fn order(self) -> usize {
         match self {
-            Name::Symmetrize2 | Name::Exchange2 => 2,
-            Name::Symmetrize3 | Name::Transpose3 => 3,
-            Name::Symmetrize4 | Name::Transpose4 => 4,
+            Name::Symmetrize2 | Name::Exchange2 | Name::True2 => 2,
+            Name::Symmetrize3 | Name::Transpose3 | Name::True3 => 3,
+            Name::Symmetrize4 | Name::Transpose4 | Name::True4 => 4,
         }
     }
 
@@ -116,6 +120,8 @@ impl Call for Compact {
             Name::Transpose3 => fc3::transpose_compact_fc3(f, p2s, s2pp, nsym, perms, s, p, self.t_type),
             Name::Symmetrize4 => fc4::set_permutation_symmetry_compact_fc4(f, p2s, s2pp, nsym, perms, s, p),
             Name::Transpose4 => fc4::transpose_compact_fc4(f, p2s, s2pp, nsym, perms, s, p, self.t_type),
+            // not in the Rust: by their definition
+            Name::True2 | Name::True3 | Name::True4 => self.set = exchanged(self.name.order(), self.t_type, &self.tables, &self.set),
         }
         0
     }
@@ -128,12 +134,15 @@ impl Call for Compact {
             Name::Transpose3 => by_c_name!(gf_transpose_compact_fc3, self, self.t_type),
             Name::Symmetrize4 => by_c_name!(gf_set_permutation_symmetry_compact_fc4, self),
             Name::Transpose4 => by_c_name!(gf_transpose_compact_fc4, self, self.t_type),
+            Name::True2 => by_c_name!(gf_true_transpose_compact_fc2, self),
+            Name::True3 => by_c_name!(gf_true_transpose_compact_fc3, self, self.t_type),
+            Name::True4 => by_c_name!(gf_true_transpose_compact_fc4, self, self.t_type),
         }
     }
 
     /// Transposes move.
     fn made(&self, slice: usize, _: usize) -> bool {
-        let moves = matches!(self.name, Name::Transpose3 | Name::Transpose4) || self.name == Name::Exchange2 && self.t_type == 1;
+        let moves = matches!(self.name, Name::Transpose3 | Name::Transpose4 | Name::True2 | Name::True3 | Name::True4) || self.name == Name::Exchange2 && self.t_type == 1;
         slice == 0 && !moves
     }
 

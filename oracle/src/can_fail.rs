@@ -74,6 +74,9 @@ fn compact_sets() {
     for name in [Name::Symmetrize2, Name::Exchange2, Name::Symmetrize3, Name::Transpose3, Name::Symmetrize4, Name::Transpose4] {
         seen(|r| makers::compact(r, name));
     }
+    for name in [Name::True2, Name::True3, Name::True4] {
+        seen(|r| makers::compact(r, name));
+    }
 }
 
 #[test]

@@ -4,10 +4,10 @@ use crate::call_compact::Name;
 use crate::compare_limits::limits;
 use crate::rng::Rng;
 use crate::tally::Tally;
-use crate::{compare_common, compare_lists, makers, port};
+use crate::{compare_common, compare_lists, compare_true, makers, port};
 
-/// Every public call, and the lists of transposes, in the order in which they are compared.
-pub const CALLS: [&str; 22] = [
+/// Every public call, the lists of transposes and the read-outs of the true ones, in the order in which they are compared.
+pub const CALLS: [&str; 26] = [
     "nint",
     "round",
     "sqrt",
@@ -30,6 +30,10 @@ pub const CALLS: [&str; 22] = [
     "rotate_delta_fc3s",
     "lists of transposes",
     "lists that spell the same order",
+    "true_transpose_compact_fc2",
+    "true_transpose_compact_fc3",
+    "true_transpose_compact_fc4",
+    "true transposes read out",
 ];
 
 /// Of nint, round and sqrt so many patterns are tried for each call of the others.
@@ -59,6 +63,10 @@ fn run(tally: &mut Tally, r: &mut Rng, count: u64) {
         "transpose_compact_fc4" => beside(tally, r, count, |r| makers::compact(r, Name::Transpose4)),
         "distribute_fc4" => beside(tally, r, count, |r| makers::slabs(r, 4)),
         "rotate_delta_fc3s" => beside(tally, r, count, |r| makers::deltas(r, 4)),
+        "true_transpose_compact_fc2" => beside(tally, r, count, |r| makers::compact(r, Name::True2)),
+        "true_transpose_compact_fc3" => beside(tally, r, count, |r| makers::compact(r, Name::True3)),
+        "true_transpose_compact_fc4" => beside(tally, r, count, |r| makers::compact(r, Name::True4)),
+        "true transposes read out" => compare_true::read_outs(tally, r, count),
         "lists of transposes" => compare_lists::lists(tally, r, count),
         _ => compare_lists::same_order(tally, r, count),
     }
@@ -66,7 +74,11 @@ fn run(tally: &mut Tally, r: &mut Rng, count: u64) {
 
 /// Whether the library has what the comparison of that name calls.
 fn present(name: &str) -> bool {
-    port::has(if name.starts_with("lists") { "transpose_compact_fc3" } else { name })
+    port::has(match name {
+        "true transposes read out" => "true_transpose_compact_fc4",
+        _ if name.starts_with("lists") => "transpose_compact_fc3",
+        _ => name,
+    })
 }
 
 /// One comparison, with random numbers of its own; None if the library does not have the call.

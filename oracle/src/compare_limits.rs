@@ -119,10 +119,22 @@ fn fourth(tallies: &mut Vec<Tally>, r: &mut Rng) {
     one(tallies, "rotate_delta_fc3s", deltas(r, 4, [1, 1024, 1024]));
 }
 
+fn true_transposes(tallies: &mut Vec<Tally>, r: &mut Rng) {
+    let t = over(r, 1, [32, 32]);
+    one(tallies, "true_transpose_compact_fc2", compact(r, Name::True2, t, 0));
+    let t = over(r, 2, [16, 8]);
+    for t_type in 0..3 {
+        one(tallies, "true_transpose_compact_fc3", compact(r, Name::True3, t.clone(), t_type));
+    }
+    let t = over(r, 1, [8, 8]);
+    one(tallies, "true_transpose_compact_fc4", compact(r, Name::True4, t, 0));
+}
+
 pub fn limits(seed: u64) -> Vec<Tally> {
     let (mut tallies, mut r) = (vec![], Rng::new(seed));
     second(&mut tallies, &mut r);
     third(&mut tallies, &mut r);
     fourth(&mut tallies, &mut r);
+    true_transposes(&mut tallies, &mut r);
     tallies
 }

@@ -75,7 +75,7 @@ fn spelt(list: &[Compact], answers: &[u8]) -> [usize; 3] {
 }
 
 /// "Only the null shift is its own inverse."
-fn half_shift(t: &Tables) -> bool {
+pub fn half_shift(t: &Tables) -> bool {
     let twice = |k: usize| (0..t.n_satom).all(|a| t.row(k, t.row(k, a)) == a);
     let null = |k: usize| (0..t.n_satom).all(|a| t.row(k, a) == a);
     (0..t.num_trans).any(|k| twice(k) && !null(k))
@@ -117,7 +117,7 @@ fn fed(mut table: Vec<f64>, n: usize, list: &[Compact], answers: &[u8]) -> Vec<f
 }
 
 /// The same bits, those of NaN too: transposes move.
-fn same(a: &[f64], b: &[f64]) -> bool {
+pub fn same(a: &[f64], b: &[f64]) -> bool {
     a.len() == b.len() && a.iter().zip(b).all(|(x, y)| x.to_bits() == y.to_bits())
 }
 

@@ -1,5 +1,7 @@
-//! Recorded answers of the originals' symmetrizers and transposes of third and fourth order.
+//! Recorded answers of the originals' symmetrizers and transposes of third and fourth order; and of the true transposes, which the
+//! originals do not have, by their definition.
 use crate::call::ATOMS;
+use crate::compare_true::exchanged;
 use crate::record::{counted, report, Record, Replay};
 use crate::rng::Rng;
 use crate::shift_records::{groups, zeros};
@@ -19,10 +21,10 @@ pub fn width(order: u32) -> usize {
 
 /// The longest set that is recorded.
 fn room(order: u32) -> usize {
-    if order == 3 {
-        32768
-    } else {
+    if order == 4 {
         83000
+    } else {
+        32768
     }
 }
 
@@ -31,6 +33,7 @@ enum Name {
     Full,
     Compact,
     Transpose,
+    True,
 }
 
 /// A call. Of a full set n_satom is num_atom, and there are no tables.
@@ -64,7 +67,7 @@ impl Call {
             (Name::Full, 3) => (blocks(n, 2), 0),
             (Name::Full, _) => (blocks(n, 3), blocks(n, 3)),
             (Name::Compact, order) => (blocks(p, order - 1), blocks(p, order - 1)),
-            (Name::Transpose, order) => (blocks(p, order - 1), blocks(p, 1)),
+            (Name::Transpose | Name::True, order) => (blocks(p, order - 1), blocks(p, 1)),
         };
         (set.saturating_mul(width(self.order)), work)
     }
@@ -82,12 +85,15 @@ impl Call {
         }
     }
 
-    /// The number of the call in a record: 0 to 2 of third order, 3 to 5 of fourth.
+    /// The number of the call in a record: 0 to 2 of third order, 3 to 5 of fourth; the true transposes by their order.
     fn number(&self) -> u64 {
+        if self.name == Name::True {
+            return self.order as u64;
+        }
         3 * (self.order as u64 - 3) + self.name as u64
     }
 
-    /// The original's call.
+    /// The original's call, or what the definition leaves.
     fn run(&self, f: &mut [f64]) {
         let t = &self.tables;
         let (n, p) = (t.n_satom, t.n_patom);
@@ -98,6 +104,7 @@ impl Call {
             (Name::Compact, _) => fc4::set_permutation_symmetry_compact_fc4(f, &t.p2s, &t.s2pp, &t.nsym_list, &t.perms, n, p),
             (Name::Transpose, 3) => fc3::transpose_compact_fc3(f, &t.p2s, &t.s2pp, &t.nsym_list, &t.perms, n, p, self.t_type),
             (Name::Transpose, _) => fc4::transpose_compact_fc4(f, &t.p2s, &t.s2pp, &t.nsym_list, &t.perms, n, p, self.t_type),
+            (Name::True, order) => f.copy_from_slice(&exchanged(order as usize, self.t_type, t, f)),
         }
     }
 
@@ -160,12 +167,12 @@ fn none() -> Tables {
     zeros(0, 0, 0)
 }
 
-/// The types that a call of the order is recorded with, the last two without a meaning.
+/// The types that a call of the order is recorded with, the last two without a meaning; at second order there is none.
 fn types(order: u32) -> Vec<i64> {
-    if order == 3 {
-        vec![0, 1, 2, 3, -1]
-    } else {
-        vec![0, 1, -1]
+    match order {
+        2 => vec![0],
+        3 => vec![0, 1, 2, 3, -1],
+        _ => vec![0, 1, -1],
     }
 }
 
@@ -296,14 +303,14 @@ fn refused(order: u32, r: &mut Rng) -> Vec<Call> {
 }
 
 /// Lists of transposes: each call is lent the set as the call before left it; every third is refused.
-fn lists(order: u32, r: &mut Rng) -> Vec<Call> {
+fn lists(order: u32, name: Name, r: &mut Rng) -> Vec<Call> {
     let mut calls = vec![];
     for (k, g) in [cyclic(1), cyclic(3), cyclic(5), s3(), cyclic(4), cyclic(3)].iter().enumerate() {
         let t = tables(g, if g.n < 4 { 2 } else { 1 }, Some(r));
         let length = 4 + r.below(4);
         for i in 0..length {
             let ty = types(order)[r.below(types(order).len())];
-            let mut call = Call::new(order, Name::Transpose, ty, [0, 7, 5][k % 3], t.clone());
+            let mut call = Call::new(order, name, ty, [0, 7, 5][k % 3], t.clone());
             call.fresh = i == 0;
             match (i % 3, r.below(4)) {
                 (1, 0) => call.tables.n_satom = limit(order) + 1,
@@ -324,11 +331,54 @@ fn calls(order: u32) -> Vec<Call> {
     calls.extend(good(order, &mut r));
     calls.extend(small_counts(order));
     calls.extend(refused(order, &mut r));
-    calls.extend(lists(order, &mut r));
+    calls.extend(lists(order, Name::Transpose, &mut r));
     for (k, call) in calls.iter_mut().enumerate() {
         call.seed = 1000 * order as u64 + k as u64;
     }
     calls
+}
+
+/// The true transposes of one order: every group with 1 and 2 primitive atoms, half shifts among them; every type; refused calls; lists.
+fn true_calls(order: u32, r: &mut Rng) -> Vec<Call> {
+    let mut calls = vec![];
+    for (k, g) in groups().into_iter().enumerate() {
+        for n_patom in 1..=2 {
+            let t = tables(&g, n_patom, Some(r));
+            let ty = types(order)[k % types(order).len()];
+            let call = Call::new(order, Name::True, ty, k as u64 % KINDS, t);
+            if call.set <= room(order) / 4 && call.tables.perms.len() <= 256 {
+                calls.push(call);
+            }
+        }
+    }
+    let z2 = cyclic(2);
+    for g in [cyclic(1), cyclic(2), product(&z2, &z2)] {
+        let t = tables(&g, 1, Some(r));
+        calls.extend(types(order).into_iter().map(|ty| Call::new(order, Name::True, ty, MINUS_ZEROS, t.clone())));
+    }
+    for ty in [i64::MIN, i64::MAX, 4, 1 << 32] {
+        calls.push(Call::new(order, Name::True, if order == 2 { 0 } else { ty }, 0, tables(&z2, 2, Some(r))));
+    }
+    for (n_satom, n_patom, num_trans) in [(0, 0, 0), (0, 0, 1), (1, 0, 0), (1, 1, 1), (2, 2, 1)] {
+        calls.push(Call::new(order, Name::True, 0, 0, zeros(n_satom, n_patom, num_trans)));
+    }
+    calls.extend(damaged(&Call::new(order, Name::True, 0, 0, tables(&z2, 2, Some(r))), r));
+    let mut call = Call::new(order, Name::True, if order == 2 { 0 } else { 7 }, 0, tables(&cyclic(3), 1, Some(r)));
+    call.tables.nsym_list.swap(0, 1);
+    calls.push(call);
+    calls.extend(lists(order, Name::True, r));
+    calls
+}
+
+/// The records of the true transposes of the three orders, all sets lent from one memory.
+pub fn true_replay() -> Replay {
+    let mut r = Rng::new(37);
+    let mut memory = vec![0.0; room(4)];
+    let mut calls: Vec<Call> = (2..5).flat_map(|order| true_calls(order, &mut r)).collect();
+    calls.iter_mut().enumerate().for_each(|(k, call)| call.seed = 7000 + k as u64);
+    let records: Vec<Record> = calls.into_iter().map(|call| call.record(&mut memory)).collect();
+    let stdout = report("true transposes", &records, 1);
+    Replay::new(records, stdout, 4)
 }
 
 /// The words of a record: see README.md. All sets are lent from one memory.

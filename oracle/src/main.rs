@@ -25,6 +25,7 @@ mod compare;
 mod compare_common;
 mod compare_limits;
 mod compare_lists;
+mod compare_true;
 mod edges;
 mod fc2_records;
 mod fc_records;
@@ -49,10 +50,10 @@ mod wild;
 #[global_allocator]
 static HEAP: memory::Counting = memory::Counting;
 
-const USAGE: &str = "oracle record common|shifts|matching|second|compact|third|fourth|distribute|deltas FOLDER
+const USAGE: &str = "oracle record common|shifts|matching|second|compact|third|fourth|true|distribute|deltas FOLDER
 oracle flip PROGRAM FOLDER COUNT
 oracle compare all|limits|CALL [SEED [COUNT]]
-oracle bench all|common|cells|fc2|fc3|fc4|tables [SECONDS]";
+oracle bench all|common|cells|fc2|fc3|fc4|tables|transposes [SECONDS]";
 
 /// Some(true) if all went well, Some(false) if the port differs, None if the words are no command.
 type Outcome = Option<bool>;
@@ -67,6 +68,7 @@ fn record(name: &str, folder: &Path) -> Outcome {
         "compact" => fc2_records::compact_second(),
         "third" => fc_records::replay(3),
         "fourth" => fc_records::replay(4),
+        "true" => fc_records::true_replay(),
         "distribute" => slab_records::distribute(),
         "deltas" => slab_records::deltas(),
         _ => return None,
@@ -92,16 +94,19 @@ fn bench(name: &str, patience: f64) -> Outcome {
     let bench = bench::Bench::new(patience);
     let groups: [(&str, fn(&bench::Bench)); 4] =
         [("cells", bench_rows::matching), ("fc2", bench_rows::second), ("fc3", bench_rows::third), ("fc4", bench_rows::fourth)];
-    let known = ["all", "common", "tables"].contains(&name) || groups.iter().any(|(group, _)| *group == name);
+    let known = ["all", "common", "tables", "transposes"].contains(&name) || groups.iter().any(|(group, _)| *group == name);
     if ["all", "common"].contains(&name) {
         bench_common::common();
     }
-    if !["common", "tables"].contains(&name) && known {
+    if !["common", "tables", "transposes"].contains(&name) && known {
         bench.head();
         groups.iter().filter(|(group, _)| name == "all" || name == *group).for_each(|(_, rows)| rows(&bench));
     }
     if ["all", "tables"].contains(&name) {
         bench_rows::checks(&bench);
+    }
+    if ["all", "transposes"].contains(&name) && port::has("true_transpose_compact_fc4") {
+        bench_rows::transposes(&bench);
     }
     if known {
         let cores = std::thread::available_parallelism().map_or(0, |n| n.get());

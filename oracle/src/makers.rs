@@ -54,8 +54,8 @@ pub fn compact(r: &mut Rng, name: Name) -> Compact {
     match name {
         Name::Symmetrize2 => call.level = level(r, call.set.len()),
         Name::Exchange2 => call.t_type = r.below(2) as i64,
-        Name::Transpose3 => call.t_type = t_type(r, 3),
-        Name::Transpose4 => call.t_type = t_type(r, 1),
+        Name::Transpose3 | Name::True3 => call.t_type = t_type(r, 3),
+        Name::Transpose4 | Name::True4 => call.t_type = t_type(r, 1),
         _ => {}
     }
     call

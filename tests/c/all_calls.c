@@ -271,6 +271,40 @@ static void transpose_third_order(void) {
     CHECK(two[1 * 9] == before[1 * 3] && two[1 * 3] == before[1 * 9]);
 }
 
+/* two atoms that a half shift exchanges: every block moves. The block at atoms 0, 1, k is that at 1, 0, k, which is stored at 0, 1, 1 - k */
+static void true_transposes(void) {
+    double fc[18], fc3[108], fc4[648], before[648];
+    uint8_t done[] = {7, 7};
+    count_up(S(before));
+    count_up(S(fc));
+    CHECK(gf_true_transpose_compact_fc2(S(fc), TWO, done, 1, 2, 1, 2) == GF_WRONG_LENGTH);
+    CHECK(memcmp(fc, before, sizeof fc) == 0 && done[0] == 7);
+    CHECK(gf_true_transpose_compact_fc2(S(fc), TWO, S(done), 2, 1, 2) == GF_DONE);
+    CHECK(cleared(S(done)));
+    for (size_t q = 0; q < 18; q++) {
+        CHECK(fc[q] == before[q / 9 * 9 + q % 3 * 3 + q / 3 % 3]);
+    }
+    count_up(S(fc3));
+    CHECK(gf_true_transpose_compact_fc3(S(fc3), TWO, S(done), 257, 1, 2, 0) == GF_COUNT_ABOVE_LIMIT);
+    CHECK(gf_true_transpose_compact_fc3(S(fc3), TWO, S(done), 2, 1, 2, 3) == GF_DONE); /* no meaning: changes nothing */
+    CHECK(memcmp(fc3, before, sizeof fc3) == 0);
+    CHECK(gf_true_transpose_compact_fc3(S(fc3), TWO, S(done), 2, 1, 2, 0) == GF_DONE);
+    for (size_t q = 0; q < 54; q++) {
+        size_t k = q / 27, permuted = q / 3 % 3 * 9 + q / 9 % 3 * 3 + q % 3;
+        CHECK(fc3[k * 27 + q % 27] == before[k * 27 + permuted] && fc3[(2 + k) * 27 + q % 27] == before[(3 - k) * 27 + permuted]);
+    }
+    CHECK(gf_true_transpose_compact_fc3(S(fc3), TWO, S(done), 2, 1, 2, 0) == GF_DONE);
+    CHECK(memcmp(fc3, before, sizeof fc3) == 0); /* twice is as before */
+    count_up(S(fc4));
+    CHECK(gf_true_transpose_compact_fc4(S(fc4), TWO, S(done), 2, 1, 2, -1) == GF_DONE); /* no meaning: changes nothing */
+    CHECK(memcmp(fc4, before, sizeof fc4) == 0);
+    CHECK(gf_true_transpose_compact_fc4(S(fc4), TWO, S(done), 2, 1, 2, 0) == GF_DONE);
+    for (size_t q = 0; q < 324; q++) {
+        size_t kl = q / 81, permuted = q / 9 % 3 * 27 + q / 27 % 3 * 9 + q % 9;
+        CHECK(fc4[kl * 81 + q % 81] == before[kl * 81 + permuted] && fc4[(4 + kl) * 81 + q % 81] == before[(7 - kl) * 81 + permuted]);
+    }
+}
+
 static void slabs(void) {
     const double identity[] = {1, 0, 0, 0, 1, 0, 0, 0, 1};
     const int64_t mapping[] = {0};
@@ -368,6 +402,7 @@ int main(void) {
     distribute_second_order();
     symmetrize_third_order();
     transpose_third_order();
+    true_transposes();
     slabs();
     rotated_deltas();
     fourth_order();

@@ -120,6 +120,49 @@ pub fn set_index_permutation_symmetry_compact_fc_with(
     )))
 }
 
+/// Exchanges the atoms of every pair of a compact set of n_patom × n_satom × 9 numbers, and the directions. Every block moves, also those
+/// that a half shift exchanges; phonors has no such call.
+///
+/// ```
+/// use gullyfork::{fc2, Refusal};
+///
+/// // a shift exchanges the two atoms: block (0, 1) is its own counterpart and is turned
+/// let mut fc: Vec<f64> = (0..18).map(f64::from).collect();
+/// fc2::true_transpose_compact_fc2(&mut fc, &[0], &[0, 0], &[0, 1], &[0, 1, 1, 0], 2, 1)?;
+/// assert_eq!([fc[9 + 1], fc[9 + 3]], [12.0, 10.0]);
+/// # Ok::<(), Refusal>(())
+/// ```
+#[allow(clippy::too_many_arguments)]
+pub fn true_transpose_compact_fc2(
+    fc: &mut [f64],
+    p2s: &[i64],
+    s2pp: &[i64],
+    nsym_list: &[i64],
+    perms: &[i64],
+    n_satom: usize,
+    n_patom: usize,
+) -> Result<(), Refusal> {
+    let mut done = vec![0; room(&[(n_patom, LIMIT), (n_satom, LIMIT)])];
+    let num_trans = rows(perms.len(), n_satom);
+    true_transpose_compact_fc2_with(fc, p2s, s2pp, nsym_list, perms, &mut done, n_satom, n_patom, num_trans)
+}
+
+/// [`true_transpose_compact_fc2`] with n_patom × n_satom bytes of work memory.
+#[allow(clippy::too_many_arguments)]
+pub fn true_transpose_compact_fc2_with(
+    fc: &mut [f64],
+    p2s: &[i64],
+    s2pp: &[i64],
+    nsym_list: &[i64],
+    perms: &[i64],
+    done: &mut [u8],
+    n_satom: usize,
+    n_patom: usize,
+    num_trans: usize,
+) -> Result<(), Refusal> {
+    answer(call!(gf_true_transpose_compact_fc2(&mut fc, &p2s, &s2pp, &nsym_list, &perms, &mut done, n_satom, n_patom, num_trans)))
+}
+
 /// Fills the rows of the listed atoms from those of their representatives: to each block the rotated block is added. The set has a
 /// row of num_pos × 9 numbers for each first atom; position i of the list is atom `atom_list[i]` with row `fc_indices_of_atom_list[i]`.
 /// Atom a is represented by atom `map_atoms[a]`, to which rotation `map_syms[a]` sends it.

@@ -118,6 +118,53 @@ pub fn transpose_compact_fc3_with(
     answer(call!(gf_transpose_compact_fc3(&mut fc3, &p2s, &s2pp, &nsym_list, &perms, &mut done, n_satom, n_patom, num_trans, t_type)))
 }
 
+/// Exchanges two of the three (atom, direction) pairs of every number of a compact set of n_patom × n_satom² × 27 numbers: type 0 pairs 0
+/// and 1, type 1 pairs 0 and 2, type 2 pairs 1 and 2; any other type changes nothing. Every block moves, also those that a half shift
+/// exchanges; phonors has no such call.
+///
+/// ```
+/// use gullyfork::{fc3, Refusal};
+///
+/// // a shift exchanges the two atoms
+/// let mut set: Vec<f64> = (0..108).map(f64::from).collect();
+/// fc3::true_transpose_compact_fc3(&mut set, &[0], &[0, 0], &[0, 1], &[0, 1, 1, 0], 2, 1, 0)?;
+/// // block (0, 1, 0) is the old block (0, 1, 1) with the first two directions exchanged
+/// assert_eq!(set[2 * 27 + 3], f64::from(3 * 27 + 9));
+/// # Ok::<(), Refusal>(())
+/// ```
+#[allow(clippy::too_many_arguments)]
+pub fn true_transpose_compact_fc3(
+    fc3: &mut [f64],
+    p2s: &[i64],
+    s2pp: &[i64],
+    nsym_list: &[i64],
+    perms: &[i64],
+    n_satom: usize,
+    n_patom: usize,
+    t_type: i64,
+) -> Result<(), Refusal> {
+    let mut done = vec![0; room(&[(n_patom, LIMIT), (n_satom, LIMIT)])];
+    let num_trans = rows(perms.len(), n_satom);
+    true_transpose_compact_fc3_with(fc3, p2s, s2pp, nsym_list, perms, &mut done, n_satom, n_patom, num_trans, t_type)
+}
+
+/// [`true_transpose_compact_fc3`] with n_patom × n_satom bytes of work memory.
+#[allow(clippy::too_many_arguments)]
+pub fn true_transpose_compact_fc3_with(
+    fc3: &mut [f64],
+    p2s: &[i64],
+    s2pp: &[i64],
+    nsym_list: &[i64],
+    perms: &[i64],
+    done: &mut [u8],
+    n_satom: usize,
+    n_patom: usize,
+    num_trans: usize,
+    t_type: i64,
+) -> Result<(), Refusal> {
+    answer(call!(gf_true_transpose_compact_fc3(&mut fc3, &p2s, &s2pp, &nsym_list, &perms, &mut done, n_satom, n_patom, num_trans, t_type)))
+}
+
 /// Fills slab `target` from slab `source`, a slab being the num_atom² × 27 numbers of one first atom: block (i, j) of the target is block
 /// (`atom_mapping[i]`, `atom_mapping[j]`) of the source, rotated by `rot_cart` on each leg. There are as many slabs as the set has room for;
 /// with no atoms there is none, and the call is refused.

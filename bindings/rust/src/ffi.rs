@@ -85,6 +85,23 @@ extern "C" {
         num_trans: usize,
         transpose: bool,
     ) -> u8;
+    pub fn gf_true_transpose_compact_fc2(
+        fc: *mut f64,
+        fc_len: usize,
+        p2s: *const i64,
+        p2s_len: usize,
+        s2pp: *const i64,
+        s2pp_len: usize,
+        nsym_list: *const i64,
+        nsym_list_len: usize,
+        perms: *const i64,
+        perms_len: usize,
+        done: *mut u8,
+        done_len: usize,
+        n_satom: usize,
+        n_patom: usize,
+        num_trans: usize,
+    ) -> u8;
     pub fn gf_drift_report(
         fc: *const f64,
         fc_len: usize,
@@ -151,6 +168,24 @@ extern "C" {
         num_trans: usize,
         t_type: i64,
     ) -> u8;
+    pub fn gf_true_transpose_compact_fc3(
+        fc3: *mut f64,
+        fc3_len: usize,
+        p2s: *const i64,
+        p2s_len: usize,
+        s2pp: *const i64,
+        s2pp_len: usize,
+        nsym_list: *const i64,
+        nsym_list_len: usize,
+        perms: *const i64,
+        perms_len: usize,
+        done: *mut u8,
+        done_len: usize,
+        n_satom: usize,
+        n_patom: usize,
+        num_trans: usize,
+        t_type: i64,
+    ) -> u8;
     pub fn gf_distribute_fc3(
         fc3: *mut f64,
         fc3_len: usize,
@@ -199,6 +234,24 @@ extern "C" {
         num_trans: usize,
     ) -> u8;
     pub fn gf_transpose_compact_fc4(
+        fc4: *mut f64,
+        fc4_len: usize,
+        p2s: *const i64,
+        p2s_len: usize,
+        s2pp: *const i64,
+        s2pp_len: usize,
+        nsym_list: *const i64,
+        nsym_list_len: usize,
+        perms: *const i64,
+        perms_len: usize,
+        done: *mut u8,
+        done_len: usize,
+        n_satom: usize,
+        n_patom: usize,
+        num_trans: usize,
+        t_type: i64,
+    ) -> u8;
+    pub fn gf_true_transpose_compact_fc4(
         fc4: *mut f64,
         fc4_len: usize,
         p2s: *const i64,

@@ -4,6 +4,7 @@ ghost use lib.ListN.{length};
 ghost use Rattle.tables.specs.Compact.{shiftTables};
 ghost use Rattle.fc2.specs.Full.{permTransSymmetrizeFc};
 ghost use Rattle.fc2_compact.specs.Compact.{setIndexPermutationSymmetryCompactFc, permTransSymmetrizeCompactFc};
+ghost use Rattle.half_shifts.specs.TrueTransposes.{trueTransposeCompactFc2};
 ghost use Rattle.capi_numbers.specs.Numbered.{numbered, numberedWith};
 ghost use Rattle.capi_fc2.specs.Drift.{slotsFit, reported, Told};
 ghost use Rattle.distribute_fc2.specs.Fc2.{distributeFc2};
@@ -77,6 +78,35 @@ pub extern "C" fn gf_set_index_permutation_symmetry_compact_fc(
         n_patom,
         num_trans,
         transpose,
+    );
+    tables::number(a)
+}
+
+// The true transpose of a compact set: the atoms of every pair change places, those that a half shift exchanges too.
+#[no_mangle]
+pub extern "C" fn gf_true_transpose_compact_fc2(
+    fc: &mut [f64],
+    p2s: &[i64],
+    s2pp: &[i64],
+    nsym_list: &[i64],
+    perms: &[i64],
+    done: &mut [u8],
+    n_satom: usize,
+    n_patom: usize,
+    num_trans: usize,
+) -> u8
+    ensures { λ r. ⌜ (r, now (fc .exit), now (done .exit)) ≡ numberedWith (trueTransposeCompactFc2 (now (fc .entry)) (shiftTables (now (p2s .entry)) (now (s2pp .entry)) (now («nsym_list» .entry)) (now (perms .entry)) «n_satom» «n_patom» «num_trans») (now (done .entry))) ⌝ }
+{
+    let a = fc2_compact::compact::true_transpose_compact_fc2(
+        fc,
+        p2s,
+        s2pp,
+        nsym_list,
+        perms,
+        done,
+        n_satom,
+        n_patom,
+        num_trans,
     );
     tables::number(a)
 }

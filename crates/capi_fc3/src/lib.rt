@@ -2,7 +2,8 @@
 ghost use mathlib.Core.Path.{_≡_};
 ghost use Rattle.tables.specs.Compact.{shiftTables};
 ghost use Rattle.fc3.specs.Symmetrize.{setPermutationSymmetryFc3, setPermutationSymmetryCompactFc3};
-ghost use Rattle.transposes.specs.Fc3.{transposeCompactFc3};
+ghost use Rattle.transposes_fc3.specs.Fc3.{transposeCompactFc3};
+ghost use Rattle.half_shifts.specs.TrueTransposes.{trueTransposeCompactFc3};
 ghost use Rattle.capi_numbers.specs.Numbered.{numbered, numberedWith};
 ghost use Rattle.distribute.specs.Fc3.{distributeFc3};
 ghost use Rattle.deltas.specs.RotateDelta.{rotateDeltaFc2s};
@@ -61,7 +62,38 @@ pub extern "C" fn gf_transpose_compact_fc3(
 ) -> u8
     ensures { λ r. ⌜ (r, now (fc3 .exit), now (done .exit)) ≡ numberedWith (transposeCompactFc3 (now (fc3 .entry)) (shiftTables (now (p2s .entry)) (now (s2pp .entry)) (now («nsym_list» .entry)) (now (perms .entry)) «n_satom» «n_patom» «num_trans») (now (done .entry)) «t_type») ⌝ }
 {
-    let a = transposes::fc3::transpose_compact_fc3(
+    let a = transposes_fc3::transpose_compact_fc3(
+        fc3,
+        p2s,
+        s2pp,
+        nsym_list,
+        perms,
+        done,
+        n_satom,
+        n_patom,
+        num_trans,
+        t_type,
+    );
+    tables::number(a)
+}
+
+// The true transpose of a compact set of third order, half-shift blocks too: type 0 legs 0 and 1, type 1 legs 0 and 2, type 2 legs 1 and 2.
+#[no_mangle]
+pub extern "C" fn gf_true_transpose_compact_fc3(
+    fc3: &mut [f64],
+    p2s: &[i64],
+    s2pp: &[i64],
+    nsym_list: &[i64],
+    perms: &[i64],
+    done: &mut [u8],
+    n_satom: usize,
+    n_patom: usize,
+    num_trans: usize,
+    t_type: i64,
+) -> u8
+    ensures { λ r. ⌜ (r, now (fc3 .exit), now (done .exit)) ≡ numberedWith (trueTransposeCompactFc3 (now (fc3 .entry)) (shiftTables (now (p2s .entry)) (now (s2pp .entry)) (now («nsym_list» .entry)) (now (perms .entry)) «n_satom» «n_patom» «num_trans») (now (done .entry)) «t_type») ⌝ }
+{
+    let a = transposes_fc3::true_transpose_compact_fc3(
         fc3,
         p2s,
         s2pp,

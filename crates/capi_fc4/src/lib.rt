@@ -2,7 +2,8 @@
 ghost use mathlib.Core.Path.{_≡_};
 ghost use Rattle.tables.specs.Compact.{shiftTables};
 ghost use Rattle.fc4.specs.Symmetrize.{setPermutationSymmetryFc4, setPermutationSymmetryCompactFc4};
-ghost use Rattle.transposes.specs.Fc4.{transposeCompactFc4};
+ghost use Rattle.transposes_fc4.specs.Fc4.{transposeCompactFc4};
+ghost use Rattle.half_shifts.specs.TrueTransposes.{trueTransposeCompactFc4};
 ghost use Rattle.capi_numbers.specs.Numbered.{numberedWith, numbered};
 ghost use Rattle.distribute.specs.Fc4.{distributeFc4};
 ghost use Rattle.deltas.specs.RotateDelta.{rotateDeltaFc3s};
@@ -65,7 +66,38 @@ pub extern "C" fn gf_transpose_compact_fc4(
 ) -> u8
     ensures { λ r. ⌜ (r, now (fc4 .exit), now (done .exit)) ≡ numberedWith (transposeCompactFc4 (now (fc4 .entry)) (shiftTables (now (p2s .entry)) (now (s2pp .entry)) (now («nsym_list» .entry)) (now (perms .entry)) «n_satom» «n_patom» «num_trans») (now (done .entry)) «t_type») ⌝ }
 {
-    let a = transposes::fc4::transpose_compact_fc4(
+    let a = transposes_fc4::transpose_compact_fc4(
+        fc4,
+        p2s,
+        s2pp,
+        nsym_list,
+        perms,
+        done,
+        n_satom,
+        n_patom,
+        num_trans,
+        t_type,
+    );
+    tables::number(a)
+}
+
+// The true transpose of a compact set of fourth order, half-shift blocks too: type 0 legs 0 and 1.
+#[no_mangle]
+pub extern "C" fn gf_true_transpose_compact_fc4(
+    fc4: &mut [f64],
+    p2s: &[i64],
+    s2pp: &[i64],
+    nsym_list: &[i64],
+    perms: &[i64],
+    done: &mut [u8],
+    n_satom: usize,
+    n_patom: usize,
+    num_trans: usize,
+    t_type: i64,
+) -> u8
+    ensures { λ r. ⌜ (r, now (fc4 .exit), now (done .exit)) ≡ numberedWith (trueTransposeCompactFc4 (now (fc4 .entry)) (shiftTables (now (p2s .entry)) (now (s2pp .entry)) (now («nsym_list» .entry)) (now (perms .entry)) «n_satom» «n_patom» «num_trans») (now (done .entry)) «t_type») ⌝ }
+{
+    let a = transposes_fc4::true_transpose_compact_fc4(
         fc4,
         p2s,
         s2pp,

@@ -1,5 +1,6 @@
 -- What the functions over compact sets of second order ask of the tables and the set, and what they know of block (p, j). Assumes nothing.
 use mathlib.Core.Path.{_≡_, refl, sym, ap, ap₂, _∙_}
+use mathlib.Core.Bool.{Bool, true, false, cond}
 use mathlib.Core.Logic.{_⊎_, inl, inr}
 use mathlib.Core.List.{List, [], _∷_}
 use Prim.Native.Nat.{ℕ, _+_, _*_, _<_, _≤_}
@@ -19,6 +20,7 @@ use Rattle.places.specs.ReadOuts.{Tables, storedIn, tables, stored-in}
 use Rattle.blocks.specs.Block.{putBlock}
 use Rattle.lines.specs.Nine.{Sums, balance, inverse}
 use Rattle.lines.specs.Lines.{Sized, Inside, RowOf, row-of, pairAt, rowDrifts, others, balanceAt, balances}
+use Rattle.half_shifts.specs.TrueTransposes.{swapped}
 use Rattle.fc2_compact.specs.Compact.{transposed, averaged, withoutRowDrift, onSite}
 use Rattle.fc2_compact.specs.CompactDrift.{drift-made, site-made}
 use Rattle.fc2_compact.specs.CompactVisits.{mate, swapAt, transposeVisit, averageVisit, mate-is, mate-at, mate-below, transpose-past, average-past, transpose-stays, transpose-put, average-put, transpose-made, average-made}
@@ -90,8 +92,8 @@ module _ (T : ShiftTables) (l : List Float) (p i j : ℕ) (r : ReadyAt T (length
         let m : mate S (p * T .nSatom + j) ≡ q * T .nSatom + k = mate-is S L p j (r .first) (r .second) ∙ ap (λ a. a * T .nSatom + k) (sym f) in
         omega (arith, m, hk, mul-le-mul-right (T .nSatom) h)
 
-    pub transpose-earlier : l ≡ transposeVisit (shiftsOf T) p j l
-    transpose-earlier = transpose-past (shiftsOf T) p j l earlier
+    pub transpose-earlier : (h : Bool) → l ≡ transposeVisit h (shiftsOf T) p j l
+    transpose-earlier h = transpose-past (shiftsOf T) p j l earlier h
 
     pub average-earlier : l ≡ averageVisit (shiftsOf T) p j l
     average-earlier = average-past (shiftsOf T) p j l earlier
@@ -120,23 +122,24 @@ module _ (T : ShiftTables) (l : List Float) (p i j : ℕ) (r : ReadyAt T (length
   after : b ≤ c → u ≤ mate S u
   after h = omega (arith, b-is, c-is)
 
-  pub transpose-late : c < b → l ≡ transposeVisit S p j l
-  transpose-late h = transpose-past S p j l (before h)
+  pub transpose-late : (h : Bool) → c < b → l ≡ transposeVisit h S p j l
+  transpose-late h g = transpose-past S p j l (before g) h
 
   pub average-late : c < b → l ≡ averageVisit S p j l
   average-late h = average-past S p j l (before h)
 
-  pub transpose-none : c ≡ b → (j ≡ i → ⊥) → l ≡ transposeVisit S p j l
-  transpose-none e n = transpose-stays S (r .ready .rules) p j (r .first) (r .second) l (sym c-is ∙ e ∙ b-is) (λ f. n (sym f ∙ sym (r .own)))
+  pub transpose-none : (h : Bool) → h ≡ true → c ≡ b → (j ≡ i → ⊥) → l ≡ transposeVisit h S p j l
+  transpose-none h t e n = transpose-stays S (r .ready .rules) p j (r .first) (r .second) h l t (sym c-is ∙ e ∙ b-is) (λ f. n (sym f ∙ sym (r .own)))
 
-  pub transpose-done : {w : List Float} → b ≤ c → (c ≡ b → ⊥) ⊎ (j ≡ i) → w ≡ swapAt b c l → w ≡ transposeVisit S p j l
-  transpose-done h m e =
+  pub transpose-done : (h : Bool) {w : List Float} → b ≤ c → (h ≡ false) ⊎ ((c ≡ b → ⊥) ⊎ (j ≡ i)) → w ≡ swapAt b c l → w ≡ transposeVisit h S p j l
+  transpose-done h g m e =
       e ∙ ap₂ (λ b c. swapAt b c l) b-is c-is
-      ∙ transpose-put S (r .ready .rules) p j (r .first) (r .second) l (after h) (moving m)
+      ∙ transpose-put S (r .ready .rules) p j (r .first) (r .second) h l (after g) (moving m)
     where
-      moving : (c ≡ b → ⊥) ⊎ (j ≡ i) → (mate S u ≡ u → ⊥) ⊎ (p2sAt S p ≡ j)
-      moving (inl n) = inl (λ f. n (c-is ∙ f ∙ sym b-is))
-      moving (inr f) = inr (sym (r .own) ∙ sym f)
+      moving : (h ≡ false) ⊎ ((c ≡ b → ⊥) ⊎ (j ≡ i)) → (h ≡ false) ⊎ ((mate S u ≡ u → ⊥) ⊎ (p2sAt S p ≡ j))
+      moving (inl f) = inl f
+      moving (inr (inl n)) = inr (inl (λ f. n (c-is ∙ f ∙ sym b-is)))
+      moving (inr (inr f)) = inr (inr (sym (r .own) ∙ sym f))
 
   pub average-done : {w : List Float} → b ≤ c → w ≡ pairAt b c l → w ≡ averageVisit S p j l
   average-done h e = e ∙ ap₂ (λ b c. pairAt b c l) b-is c-is ∙ average-put S (r .ready .rules) p j (r .first) (r .second) l (after h)
@@ -144,8 +147,8 @@ module _ (T : ShiftTables) (l : List Float) (p i j : ℕ) (r : ReadyAt T (length
 -- ---- the passes
 
 module _ {T : ShiftTables} (l : List Float) (r : Ready T (length l)) where
-  pub transpose-all : times (T .nPatom) (λ p. times (T .nSatom) (transposeVisit (shiftsOf T) p)) l ≡ transposed (shiftsOf T) l
-  transpose-all = transpose-made (shiftsOf T) (r .rules) l (r .has)
+  pub transpose-all : (h : Bool) → times (T .nPatom) (λ p. times (T .nSatom) (transposeVisit h (shiftsOf T) p)) l ≡ cond h (transposed (shiftsOf T) l) (swapped (shiftsOf T) 1 (0, 1) l)
+  transpose-all h = transpose-made (shiftsOf T) (r .rules) l (r .has) h
 
   pub average-all : times (T .nPatom) (λ p. times (T .nSatom) (averageVisit (shiftsOf T) p)) l ≡ averaged (shiftsOf T) l
   average-all = average-made (shiftsOf T) (r .rules) l (r .has)

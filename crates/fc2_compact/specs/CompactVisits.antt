@@ -1,6 +1,6 @@
 -- The visits of the blocks in the transpose and in the averaging: the visits of crate `orbits`, at second order. Assumes nothing.
 use mathlib.Core.Path.{_≡_, refl, sym, ap, ap₂, _∙_}
-use mathlib.Core.Bool.{Bool, true, false, _||_, cond}
+use mathlib.Core.Bool.{Bool, true, false, _&&_, _||_, cond}
 use mathlib.Core.Logic.{_⊎_, inl, inr}
 use mathlib.Core.List.{List, [], _∷_}
 use Prim.Native.Nat.{ℕ, _+_, _*_, _/_, _%_, _<_, _≤_}
@@ -24,7 +24,9 @@ use Rattle.orbits.specs.Counterparts.{Blocks, Paired, visit, loop-leaves}
 use Rattle.orbits.specs.BlockPairs.{joinedBlock, joinedPair, pair-is}
 use Rattle.orbits.specs.Transposed.{counterpart, blocksBy, size-blocks, paired, worked-is}
 use Rattle.blocks.specs.Permuted.{permuted as permutedPlace}
-use Rattle.orbits.specs.Trading.{theOther, never, staysAt, Trades, trades, stays-both, stays-rep, stays-apart, stays-told}
+use Rattle.orbits.specs.Trading.{theOther, never, staysAt, Trades, stays-rep, stays-apart, stays-told}
+use Rattle.half_shifts.specs.TrueTransposes.{swapped}
+use Rattle.half_shifts.specs.Moved.{stayIf, stay-if, stay-both, trades-if, moved-2}
 use Rattle.lines.specs.Nine.{averaged, transposed-averaged}
 use Rattle.blocks.specs.Nine.{transposed9}
 use Rattle.lines.specs.Lines.{pairAt}
@@ -37,16 +39,16 @@ trades2 = record { isOrder = (refl, omega arith); leg = lit< tt; first = refl; s
     t : (xs : List Leg) → length xs ≡ 2 → taken (1 ∷ 0 ∷ []) (taken (1 ∷ 0 ∷ []) xs) ≡ xs
     t xs l = pick-pick (0, 0) (1 ∷ 0 ∷ []) (1 ∷ 0 ∷ []) xs (omega arith) ∙ (unfold pick straight tab tabFrom in pick-straight (0, 0) 2 xs l)
 
--- the blocks with their counterparts, those that stay among them; and where none stays
-abbrev trading : Shifts → Blocks
-trading S = blocksBy S 1 order2 (staysAt S 1 0)
+-- the blocks with their counterparts, those that stay where half shifts do (h) among them; and where none stays
+abbrev trading : Bool → Shifts → Blocks
+trading h S = blocksBy S 1 order2 (stayIf h S 1 0)
 
 abbrev averaging : Shifts → Blocks
 averaging S = blocksBy S 1 order2 never
 
 -- the visit of the block of primitive atom p and atom j
-unfoldable pub transposeVisit : Shifts → ℕ → ℕ → List Float → List Float
-transposeVisit S p j l = visit nan theOther (trading S) (p * S .nSatom + j) l
+unfoldable pub transposeVisit : Bool → Shifts → ℕ → ℕ → List Float → List Float
+transposeVisit h S p j l = visit nan theOther (trading h S) (p * S .nSatom + j) l
 
 unfoldable pub averageVisit : Shifts → ℕ → ℕ → List Float → List Float
 averageVisit S p j l = visit nan mean (averaging S) (p * S .nSatom + j) l
@@ -62,11 +64,11 @@ mate S u = counterpart S 1 order2 u
 -- ---- the loops leave what Compact.antt says
 
 module _ (S : Shifts) (L : Laws S) (old : List Float) (e : length old ≡ S .nPatom * S .nSatom * 9) where
-  pub transpose-made : times (S .nPatom) (λ p. times (S .nSatom) (transposeVisit S p)) old ≡ transposed S old
+  pub transpose-made : (h : Bool) → times (S .nPatom) (λ p. times (S .nSatom) (transposeVisit h S p)) old ≡ cond h (transposed S old) (swapped S 1 (0, 1) old)
   unfolding transposeVisit transposed transposed2 room
-  transpose-made =
-      sym (times-nest (S .nPatom) (S .nSatom) (visit nan theOther (trading S)) old)
-      ∙ trades S L 1 0 order2 trades2 nan old (e ∙ sym (size2 S))
+  transpose-made h =
+      sym (times-nest (S .nPatom) (S .nSatom) (visit nan theOther (trading h S)) old)
+      ∙ trades-if S L 1 0 order2 trades2 h old (e ∙ sym (size2 S)) ∙ ap (cond h (transposed S old)) (moved-2 S old)
 
   pub average-made : times (S .nPatom) (λ p. times (S .nSatom) (averageVisit S p)) old ≡ averagedSet S old
   unfolding averageVisit averagedSet room
@@ -114,9 +116,9 @@ module _ (join : Float → Float → Float) (S : Shifts) (stay : ℕ → Bool) (
   worked P h e le = pair-is join (blocksBy S 1 order2 stay) P l u h ∙ sym (rw (e, le-ltb (mate S u) u le))
 
 module _ (S : Shifts) (p j : ℕ) (l : List Float) (h : mate S (p * S .nSatom + j) < p * S .nSatom + j) where
-  pub transpose-past : l ≡ transposeVisit S p j l
+  pub transpose-past : (s : Bool) → l ≡ transposeVisit s S p j l
   unfolding transposeVisit
-  transpose-past = past theOther S (staysAt S 1 0) (p * S .nSatom + j) l h
+  transpose-past s = past theOther S (stayIf s S 1 0) (p * S .nSatom + j) l h
 
   pub average-past : l ≡ averageVisit S p j l
   unfolding averageVisit
@@ -172,17 +174,24 @@ module _ (S : Shifts) (L : Laws S) (p j : ℕ) (hp : p < S .nPatom) (hj : j < S 
           sym (stays-told S L p j hp hj g f)
           ∙ ne-eqb (row S (nsymAt S j) (p2sAt S p)) j (λ h. ne (mate-is ∙ ap₂ (λ a b. a * n + b) f h))
 
-  pub transpose-stays : (l : List Float) → mate S u ≡ u → (p2sAt S p ≡ j → ⊥) → l ≡ transposeVisit S p j l
-  unfolding transposeVisit
-  transpose-stays l e ne = kept theOther S (staysAt S 1 0) u l (stays-is ∙ stays-own e ne)
+  stay-is : (h : Bool) → stayIf h S 1 0 u ≡ (h && stays S p j)
+  stay-is h = stay-if h S 1 0 u ∙ ap (λ s. h && s) stays-is
 
-  pub transpose-put : (l : List Float) → u ≤ mate S u → (mate S u ≡ u → ⊥) ⊎ (p2sAt S p ≡ j) → swapAt u (mate S u) l ≡ transposeVisit S p j l
+  pub transpose-stays : (h : Bool) (l : List Float) → h ≡ true → mate S u ≡ u → (p2sAt S p ≡ j → ⊥) → l ≡ transposeVisit h S p j l
   unfolding transposeVisit
-  transpose-put l le m =
+  transpose-stays h l t e ne = kept theOther S (stayIf h S 1 0) u l (stay-is h ∙ ap₂ _&&_ t (stays-own e ne))
+
+  -- where half shifts do not stay, or the pair is not one of theirs
+  all-move : (h : Bool) → (h ≡ false) ⊎ ((mate S u ≡ u → ⊥) ⊎ (p2sAt S p ≡ j)) → (h && stays S p j) ≡ false
+  all-move h (inl e) = ap (λ h. h && stays S p j) e
+  all-move true (inr m) = moves-other m
+  all-move false (inr m) = refl
+
+  pub transpose-put : (h : Bool) (l : List Float) → u ≤ mate S u → (h ≡ false) ⊎ ((mate S u ≡ u → ⊥) ⊎ (p2sAt S p ≡ j)) → swapAt u (mate S u) l ≡ transposeVisit h S p j l
+  unfolding transposeVisit
+  transpose-put h l le m =
       swap-joined u (mate S u) l
-      ∙ worked theOther S (staysAt S 1 0) u l
-      (paired S L 1 order2 (trades2 .isOrder) (trades2 .twice) nan theOther (staysAt S 1 0) (stays-both S L 1 0 order2 trades2))
-      below (stays-is ∙ moves-other m) le
+      ∙ worked theOther S (stayIf h S 1 0) u l (stay-both S L 1 0 order2 trades2 h) below (stay-is h ∙ all-move h m) le
 
   pub average-put : (l : List Float) → u ≤ mate S u → pairAt u (mate S u) l ≡ averageVisit S p j l
   unfolding averageVisit

@@ -8,6 +8,7 @@ ghost use Rattle.fc2_compact.specs.Compact.{transposed, averaged, levele
 ghost use Rattle.tables.specs.Limits.{limit2, limitLevel};
 ghost use Rattle.tables.specs.Answers.{refuseIf};
 ghost use lib.Dec.{ltb};
+ghost use Rattle.half_shifts.specs.TrueTransposes.{trueTransposeCompactFc2};
 ghost use Rattle.fc2_compact.specs.CompactCode.{Ready};
 use super::compact_pairs::average_pass;
 use super::compact_pairs::transpose_pass;
@@ -33,9 +34,29 @@ fn level_pass(
     requires { ⌜ Ready (shiftTables (now p2s) (now s2pp) (now «nsym_list») (now perms) «n_satom» «n_patom» «num_trans») (length (now fc)) ⌝ }
     ensures { λ _. ⌜ now (fc .exit) ≡ leveled (shiftsOf (shiftTables (now (p2s .entry)) (now (s2pp .entry)) (now («nsym_list» .entry)) (now (perms .entry)) «n_satom» «n_patom» «num_trans»)) (now (fc .entry)) ⌝ }
 {
-    transpose_pass(fc, p2s, s2pp, nsym_list, perms, n_satom, n_patom, num_trans);
+    transpose_pass(
+        fc,
+        p2s,
+        s2pp,
+        nsym_list,
+        perms,
+        n_satom,
+        n_patom,
+        num_trans,
+        true,
+    );
     drift_pass(fc, p2s, s2pp, nsym_list, perms, n_satom, n_patom, num_trans);
-    transpose_pass(fc, p2s, s2pp, nsym_list, perms, n_satom, n_patom, num_trans);
+    transpose_pass(
+        fc,
+        p2s,
+        s2pp,
+        nsym_list,
+        perms,
+        n_satom,
+        n_patom,
+        num_trans,
+        true,
+    );
     drift_pass(fc, p2s, s2pp, nsym_list, perms, n_satom, n_patom, num_trans);
     average_pass(fc, p2s, s2pp, nsym_list, perms, n_satom, n_patom, num_trans);
 }
@@ -105,7 +126,17 @@ fn exchange(
     ensures { λ _. ⌜ now (fc .exit) ≡ cond transpose (transposed (shiftsOf (shiftTables (now (p2s .entry)) (now (s2pp .entry)) (now («nsym_list» .entry)) (now (perms .entry)) «n_satom» «n_patom» «num_trans»)) (now (fc .entry))) (averaged (shiftsOf (shiftTables (now (p2s .entry)) (now (s2pp .entry)) (now («nsym_list» .entry)) (now (perms .entry)) «n_satom» «n_patom» «num_trans»)) (now (fc .entry))) ⌝ }
 {
     if transpose {
-        transpose_pass(fc, p2s, s2pp, nsym_list, perms, n_satom, n_patom, num_trans);
+        transpose_pass(
+            fc,
+            p2s,
+            s2pp,
+            nsym_list,
+            perms,
+            n_satom,
+            n_patom,
+            num_trans,
+            true,
+        );
         return;
     }
     average_pass(fc, p2s, s2pp, nsym_list, perms, n_satom, n_patom, num_trans);
@@ -212,6 +243,49 @@ pub fn set_index_permutation_symmetry_compact_fc(
         n_patom,
         num_trans,
         transpose,
+    );
+    lists::clear_bytes(done);
+    Answer::Done
+}
+
+// Exchanges the atoms of every pair of a compact set, those that a half shift exchanges too.
+pub fn true_transpose_compact_fc2(
+    fc: &mut [f64],
+    p2s: &[i64],
+    s2pp: &[i64],
+    nsym_list: &[i64],
+    perms: &[i64],
+    done: &mut [u8],
+    n_satom: usize,
+    n_patom: usize,
+    num_trans: usize,
+) -> Answer
+    ensures { λ r. ⌜ (r, now (fc .exit), now (done .exit)) ≡ trueTransposeCompactFc2 (now (fc .entry)) (shiftTables (now (p2s .entry)) (now (s2pp .entry)) (now («nsym_list» .entry)) (now (perms .entry)) «n_satom» «n_patom» «num_trans») (now (done .entry)) ⌝ }
+{
+    let a = judge(
+        fc.len(),
+        done.len(),
+        p2s,
+        s2pp,
+        nsym_list,
+        perms,
+        n_satom,
+        n_patom,
+        num_trans,
+    );
+    if tables::is_refusal(a) {
+        return a;
+    }
+    transpose_pass(
+        fc,
+        p2s,
+        s2pp,
+        nsym_list,
+        perms,
+        n_satom,
+        n_patom,
+        num_trans,
+        false,
     );
     lists::clear_bytes(done);
     Answer::Done

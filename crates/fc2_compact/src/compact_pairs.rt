@@ -1,11 +1,13 @@
 // Pairs of blocks of nine numbers that trade with each other.
 ghost use mathlib.Core.Path.{_≡_};
+ghost use mathlib.Core.Bool.{cond};
 ghost use Prim.Native.Nat.{_<_};
 ghost use lib.ListN.{length};
 ghost use Rattle.lines.specs.Lines.{Inside};
 ghost use Rattle.fc2_compact.specs.CompactVisits.{swapAt, transposeVisit, averageVisit};
 ghost use Rattle.fc2_compact.specs.CompactCode.{Ready, ReadyAt};
 ghost use Rattle.fc2_compact.specs.Compact.{transposed, averaged};
+ghost use Rattle.half_shifts.specs.TrueTransposes.{swapped};
 ghost use Rattle.tables.specs.Compact.{shiftTables, shiftsOf};
 ghost use Rattle.lists.specs.Tab.{times};
 use blocks::transposed9;
@@ -26,7 +28,7 @@ fn swap_blocks(fc: &mut [f64], b: usize, c: usize)
 }
 
 // The visit of block (p, j) in the transpose: it and its counterpart, the read-out block of atoms j and i, change places, transposed, if it is the
-// one with the smaller number. A block that is its own counterpart is transposed if it is that of i with itself; a half-shift block stays.
+// one with the smaller number. Where half shifts stay, a block that is its own counterpart is transposed only if it is that of i with itself.
 // Where j's primitive atom comes before p, so does the counterpart, whatever the rows say.
 fn transpose_visit(
     fc: &mut [f64],
@@ -37,12 +39,13 @@ fn transpose_visit(
     n_satom: usize,
     n_patom: usize,
     num_trans: usize,
+    half_shifts_stay: bool,
     p: PrimAtom,
     i: SuperAtom,
     j: SuperAtom,
 )
     requires { ⌜ ReadyAt (shiftTables (now p2s) (now s2pp) (now «nsym_list») (now perms) «n_satom» «n_patom» «num_trans») (length (now fc)) (p .0) (i .0) (j .0) ⌝ }
-    ensures { λ _. ⌜ now (fc .exit) ≡ transposeVisit (shiftsOf (shiftTables (now (p2s .entry)) (now (s2pp .entry)) (now («nsym_list» .entry)) (now (perms .entry)) «n_satom» «n_patom» «num_trans»)) (p .0) (j .0) (now (fc .entry)) ⌝ }
+    ensures { λ _. ⌜ now (fc .exit) ≡ transposeVisit «half_shifts_stay» (shiftsOf (shiftTables (now (p2s .entry)) (now (s2pp .entry)) (now («nsym_list» .entry)) (now (perms .entry)) «n_satom» «n_patom» «num_trans»)) (p .0) (j .0) (now (fc .entry)) ⌝ }
 {
     if s2pp_at(s2pp, j).0 < p.0 {
         return;
@@ -50,6 +53,10 @@ fn transpose_visit(
     let b = places::block2(p, j, n_satom);
     let c = places::read_out2(s2pp, nsym_list, perms, j, i, n_satom);
     if c < b {
+        return;
+    }
+    if !half_shifts_stay {
+        swap_blocks(fc, b, c);
         return;
     }
     if c == b {
@@ -98,10 +105,11 @@ fn transpose_row(
     n_satom: usize,
     n_patom: usize,
     num_trans: usize,
+    half_shifts_stay: bool,
     p: usize,
 )
     requires { ⌜ Ready (shiftTables (now p2s) (now s2pp) (now «nsym_list») (now perms) «n_satom» «n_patom» «num_trans») (length (now fc)) × (p < «n_patom») ⌝ }
-    ensures { λ _. ⌜ now (fc .exit) ≡ times «n_satom» (transposeVisit (shiftsOf (shiftTables (now (p2s .entry)) (now (s2pp .entry)) (now («nsym_list» .entry)) (now (perms .entry)) «n_satom» «n_patom» «num_trans»)) p) (now (fc .entry)) ⌝ }
+    ensures { λ _. ⌜ now (fc .exit) ≡ times «n_satom» (transposeVisit «half_shifts_stay» (shiftsOf (shiftTables (now (p2s .entry)) (now (s2pp .entry)) (now («nsym_list» .entry)) (now (perms .entry)) «n_satom» «n_patom» «num_trans»)) p) (now (fc .entry)) ⌝ }
 {
     let i = p2s_at(p2s, PrimAtom(p));
     let mut j = 0;
@@ -115,6 +123,7 @@ fn transpose_row(
             n_satom,
             n_patom,
             num_trans,
+            half_shifts_stay,
             PrimAtom(p),
             i,
             SuperAtom(j),
@@ -123,7 +132,7 @@ fn transpose_row(
     }
 }
 
-// The whole set transposed.
+// The whole set transposed, half-shift blocks too unless they stay.
 pub fn transpose_pass(
     fc: &mut [f64],
     p2s: &[i64],
@@ -133,9 +142,10 @@ pub fn transpose_pass(
     n_satom: usize,
     n_patom: usize,
     num_trans: usize,
+    half_shifts_stay: bool,
 )
     requires { ⌜ Ready (shiftTables (now p2s) (now s2pp) (now «nsym_list») (now perms) «n_satom» «n_patom» «num_trans») (length (now fc)) ⌝ }
-    ensures { λ _. ⌜ now (fc .exit) ≡ transposed (shiftsOf (shiftTables (now (p2s .entry)) (now (s2pp .entry)) (now («nsym_list» .entry)) (now (perms .entry)) «n_satom» «n_patom» «num_trans»)) (now (fc .entry)) ⌝ }
+    ensures { λ _. ⌜ now (fc .exit) ≡ cond «half_shifts_stay» (transposed (shiftsOf (shiftTables (now (p2s .entry)) (now (s2pp .entry)) (now («nsym_list» .entry)) (now (perms .entry)) «n_satom» «n_patom» «num_trans»)) (now (fc .entry))) (swapped (shiftsOf (shiftTables (now (p2s .entry)) (now (s2pp .entry)) (now («nsym_list» .entry)) (now (perms .entry)) «n_satom» «n_patom» «num_trans»)) 1 (0, 1) (now (fc .entry))) ⌝ }
 {
     let mut p = 0;
     while p < n_patom {
@@ -148,6 +158,7 @@ pub fn transpose_pass(
             n_satom,
             n_patom,
             num_trans,
+            half_shifts_stay,
             p,
         );
         p += 1;

@@ -1,5 +1,6 @@
--- The laws of demand 3 at tables and a list that exist, so that their hypotheses can be met: sheet 6's three atoms, any set and work slices of
--- the stated lengths, and a list of four calls of which the second brings other tables and is refused. Assumes nothing.
+-- The laws of demand 3 and of the true transposes at tables and lists that exist, so that their hypotheses can be met: sheet 6's three atoms, any
+-- set and work slices of the stated lengths, and a list of four calls of which the second brings other tables and is refused; for the true ones
+-- sheet 7's two atoms, which a half shift exchanges. Assumes nothing.
 use mathlib.Core.Path.{_≡_, refl, sym, ap, _∙_}
 use mathlib.Core.Bool.{Bool, true, false, true≢false}
 use mathlib.Core.List.{List, [], _∷_}
@@ -10,12 +11,13 @@ use lib.Dec.{lit<}
 use lib.IntN.{ℤ, pos, negsuc}
 use lib.ListN.{length}
 use lib.Ieee.{Float, nan}
-use Rattle.lists.specs.Tab.{tab}
+use Rattle.lists.specs.Tab.{tab, tabFrom}
 use Rattle.lists.specs.Tests.{every, some}
 use Rattle.lists.specs.Elements.{pick, straight}
 use Rattle.lists.specs.Digits.{room}
 use Rattle.tables.specs.declared.Answer.the-variants.{Done, Refused}
 use Rattle.tables.specs.declared.Refusal.the-variants.{WrongLength}
+use Rattle.tables.specs.Answers.{isRefusal}
 use Rattle.tables.specs.Conditions.{outOfRange}
 use Rattle.tables.specs.Shifts.{row, p2sAt, s2ppAt, nsymAt, distinct, isNull, isAfter, follows, countsAgree, rowsInjective, hasNull, rowsClosed, rowsFree, p2sBack, s2ppKept, nsymLands, ruled, NoHalfShift}
 use Rattle.tables.specs.Limits.{limit3, limit4}
@@ -27,10 +29,15 @@ use Rattle.fc3_groups.specs.Mean.{mean6}
 use Rattle.fc3.specs.Symmetrize.{setPermutationSymmetryCompactFc3}
 use Rattle.fc4_groups.specs.Mean24.{mean24}
 use Rattle.fc4.specs.Symmetrize.{setPermutationSymmetryCompactFc4}
-use Rattle.transposes.specs.Fc3.{judgedTranspose, transposeCompactFc3}
+use Rattle.transposes_fc3.specs.Fc3.{judgedTranspose, transposeCompactFc3}
 use Rattle.laws.specs.Symmetrized.{Symmetric, third, fourth}
 use Rattle.laws.specs.Sequences.{spells}
-use Rattle.laws.specs.Transposes.{Call, refused, permutationOf, permutationBy, spelled, left, Own, Law, law}
+use Rattle.laws.specs.CallLists.{permutationBy, spelled as spelledBy}
+use Rattle.laws.specs.Transposes.{Call, refused, permutationOf, spelled, left, Own, Law, law}
+use Rattle.half_shifts.specs.Exchanging.{partner, exchanging}
+use Rattle.half_shifts.specs.TrueTransposes.{legs3}
+use Rattle.laws.specs.CallLists as lists
+use Rattle.laws.specs.TrueLists.{third as trueThird, law3}
 use Rattle.laws.specs.Sheets.{threeAtoms, twoAtoms}
 
 -- the tables pass with sets of 1 × 3² × 27 and 1 × 3³ × 81 numbers
@@ -106,7 +113,7 @@ module _ (set : List Float) (work : List ℕ) (e : length set ≡ 243) (f : leng
   first-done type = rw (e, f, answers .0)
 
   spells-120 : spelled (length set) (fourCalls work) ≡ 1 ∷ 2 ∷ 0 ∷ []
-  unfolding spelled spells permutationBy permutationOf order pick straight tab
+  unfolding spelled spelledBy spells permutationBy permutationOf order pick straight tab
   spells-120 = rw (first-done (pos 0), second-refused (pos 1), first-done (pos 2), first-done (pos 7)) refl
 
   pub law-moves : (x y w : Leg) → Legs (shiftsOf threeAtoms) 2 (x ∷ y ∷ w ∷ [])
@@ -115,3 +122,45 @@ module _ (set : List Float) (work : List ℕ) (e : length set ≡ 243) (f : leng
       let at : taken (1 ∷ 2 ∷ 0 ∷ []) (x ∷ y ∷ w ∷ []) ≡ y ∷ w ∷ x ∷ [] = unfold pick in refl in
       ap (readOut nan (shiftsOf threeAtoms) (left (fourCalls work) set)) (sym at ∙ ap (λ o. taken o (x ∷ y ∷ w ∷ [])) (sym spells-120))
       ∙ law-holds .stands-at (x ∷ y ∷ w ∷ []) p
+
+-- ---- a list of true transposes, over two atoms that a half shift exchanges
+
+-- types 0, 1 and 2; the second call brings the tables of three atoms, which ask for a set of 243 numbers
+abbrev pub trueCalls : List ℕ → List Call
+trueCalls work =
+    record { type = pos 0; tables = twoAtoms; work = work }
+    ∷ record { type = pos 1; tables = threeAtoms; work = work }
+    ∷ record { type = pos 2; tables = twoAtoms; work = work } ∷ []
+
+true-answers : (judgedCompact limit3 2 108 1 2 twoAtoms ≡ Done) × (judgedCompact limit3 2 108 1 2 threeAtoms ≡ Refused WrongLength)
+unfolding judgedCompact room judgedTables judgedEntries outOfRange ruled countsAgree rowsInjective hasNull rowsClosed rowsFree p2sBack s2ppKept nsymLands distinct isNull isAfter follows row p2sAt s2ppAt nsymAt every some
+true-answers = (refl, refl)
+
+module _ (set : List Float) (work : List ℕ) (e : length set ≡ 108) (f : length work ≡ 2) where
+  true-done : isRefusal (judgedCompact limit3 2 (length set) 1 (length work) twoAtoms) ≡ false
+  true-done = rw (e, f, true-answers .0)
+
+  true-refused : isRefusal (judgedCompact limit3 2 (length set) 1 (length work) threeAtoms) ≡ true
+  true-refused = rw (e, f, true-answers .1)
+
+  true-own : lists.Own trueThird twoAtoms (length set) (trueCalls work)
+  true-own = ((λ _. refl), ((λ r. absurd (true≢false (sym true-refused ∙ r))), ((λ _. refl), tt)))
+
+  true-size : length set ≡ size (shiftsOf twoAtoms) 2
+  unfolding size room
+  true-size = e
+
+  pub true-law-holds : lists.Law trueThird twoAtoms set (trueCalls work)
+  true-law-holds = law3 twoAtoms set (trueCalls work) true-size true-own
+
+  -- It spells 1, 2, 0 as well, whatever a half shift exchanges.
+  true-spells : spelledBy trueThird (length set) (trueCalls work) ≡ 1 ∷ 2 ∷ 0 ∷ []
+  unfolding spelledBy spells permutationBy legs3 exchanging partner pick straight tab tabFrom
+  true-spells = rw (true-done, true-refused) refl
+
+  pub true-law-moves : (x y w : Leg) → Legs (shiftsOf twoAtoms) 2 (x ∷ y ∷ w ∷ [])
+      → readOut nan (shiftsOf twoAtoms) (lists.left trueThird (trueCalls work) set) (y ∷ w ∷ x ∷ []) ≡ readOut nan (shiftsOf twoAtoms) set (x ∷ y ∷ w ∷ [])
+  true-law-moves x y w p =
+      let at : taken (1 ∷ 2 ∷ 0 ∷ []) (x ∷ y ∷ w ∷ []) ≡ y ∷ w ∷ x ∷ [] = unfold pick in refl in
+      ap (readOut nan (shiftsOf twoAtoms) (lists.left trueThird (trueCalls work) set)) (sym at ∙ ap (λ o. taken o (x ∷ y ∷ w ∷ [])) (sym true-spells))
+      ∙ true-law-holds .stands-at (x ∷ y ∷ w ∷ []) p

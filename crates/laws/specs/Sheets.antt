@@ -35,7 +35,7 @@ use Rattle.fc2.specs.Full.{permTransSymmetrizeFc}
 use Rattle.fc2.specs.FullSheets as second
 use Rattle.fc3_groups.specs.Mean.{mean6}
 use Rattle.fc3.specs.Symmetrize.{judgedFull3, setPermutationSymmetryFc3}
-use Rattle.transposes.specs.Fc3.{transposedBy, judgedTranspose, transposeCompactFc3}
+use Rattle.transposes_fc3.specs.Fc3.{transposedBy, judgedTranspose, transposeCompactFc3}
 use Rattle.fc4_groups.specs.Mean24.{mean24}
 
 -- ---- how the sheets' data are written

@@ -11,12 +11,12 @@ use Rattle.fc2_compact.proofs.compact_pairs.transpose_pass.Statement.{s
 use Rattle.fc2_compact.proofs.compact_pairs.transpose_pass.Tie as tie
 
 abbrev Inv-loop : tie.InvT-loop
-Inv-loop fc₀ p2s s2pp nsym-list perms n-satom n-patom num-trans p₀ fc p =
+Inv-loop fc₀ p2s s2pp nsym-list perms n-satom n-patom num-trans half-shifts-stay p₀ fc p =
     (p ≤ n-patom) × (length fc ≡ length fc₀)
-    × (fc ≡ times p (λ p. times n-satom (transposeVisit (shiftsOf (shiftTables p2s s2pp nsym-list perms n-satom n-patom num-trans)) p)) fc₀)
+    × (fc ≡ times p (λ p. times n-satom (transposeVisit half-shifts-stay (shiftsOf (shiftTables p2s s2pp nsym-list perms n-satom n-patom num-trans)) p)) fc₀)
 
 abbrev μ-loop : tie.MeasureT-loop
-μ-loop fc₀ p2s s2pp nsym-list perms n-satom n-patom num-trans p₀ fc p = n-patom - p
+μ-loop fc₀ p2s s2pp nsym-list perms n-satom n-patom num-trans half-shifts-stay p₀ fc p = n-patom - p
 
 loop-holds : tie.Need-loop-holds Inv-loop μ-loop
 loop-holds c = (omega arith, refl, times-none _ _)
@@ -47,7 +47,7 @@ returns c =
     let l = c .before .loop in
     let s = c .before .before .before in
     let e : l .p ≡ s .args .n-patom = omega arith in
-    l .inv .2 ∙ rw e (transpose-all (s .args .fc .now) (s .pre))
+    l .inv .2 ∙ rw e (transpose-all (s .args .fc .now) (s .pre) (s .args .half-shifts-stay))
 
 pub transpose-pass-spec : {M : Type 1} → statement M
 transpose-pass-spec =

@@ -11,12 +11,12 @@ use Rattle.fc2_compact.proofs.compact_pairs.transpose_row.Statement.{st
 use Rattle.fc2_compact.proofs.compact_pairs.transpose_row.Tie as tie
 
 abbrev Inv-loop : tie.InvT-loop
-Inv-loop fc₀ p2s s2pp nsym-list perms n-satom n-patom num-trans p i j₀ fc j =
+Inv-loop fc₀ p2s s2pp nsym-list perms n-satom n-patom num-trans half-shifts-stay p i j₀ fc j =
     (j ≤ n-satom) × (length fc ≡ length fc₀)
-    × (fc ≡ times j (transposeVisit (shiftsOf (shiftTables p2s s2pp nsym-list perms n-satom n-patom num-trans)) p) fc₀)
+    × (fc ≡ times j (transposeVisit half-shifts-stay (shiftsOf (shiftTables p2s s2pp nsym-list perms n-satom n-patom num-trans)) p) fc₀)
 
 abbrev μ-loop : tie.MeasureT-loop
-μ-loop fc₀ p2s s2pp nsym-list perms n-satom n-patom num-trans p i j₀ fc j = n-satom - j
+μ-loop fc₀ p2s s2pp nsym-list perms n-satom n-patom num-trans half-shifts-stay p i j₀ fc j = n-satom - j
 
 p2s-at-requires : tie.Need-p2s-at-requires Inv-loop μ-loop
 p2s-at-requires c κs = let s = c .before in p2s-read (s .pre .0) (s .args .p) (s .pre .1)

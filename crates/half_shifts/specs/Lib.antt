@@ -1,0 +1,4 @@
+pub mod Exchanging
+pub mod TrueTransposes
+pub mod HalfShift
+pub mod Moved

@@ -1,0 +1,157 @@
+// Replays the true transposes of second, third and fourth order through their C names, against what their definition left
+// in oracle/. Its input are pages of records; oracle/README.md says what the words of a record are. It writes how many calls
+// were compared, how many differ in the answer or in a slice, how many there are of each answer, and a checksum of the inputs
+// and of all that was worked out from them.
+use capi_fc2::gf_true_transpose_compact_fc2;
+use capi_fc3::gf_true_transpose_compact_fc3;
+use capi_fc4::gf_true_transpose_compact_fc4;
+use records::steps::count_of;
+use records::steps::ends;
+use records::steps::first;
+use records::steps::size;
+use records::wide;
+use replays::Tally;
+
+// Third or fourth order, whose calls have a type. The answer's number.
+fn typed(
+    r: &[u8],
+    set: &mut [f64],
+    done: &mut [u8],
+    p2s: &[i64],
+    s2pp: &[i64],
+    nsym_list: &[i64],
+    perms: &[i64],
+) -> u64 {
+    let n_satom = count_of(r, 11);
+    let n_patom = count_of(r, 12);
+    let num_trans = count_of(r, 13);
+    let t_type = records::integer(records::word_of(r, 6));
+    if count_of(r, 4) == 3 {
+        return wide(gf_true_transpose_compact_fc3(
+            set,
+            p2s,
+            s2pp,
+            nsym_list,
+            perms,
+            done,
+            n_satom,
+            n_patom,
+            num_trans,
+            t_type,
+        ));
+    }
+    wide(gf_true_transpose_compact_fc4(
+        set,
+        p2s,
+        s2pp,
+        nsym_list,
+        perms,
+        done,
+        n_satom,
+        n_patom,
+        num_trans,
+        t_type,
+    ))
+}
+
+// The call of the order that the record names. The answer's number.
+fn compact(
+    r: &[u8],
+    set: &mut [f64],
+    done: &mut [u8],
+    p2s: &[i64],
+    s2pp: &[i64],
+    nsym_list: &[i64],
+    perms: &[i64],
+) -> u64 {
+    if count_of(r, 4) == 2 {
+        return wide(gf_true_transpose_compact_fc2(
+            set,
+            p2s,
+            s2pp,
+            nsym_list,
+            perms,
+            done,
+            count_of(r, 11),
+            count_of(r, 12),
+            count_of(r, 13),
+        ));
+    }
+    typed(r, set, done, p2s, s2pp, nsym_list, perms)
+}
+
+// Takes the tables apart, which are one after another: perms, p2s, s2pp, nsym_list.
+fn with_tables(r: &[u8], set: &mut [f64], done: &mut [u8], all: &[i64]) -> u64 {
+    let a = ends(0, count_of(r, 14), all.len());
+    let b = ends(a, count_of(r, 15), all.len());
+    let c = ends(b, count_of(r, 16), all.len());
+    let d = ends(c, count_of(r, 17), all.len());
+    compact(r, set, done, &all[a..b], &all[b..c], &all[c..d], &all[0..a])
+}
+
+// The call of the record. The answer's number. There is room for 256 entries of perms and 65 of each other table.
+fn call(r: &[u8], set: &mut [f64], done: &mut [u8]) -> u64 {
+    let mut all = [0i64; 451];
+    records::values::integers(r, 18, &mut all);
+    with_tables(r, set, done, &all)
+}
+
+// The set before the call: made from the seed, or as the call before left it.
+fn prepare(r: &[u8], set: &mut [f64]) {
+    if count_of(r, 5) == 1 {
+        records::values::fill(set, records::word_of(r, 7), records::word_of(r, 8));
+    }
+}
+
+// What the call of the record gave: the number of its answer, and the checksums of the set and of the work slice.
+fn run(r: &[u8], set: &mut [f64], done: &mut [u8]) -> [u64; 3] {
+    prepare(r, set);
+    records::values::fill_bytes(done, records::word_of(r, 7));
+    let a = call(r, set, done);
+    let s = records::values::mix_floats(set, 0);
+    let w = records::values::mix_bytes(done, 0);
+    [a, s, w]
+}
+
+// The record r, with room for its set and its work slice.
+fn step(t: Tally, r: &[u8], set: &mut [f64], work: &mut [u8]) -> Tally {
+    let n = size(records::word_of(r, 9), set.len());
+    let m = size(records::word_of(r, 10), work.len());
+    let got = run(r, &mut set[0..n], &mut work[0..m]);
+    replays::compared(t, r, got[0], &got)
+}
+
+// The records of a page, after those of the pages before.
+fn replay(s: &[u8], so_far: Tally, set: &mut [f64], work: &mut [u8]) -> Tally {
+    let mut t = so_far;
+    let n = records::count(s);
+    let mut at = first(s);
+    let mut i = 0;
+    while i < n {
+        let e = records::end(s, at);
+        let more = step(t, &s[at..e], set, work);
+        t = more;
+        at = e;
+        i += 1;
+    }
+    t
+}
+
+fn read_page(so_far: Tally, set: &mut [f64], work: &mut [u8]) -> Tally {
+    let mut page = io::large_buffer();
+    let n = io::read_full(0, &mut page);
+    replay(&page[..n], so_far, set, work)
+}
+
+fn two_pages(so_far: Tally, set: &mut [f64], work: &mut [u8]) -> Tally {
+    let t = read_page(so_far, set, work);
+    read_page(t, set, work)
+}
+
+// No file has more than four pages: the report would not have the records of a fifth.
+fn main() {
+    let mut set = [0.0f64; 83000];
+    let mut work = [0u8; 2048];
+    let t = two_pages(replays::none(), &mut set, &mut work);
+    replays::report(b"true transposes", two_pages(t, &mut set, &mut work));
+}

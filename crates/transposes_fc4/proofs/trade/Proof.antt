@@ -1,0 +1,47 @@
+use Rattle.half_shifts.specs.HalfShift.{prim-small, read-tables, rep-read}
+use Rattle.transposes_fc4.specs.Fc4Loops.{found-in, found-now, found-met}
+use borrow.Author.Needs.{needs}
+use Rattle.transposes_fc4.proofs.trade.Statement.{statement}
+use Rattle.transposes_fc4.proofs.trade.Tie as tie
+
+block4-requires : tie.Need-block4-requires
+block4-requires c κs =
+    let s = c .before in
+    let M = s .pre .0 in
+    (M .trading .sound .fit .satoms, prim-small _ (M .trading .sound) (s .args .p .0) (M .first), M .second, s .pre .1 .0, s .pre .1 .1)
+
+read-out4-requires : tie.Need-read-out4-requires
+read-out4-requires c κs =
+    let s = c .before .before in
+    let M = s .pre .0 in
+    let Z = M .trading .sound in
+    (read-tables _ Z, M .second, rw (M .rep) (rep-read _ Z _ (M .first) .1), s .pre .1 .0, s .pre .1 .1)
+
+exchange-requires : tie.Need-exchange-requires
+exchange-requires c κs =
+    let s = c .before .before .before .before .before in
+    found-in _ _ (s .args .p .0) (s .args .i .0) (s .args .j .0) (s .args .k .0) (s .args .l .0) (s .pre .0) (s .pre .1 .0) (s .pre .1 .1) _ _ (c .before .before .before .block4 .ensures) (c .before .before .read-out4 .ensures)
+
+same-length : tie.Need-same-length
+same-length c = search needs
+
+returns : tie.Need-returns
+returns c =
+    let s = c .before .before .before .before .before .before .before .before in
+    found-now _ _ (s .args .p .0) (s .args .i .0) (s .args .j .0) (s .args .k .0) (s .args .l .0) (s .pre .0) (s .pre .1 .0) (s .pre .1 .1) _ _ (c .before .before .before .before .before .before .block4 .ensures) (c .before .before .before .before .before .read-out4 .ensures) (c .before .before .before .before .if1 .taken) (s .args .fc4 .now) (c .before .before .exchange .ensures)
+
+returns-2 : tie.Need-returns-2
+returns-2 c =
+    let s = c .before .before .before .before in
+    found-met _ _ (s .args .p .0) (s .args .i .0) (s .args .j .0) (s .args .k .0) (s .args .l .0) (s .pre .0) (s .pre .1 .0) (s .pre .1 .1) _ _ (c .before .before .block4 .ensures) (c .before .read-out4 .ensures) (c .if1 .left) (s .args .fc4 .now)
+
+pub trade-spec : {M : Type 1} → statement M
+trade-spec =
+    tie.close
+    (tie.spec
+    block4-requires
+    read-out4-requires
+    exchange-requires
+    same-length
+    returns
+    returns-2)

@@ -1,0 +1,3 @@
+pub mod Fc4
+pub mod Runs
+pub mod Fc4Loops
