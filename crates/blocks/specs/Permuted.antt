@@ -1,4 +1,4 @@
--- The 27 numbers of a block with their directions in another order, written out and by their rule. Assumes nothing.
+-- The 27 numbers of a block with their directions permuted, written out and by their rule. Assumes nothing.
 use mathlib.Core.Path.{_≡_, refl, ap, _∙_}
 use mathlib.Core.List.{List, [], _∷_}
 use Prim.Native.Nat.{ℕ, zero, suc, _+_}

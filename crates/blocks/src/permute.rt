@@ -1,4 +1,4 @@
-// Blocks of 27 numbers with their directions in another order: number (l, m, n) of the result is the number of the block at the
+// Blocks of 27 numbers with their directions permuted: number (l, m, n) of the result is the number of the block at the
 // directions that the function is named for. Written out, so that the compiler moves the numbers without working out any place.
 ghost use mathlib.Core.Path.{_≡_};
 ghost use Rattle.blocks.specs.Permuted.{gathered, lnm, mln, mnl, nlm, nml};

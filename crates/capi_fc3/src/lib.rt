@@ -148,7 +148,7 @@ pub extern "C" fn gf_rotate_delta_fc2s(
 ) -> u8
     ensures { λ r. ⌜ (r, now (fc3 .exit), now («rot_delta» .exit)) ≡ numberedWith (rotateDeltaFc2s (record { deltas = now («delta_fc2s» .entry); invU = now («inv_u» .entry); siteSymCart = now («site_sym_cart» .entry); rotMapSyms = now («rot_map_syms» .entry); numAtom = «num_atom»; numSiteSym = «num_site_sym»; numDisp = «num_disp» }) (now (fc3 .entry)) (now («rot_delta» .entry))) ⌝ }
 {
-    let a = deltas::rotate_delta_fc2s(
+    let a = deltas_fc2s::rotate_delta_fc2s(
         fc3,
         delta_fc2s,
         inv_u,

@@ -152,7 +152,7 @@ pub extern "C" fn gf_rotate_delta_fc3s(
 ) -> u8
     ensures { λ r. ⌜ (r, now (fc4 .exit), now («rot_delta» .exit)) ≡ numberedWith (rotateDeltaFc3s (record { deltas = now («delta_fc3s» .entry); invU = now («inv_u» .entry); siteSymCart = now («site_sym_cart» .entry); rotMapSyms = now («rot_map_syms» .entry); numAtom = «num_atom»; numSiteSym = «num_site_sym»; numDisp = «num_disp» }) (now (fc4 .entry)) (now («rot_delta» .entry))) ⌝ }
 {
-    let a = deltas::rotate_delta_fc3s(
+    let a = deltas_fc3s::rotate_delta_fc3s(
         fc4,
         delta_fc3s,
         inv_u,

@@ -1,14 +1,14 @@
--- What the averages mean: an averaged set reads out, for any two legs, the mean of the old read-outs in both orders, and to average it once more
--- changes nothing, as long as no sum of two equal numbers overflows. So it does not matter that the Rust takes some means twice.
+-- What the averages mean: an averaged set reads out, for any two legs, the mean of the old read-outs at both permutations, and to average it once more
+-- changes nothing, whatever the numbers are. So it does not matter that the Rust takes some means twice.
 -- On its own diagonal a block takes (x + x) / 2 at the first average: x again, but an infinity where x + x overflows. Assumes nothing.
-use mathlib.Core.Path.{_≡_, refl, sym, ap, ap₂, _∙_}
+use mathlib.Core.Path.{_≡_, refl, sym, ap, ap₂, _∙_, subst}
 use mathlib.Core.List.{List, [], _∷_}
 use Prim.Native.Nat.{ℕ}
 use native.Mathlib.Omega.{arith}
 use lib.ListN.{length}
 use lib.Dec.{T}
 use lib.Ieee.{Float, nan, binary64, add, fits}
-use lib.Ieee.Fits.{div-fits}
+use lib.Ieee.Fits.{div-fits, add-fits}
 use Rattle.lists.specs.Floats.{add-commutes}
 use Rattle.lists.specs.Elements.{pick, pick-pick, straight, pick-straight}
 use Rattle.lists.specs.Tab.{tab, tabFrom}
@@ -18,7 +18,7 @@ use Rattle.places.specs.Permutations.{taken, Permutation, taken-legs}
 use Rattle.places.specs.Moves.{order2, source-stored}
 use Rattle.lines.specs.Nine.{half}
 use Rattle.fc2_compact.specs.Compact.{mean, averaged}
-use Rattle.fc2_compact.specs.Doubles.{Doubles, mean-same}
+use Rattle.fc2_compact.specs.Doubles.{Doubles, mean-same, half-doubles}
 
 exchange : Permutation 1 order2
 exchange = (refl, omega arith)
@@ -43,16 +43,22 @@ module _ (S : Shifts) (L : Laws S) where
         ∙ ap half (add-commutes binary64 (readOut nan S set (taken order2 xs)) (readOut nan S set xs))
         ∙ sym (readOut-averaged set xs p)
 
-    pub averaged-twice : ((xs : List Leg) → Legs S 1 xs → Doubles (readOut nan S (averaged S set) xs)) → averaged S (averaged S set) ≡ averaged S set
-    averaged-twice d =
+    pub averaged-twice : averaged S (averaged S set) ≡ averaged S set
+    averaged-twice =
         same-readOut S L nan 1 (averaged S (averaged S set)) (averaged S set) (long (averaged S set)) (long set)
         (λ xs p.
         readOut-averaged (averaged S set) xs p
         ∙ ap (mean (readOut nan S (averaged S set) xs)) (symmetric xs p)
-        ∙ mean-same (readOut nan S (averaged S set) xs) (fit xs p) (d xs p))
+        ∙ mean-same (readOut nan S (averaged S set) xs) (fit xs p) (doubles xs p))
       where
         long : (s : List Float) → length (averaged S s) ≡ size S 1
         long s = unfold averaged in length-fill S 1 _
 
         fit : (xs : List Leg) → Legs S 1 xs → T (fits binary64 (readOut nan S (averaged S set) xs))
         fit xs p = rw (readOut-averaged set xs p) (div-fits binary64 _ _)
+
+        -- a mean is a half, so it can be doubled
+        doubles : (xs : List Leg) → Legs S 1 xs → Doubles (readOut nan S (averaged S set) xs)
+        doubles xs p =
+            subst (λ (x : Float). Doubles x) (sym (readOut-averaged set xs p))
+            (half-doubles (add binary64 (readOut nan S set xs) (readOut nan S set (taken order2 xs))) (add-fits binary64 (readOut nan S set xs) (readOut nan S set (taken order2 xs))))

@@ -1,16 +1,19 @@
--- The mean of two equal numbers is that number, unless their sum overflows: (x + x) / 2 is x. Assumes nothing.
+-- The mean of two equal numbers is that number, unless their sum overflows: (x + x) / 2 is x. A half, and so every mean of two numbers, is
+-- small enough for that. Assumes nothing.
 use mathlib.Core.Path.{_≡_, refl, sym, ap, ap₂, _∙_, subst}
 use mathlib.Core.Bool.{Bool, true, false, _&&_}
 use mathlib.Core.Logic.{⊎-elim}
-use Prim.Native.Nat.{ℕ, zero, suc, _+_, _-_, _*_, _%_, _^_, _<_, _≤_}
-use native.Mathlib.Nat.{add-zero, mul-one, one-mul, zero-mul, mul-pos, zero-lt-suc, mul-comm, mul-assoc, lt-of-lt-of-le, lt-irrefl, mul-le-mul-right, mul-right-comm, mul-lt-mul-of-pos-right, not-le-of-lt, le-trans, le-of-eq, pow-succ'}
+use Prim.Native.Nat.{ℕ, zero, suc, _+_, _-_, _*_, _/_, _%_, _^_, _<_, _≤_, compare}
+use native.Mathlib.Nat.{add-zero, mul-one, one-mul, zero-mul, mul-pos, zero-lt-suc, mul-comm, mul-assoc, lt-of-lt-of-le, lt-irrefl, mul-le-mul-right, mul-right-comm, mul-lt-mul-of-pos-right, lt-of-mul-lt-mul-right, lt-of-le-of-lt, div-lt-iff-lt-mul, not-le-of-lt, le-trans, le-of-eq, pow-succ'}
 use native.Mathlib.Omega.{arith}
 use lib.IntN.{ℤ, pos, negsuc}
-use lib.Dec.{T, eqb, ltb, leb, eqb→eq, ltb→lt, leb→le}
+use lib.Dec.{T, eqb, ltb, leb, eqb→eq, ltb→lt, leb→le, lit<}
 use lib.Pow.{pow-add, pow-pos, pow-lt}
-use lib.Ieee.{Float, nan, inf, fin, Format, binary64, prec, emax, low, up, down, round, add, sum, div, fits, ofBits}
-use lib.Ieee.Fits.{and-l, and-r, up-pos, down-pos, round-fits}
-use lib.Ieee.Exact.{HasValue, round-exact}
+use lib.Ieee.{Float, nan, inf, fin, Format, binary64, prec, emax, low, up, down, size, units, round, add, sum, div, fits, ofBits}
+use lib.Ieee.Digits.{size-le}
+use lib.Ieee.Fits.{and-l, and-r, up-pos, down-pos, core, nearest-le, round-is, round-fits}
+use lib.Ieee.Exact.{HasValue, round-exact, units-val}
+use lib.Ieee.Nearest.{closest}
 use lib.Ieee.Scale.{round-same}
 use Rattle.lists.specs.Cases.{lt-or-le}
 use Rattle.lines.specs.Nine.{half}
@@ -58,6 +61,7 @@ record Held (f : Format) (m : ℕ) (e : ℤ) : Type 0 where
   pub is-odd : m % 2 ≡ 1
   pub short : m < 2 ^ prec f
   pub fine : down e ≤ 2 ^ low f
+  pub small : m * up e < 2 ^ suc (emax f) * down e
 
 held : (f : Format) (s : Bool) (m : ℕ) (e : ℤ) → T (fits f (fin s (suc m) e)) → Held f (suc m) e
 unfolding fits
@@ -72,6 +76,7 @@ held f s m e t =
       is-odd = eqb→eq (suc m % 2) 1 (and-l a b ab);
       short = ltb→lt (suc m) (2 ^ prec f) (and-r a b ab);
       fine = leb→le (down e) (2 ^ low f) (and-r (a && b) c abc);
+      small = ltb→lt (suc m * up e) (2 ^ suc (emax f) * down e) (and-r (a && b && c) d t);
     }
 
 -- on the format's grid: up e / down e is 2 ^ j of its smallest steps
@@ -218,3 +223,103 @@ mean-same (fin t zero e) F d =
     let z = zero-exponent t e F in
     ap (λ k. half (add f64 (fin t zero k) (fin t zero k))) z ∙ mean-zero t ∙ ap (fin t zero) (sym z)
 mean-same (fin t (suc m) e) F d = mean-fin t m e F d
+
+-- ---- half of any number can be doubled
+
+bound : (y c a d k : ℕ) → y * c ≡ a * d → a * 2 < k * c → 0 < d → y * 2 < k * d
+bound y c a d k e h p =
+    let l : y * 2 * c ≡ a * 2 * d = mul-right-comm y 2 c ∙ ap (λ x. x * 2) e ∙ mul-right-comm a d 2 in
+    lt-of-mul-lt-mul-right c (subst (λ (x : ℕ). x < k * d * c) (sym l) (subst (λ (x : ℕ). a * 2 * d < x) (mul-right-comm k c d) (mul-lt-mul-of-pos-right h p)))
+
+of-value : (x : Float) (t : Bool) (a c : ℕ) → HasValue x t a c → a * 2 < 2 ^ suc (emax f64) * c → Doubles x
+of-value nan t a c v h = absurd v
+of-value (inf u) t a c v h = absurd v
+of-value (fin u m e) t a c v h = bound (m * up e) c a (down e) (2 ^ suc (emax f64)) (v .1) h (down-pos e)
+
+-- a half that the format holds
+shape : (k u l p q d : ℕ) → q ≡ 2 * p → u * l ≡ q * d → k * u * 1 * l ≡ k * p * (1 * 2 * d)
+shape k u l p q d e h =
+    let z : k * (2 * p * d) ≡ k * p * (1 * 2 * d) = omega arith in
+    ap (λ x. x * l) (mul-one (k * u)) ∙ mul-assoc k u l ∙ ap (λ x. k * x) (h ∙ ap (λ x. x * d) e) ∙ z
+
+half-less : (k p q b : ℕ) → q ≡ 2 * p → k * q < b → k * p < b
+half-less k p q b e h =
+    let g : k * (2 * p) < b = subst (λ (x : ℕ). k * x < b) e h in
+    omega arith
+
+in-halves : (x k d : ℕ) → x < k * d → x * 1 * 2 < k * (1 * 2 * d)
+in-halves x k d h = omega arith
+
+-- a half of few of the smallest steps
+few : (k p d : ℕ) → k < p → 0 < d → k * d < p * (1 * 2 * d)
+few k p d h z =
+    let a : k * d < p * d = mul-lt-mul-of-pos-right h z in
+    omega arith
+
+none : (z p : ℕ) → z ≤ p → z - p ≡ 0
+none z p h = omega arith
+
+under : (a p q r : ℕ) → a ≤ p → q ≡ 2 * p → q < r → a * 2 < r
+under a p q r h e g = omega arith
+
+at-none : (t : Bool) (n c : ℕ) → n / c < 2 ^ prec f64 → Doubles (core f64 t n c 0)
+at-none t n c w =
+    let q = closest n (c * 2 ^ 0) in
+    let b : q * 2 ^ 0 ≤ 2 ^ prec f64 = le-trans (le-of-eq (mul-one q)) (subst (λ (u : ℕ). closest n u ≤ 2 ^ prec f64) (sym (mul-one c)) (le-trans (nearest-le (n / c) (compare (n % c * 2) c)) w)) in
+    let g : prec f64 < low f64 + suc (emax f64) = lit< tt in
+    let g′ : suc (prec f64) < suc (emax f64) + low f64 = lit< tt in
+    of-value (units f64 t q 0) t (q * 2 ^ 0) (2 ^ low f64) (units-val f64 t q 0 (lt-of-le-of-lt b (pow-lt g)))
+    (under (q * 2 ^ 0) (2 ^ prec f64) (2 ^ suc (prec f64)) (2 ^ suc (emax f64) * 2 ^ low f64) b (doubled (prec f64))
+    (subst (λ (x : ℕ). 2 ^ suc (prec f64) < x) (pow-add 2 (suc (emax f64)) (low f64)) (pow-lt g′)))
+
+tiny : (t : Bool) (n c : ℕ) → 0 < c → n < 2 ^ prec f64 * c → Doubles (core f64 t n c (size (n / c) - prec f64))
+tiny t n c p h =
+    let w : n / c < 2 ^ prec f64 = div-lt-iff-lt-mul p .1 h in
+    subst (λ (k : ℕ). Doubles (core f64 t n c k)) (sym (none (size (n / c)) (prec f64) (size-le (n / c) (prec f64) w))) (at-none t n c w)
+
+module _ (t : Bool) (k : ℕ) (g : ℤ) (short : k < 2 ^ prec f64) (fine : down g ≤ 2 ^ low f64) (small : k * up g < 2 ^ suc (emax f64) * down g) where
+  abbrev num : ℕ
+  num = k * up g * 1
+
+  abbrev den : ℕ
+  den = 1 * 2 * down g
+
+  den-pos : 0 < den
+  den-pos = let d = down-pos g in omega arith
+
+  rounded : (j : ℕ) → up g * 2 ^ low f64 ≡ 2 ^ j * down g → Doubles (round f64 t num den)
+  rounded zero e =
+      let n : num * 2 ^ low f64 ≡ k * down g = ap (λ x. x * 2 ^ low f64) (mul-one (k * up g)) ∙ mul-assoc k (up g) (2 ^ low f64) ∙ ap (λ x. k * x) (e ∙ one-mul (down g)) in
+      subst (λ (x : Float). Doubles x) (sym (round-is f64 t num den))
+      (tiny t (num * 2 ^ low f64) den den-pos (subst (λ (x : ℕ). x < 2 ^ prec f64 * den) (sym n) (few k (2 ^ prec f64) (down g) short (down-pos g))))
+  rounded (suc i) e =
+      of-value (round f64 t num den) t num den
+      (round-exact f64 t num den k i den-pos short
+      (half-less k (2 ^ i) (2 ^ suc i) (2 ^ (low f64 + suc (emax f64))) (doubled i)
+      (below k (up g) (down g) (2 ^ low f64) (2 ^ suc i) (2 ^ suc (emax f64)) (2 ^ (low f64 + suc (emax f64))) (pow-pos (low f64)) (pow-add 2 (low f64) (suc (emax f64))) e small))
+      (shape k (up g) (2 ^ low f64) (2 ^ i) (2 ^ suc i) (down g) (doubled i) e))
+      (in-halves (k * up g) (2 ^ suc (emax f64)) (down g) small)
+
+  halved : Doubles (half (fin t k g))
+  halved =
+      let j = on-grid (low f64) g fine in
+      subst (λ (x : Float). Doubles x) (sym (half-of t k g)) (rounded (j .0) (j .1))
+
+half-nan : half nan ≡ nan
+unfolding div
+half-nan = refl
+
+half-inf : (s : Bool) → half (inf s) ≡ inf s
+unfolding div ofBits
+half-inf true = refl
+half-inf false = refl
+
+pub half-doubles : (x : Float) → T (fits f64 x) → Doubles (half x)
+half-doubles nan F = subst (λ (x : Float). Doubles x) (sym half-nan) tt
+half-doubles (inf s) F = subst (λ (x : Float). Doubles x) (sym (half-inf s)) tt
+half-doubles (fin t zero e) F =
+    subst (λ (d : ℤ). Doubles (half (fin t zero d))) (sym (zero-exponent t e F))
+    (halved t 0 (pos 0) (pow-pos (prec f64)) (pow-pos (low f64)) (mul-pos (pow-pos (suc (emax f64))) (down-pos (pos 0))))
+half-doubles (fin t (suc m) e) F =
+    let H = held f64 t m e F in
+    halved t (suc m) e (H .short) (H .fine) (H .small)

@@ -25,7 +25,7 @@ use Rattle.places.specs.Permutations.{six, six-group}
 use Rattle.places.specs.Whole.{whole, whole-laws, size-whole}
 use Rattle.places.specs.Addresses.{block-below}
 use Rattle.orbits.specs.Transposed.{counterpart}
-use Rattle.orbits.specs.AtBlocks.{storedOf, whole-block, whole-counterpart}
+use Rattle.orbits.specs.AtBlocks.{whole-block, whole-counterpart}
 use Rattle.orbits.specs.Groups.{groupBlocks, meanBlock, spreadBlock, Distinct}
 use Rattle.orbits.specs.Symmetric.{symmetrized}
 use Rattle.orbits.specs.GroupLoop.{worked, firstVisit, isFirst, visit-first, visit-later, lowest-leaves}
@@ -140,19 +140,15 @@ module _ (n a b c : ℕ) (s : Sorted n a b c) where
 -- ---- the group of a block
 
 module _ (n a b c : ℕ) (ha : a < n) (hb : b < n) (hc : c < n) where
-  at-order : (σ : List ℕ) → counterpart (whole n) 2 σ (full3At n a b c) ≡ storedOf (whole n) (pick 0 σ (a ∷ b ∷ c ∷ []))
+  at-order : (σ : List ℕ) (x y z : ℕ) → pick 0 σ (a ∷ b ∷ c ∷ []) ≡ x ∷ y ∷ z ∷ [] → x < n → y < n → z < n → counterpart (whole n) 2 σ (full3At n a b c) ≡ full3At n x y z
   unfolding horner
-  at-order σ = whole-counterpart n a (b ∷ c ∷ []) ha (hb, (hc, tt)) σ
-
-  stored-at : (x y z : ℕ) → x < n → y < n → z < n → storedOf (whole n) (x ∷ y ∷ z ∷ []) ≡ full3At n x y z
-  unfolding horner storedOf
-  stored-at x y z hx hy hz = whole-block n x (y ∷ z ∷ []) hx (hy, (hz, tt))
+  at-order σ x y z e hx hy hz = whole-counterpart n a (b ∷ c ∷ []) ha (hb, (hc, tt)) σ x (y ∷ z ∷ []) e ∙ whole-block n x (y ∷ z ∷ []) hx (hy, (hz, tt))
 
   group-six : groupBlocks (whole n) 2 six (full3At n a b c) ≡ sixOf n a b c
   unfolding groupBlocks six pick
   group-six =
-      six-same (at-order (0 ∷ 1 ∷ 2 ∷ []) ∙ stored-at a b c ha hb hc) (at-order (0 ∷ 2 ∷ 1 ∷ []) ∙ stored-at a c b ha hc hb) (at-order (1 ∷ 0 ∷ 2 ∷ []) ∙ stored-at b a c hb ha hc)
-      (at-order (1 ∷ 2 ∷ 0 ∷ []) ∙ stored-at b c a hb hc ha) (at-order (2 ∷ 0 ∷ 1 ∷ []) ∙ stored-at c a b hc ha hb) (at-order (2 ∷ 1 ∷ 0 ∷ []) ∙ stored-at c b a hc hb ha)
+      six-same (at-order (0 ∷ 1 ∷ 2 ∷ []) a b c refl ha hb hc) (at-order (0 ∷ 2 ∷ 1 ∷ []) a c b refl ha hc hb) (at-order (1 ∷ 0 ∷ 2 ∷ []) b a c refl hb ha hc)
+      (at-order (1 ∷ 2 ∷ 0 ∷ []) b c a refl hb hc ha) (at-order (2 ∷ 0 ∷ 1 ∷ []) c a b refl hc ha hb) (at-order (2 ∷ 1 ∷ 0 ∷ []) c b a refl hc hb ha)
 
 -- ---- the loops
 

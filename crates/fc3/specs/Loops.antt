@@ -25,7 +25,7 @@ use Rattle.places.specs.Permutations.{six, six-group}
 use Rattle.places.specs.Addresses.{storedBlock, fits3, block-below}
 use Rattle.places.specs.ReadOuts.{Tables, tables, storedIn, stored-in, stored-below}
 use Rattle.orbits.specs.Transposed.{counterpart}
-use Rattle.orbits.specs.AtBlocks.{storedOf, counterpart-at, stored-own}
+use Rattle.orbits.specs.AtBlocks.{counterpart-at, stored-own}
 use Rattle.orbits.specs.Groups.{groupBlocks, meanBlock, spreadBlock}
 use Rattle.orbits.specs.Spread.{setAll}
 use Rattle.orbits.specs.Symmetric.{symmetrized}
@@ -117,8 +117,8 @@ module _ (lenSet w lenWork : ℕ) (T : ShiftTables) (R : Ready lenSet w lenWork 
     i-below : i < T .nSatom
     i-below = R .rules .p2s-below p (a .0)
 
-    -- the counterpart for an order, from the tables
-    at-order : (σ : List ℕ) → counterpart S 2 σ (at3 T p j k) ≡ storedOf S (pick 0 σ (i ∷ j ∷ k ∷ []))
+    -- the counterpart for a permutation, from the tables
+    at-order : (σ : List ℕ) (x : ℕ) (ys : List ℕ) → pick 0 σ (i ∷ j ∷ k ∷ []) ≡ x ∷ ys → counterpart S 2 σ (at3 T p j k) ≡ storedBlock S x ys
     unfolding horner
     at-order σ = counterpart-at S p (j ∷ k ∷ []) (a .1, (a .2, tt)) σ
 
@@ -133,9 +133,11 @@ module _ (lenSet w lenWork : ℕ) (T : ShiftTables) (R : Ready lenSet w lenWork 
     -- the six blocks
     pub group-are : groupBlocks S 2 six (at3 T p j k)
         ≡ at3 T p j k ∷ at3 T p k j ∷ storedBlock S j (i ∷ k ∷ []) ∷ storedBlock S j (k ∷ i ∷ []) ∷ storedBlock S k (i ∷ j ∷ []) ∷ storedBlock S k (j ∷ i ∷ []) ∷ []
-    unfolding groupBlocks six storedOf pick
+    unfolding groupBlocks six pick
     group-are =
-        six-same (at-order (0 ∷ 1 ∷ 2 ∷ []) ∙ own) (at-order (0 ∷ 2 ∷ 1 ∷ []) ∙ own-other) (at-order (1 ∷ 0 ∷ 2 ∷ [])) (at-order (1 ∷ 2 ∷ 0 ∷ [])) (at-order (2 ∷ 0 ∷ 1 ∷ [])) (at-order (2 ∷ 1 ∷ 0 ∷ []))
+        six-same (at-order (0 ∷ 1 ∷ 2 ∷ []) i (j ∷ k ∷ []) refl ∙ own) (at-order (0 ∷ 2 ∷ 1 ∷ []) i (k ∷ j ∷ []) refl ∙ own-other)
+        (at-order (1 ∷ 0 ∷ 2 ∷ []) j (i ∷ k ∷ []) refl) (at-order (1 ∷ 2 ∷ 0 ∷ []) j (k ∷ i ∷ []) refl)
+        (at-order (2 ∷ 0 ∷ 1 ∷ []) k (i ∷ j ∷ []) refl) (at-order (2 ∷ 1 ∷ 0 ∷ []) k (j ∷ i ∷ []) refl)
 
     -- the blocks as the program finds them: v is the representative of p
     pub record Found (v b0 b1 b2 b3 b4 b5 : ℕ) : Type 0 where

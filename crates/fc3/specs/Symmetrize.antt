@@ -10,10 +10,8 @@ use Rattle.tables.specs.Answers.{after, refuseIf}
 use Rattle.tables.specs.Conditions.{anyAbove, anyWrong}
 use Rattle.tables.specs.Compact.{ShiftTables, shiftsOf, judgedCompact}
 use Rattle.tables.specs.Limits.{limit3}
-use Rattle.places.specs.Permutations.{six}
-use Rattle.places.specs.Whole.{whole}
-use Rattle.orbits.specs.Symmetric.{symmetrized}
-use Rattle.fc3_groups.specs.Mean.{mean6}
+use Rattle.places.specs.Places.{six, whole}
+use Rattle.orbits.specs.Symmetric.{symmetrized, mean6}
 
 -- the compact set: n_patom × n_satom² × 27 numbers, n_patom × n_satom² bytes of work
 unfoldable pub setPermutationSymmetryCompactFc3 : List Float → ShiftTables → List ℕ → Answer × List Float × List ℕ

@@ -1,4 +1,4 @@
--- Groups of which some blocks are the same one. Their six blocks are filled in a local, where each different block has one slot, and then written whole:
+-- Groups of which some blocks are the same one. Their six blocks are filled as values, each different block in one slot, and then written whole:
 -- that is the numbers written to their spots in the set. Assumes nothing.
 use mathlib.Core.Path.{_≡_, refl, sym, ap, ap₂, _∙_}
 use mathlib.Core.Bool.{Bool, true, false, cond, _||_, false≢true}
@@ -9,14 +9,14 @@ use native.Mathlib.Nat.{mod-lt, div-add-mod', not-suc-le-zero}
 use native.Mathlib.Decide.{ℕ-discrete}
 use native.Mathlib.Omega.{arith}
 use lib.Dec.{eqb, lit<}
-use lib.ListN.{length, getD}
-use lib.Seq.{ext-getD}
+use lib.ListN.{length, getD, set, length-set}
+use lib.Seq.{ext-getD, getD-set-same, getD-set-other}
 use lib.Ieee.{Float, nan}
 use borrow.Author.Tests.{eqb-true, eq-eqb, ne-eqb}
 use Rattle.lists.specs.Tests.{same-test, refuted, split}
 use Rattle.lists.specs.Cases.{eq-or-ne}
-use Rattle.lists.specs.Tab.{tab, tab-ext, times}
-use Rattle.lists.specs.Elements.{All, straight, pick}
+use Rattle.lists.specs.Tab.{tab, tab-ext, length-tab, getD-tab, is-tab, times}
+use Rattle.lists.specs.Elements.{All, all-at, straight, pick}
 use Rattle.lists.specs.Digits.{quotient, remainder}
 use Rattle.lists.specs.Members.{In, oneOf}
 use Rattle.blocks.specs.Block.{block, putBlock, length-putBlock, getD-block, put-inside, put-outside}
@@ -35,9 +35,89 @@ unfoldable pub firstAt : List ℕ → ℕ → ℕ
 firstAt [] b = 0
 firstAt (a ∷ ns) b = cond (eqb a b) 0 (suc (firstAt ns b))
 
--- six slots of a local of 162 numbers
-pub slots-in : {n s0 s1 s2 s3 s4 s5 : ℕ} → 162 ≤ n → s0 < 6 → s1 < 6 → s2 < 6 → s3 < 6 → s4 < 6 → s5 < 6 → Blocks6 n s0 s1 s2 s3 s4 s5
-slots-in h h0 h1 h2 h3 h4 h5 = record { in0 = omega arith; in1 = omega arith; in2 = omega arith; in3 = omega arith; in4 = omega arith; in5 = omega arith }
+-- ---- six blocks as values
+
+abbrev pub Six : List (List Float) → Type 0
+Six g = (length g ≡ 6) × All (λ v. length v ≡ 27) g
+
+-- their numbers, block after block
+unfoldable pub flat : List (List Float) → List Float
+flat g = tab 162 (λ q. getD (getD g (q / 27) []) (q % 27) nan)
+
+pub length-flat : (g : List (List Float)) → length (flat g) ≡ 162
+unfolding flat
+length-flat g = length-tab 162 _
+
+getD-flat : (g : List (List Float)) (s k : ℕ) → s < 6 → k < 27 → getD (flat g) (s * 27 + k) nan ≡ getD (getD g s []) k nan
+unfolding flat
+getD-flat g s k h i =
+    getD-tab 162 (λ q. getD (getD g (q / 27) []) (q % 27) nan) (s * 27 + k) nan (omega arith)
+    ∙ ap₂ (λ a b. getD (getD g a []) b nan) (quotient 27 s k i) (remainder 27 s k i)
+
+flat-block : (g : List (List Float)) (s : ℕ) → Six g → s < 6 → getD g s [] ≡ block 27 s (flat g)
+unfolding block
+flat-block g s w h =
+    is-tab nan 27 _ (getD g s []) (all-at (λ v. length v ≡ 27) g s [] (w .1) (rw (w .0) h)) (λ k i. sym (getD-flat g s k h i))
+
+all-set : {A : Type 0} (P : A → Type 0) (l : List A) (k : ℕ) (v : A) → All P l → P v → All P (set l k v)
+all-set P [] k v a p = tt
+all-set P (x ∷ l) zero v a p = (p, a .1)
+all-set P (x ∷ l) (suc k) v a p = (a .0, all-set P l k v (a .1) p)
+
+-- a number written in one of the blocks
+module _ (g : List (List Float)) (s k : ℕ) (x : Float) (w : Six g) (hs : s < 6) (hk : k < 27) where
+  abbrev after : List (List Float)
+  after = set g s (set (getD g s []) k x)
+
+  long : length (getD g s []) ≡ 27
+  long = all-at (λ v. length v ≡ 27) g s [] (w .1) (rw (w .0) hs)
+
+  pub six-set : Six after
+  six-set = (length-set g s _ ∙ w .0, all-set (λ v. length v ≡ 27) g s (set (getD g s []) k x) (w .1) (length-set (getD g s []) k x ∙ long))
+
+  in-block : (a b : ℕ) → a < 6 → b < 27 → getD (getD after a []) b nan ≡ getD (set (flat g) (s * 27 + k) x) (a * 27 + b) nan
+  in-block a b ha hb = ⊎-elim same other (eq-or-ne a s)
+    where
+      elsewhere : (a * 27 + b ≡ s * 27 + k → ⊥) → getD (set (flat g) (s * 27 + k) x) (a * 27 + b) nan ≡ getD (getD g a []) b nan
+      elsewhere n = getD-set-other (flat g) (s * 27 + k) (a * 27 + b) x nan n ∙ getD-flat g a b ha hb
+
+      same : a ≡ s → getD (getD after a []) b nan ≡ getD (set (flat g) (s * 27 + k) x) (a * 27 + b) nan
+      same e =
+          ap (λ a. getD (getD after a []) b nan) e ∙ ap (λ v. getD v b nan) (getD-set-same g s (set (getD g s []) k x) [] (rw (w .0) hs))
+          ∙ ⊎-elim here there (eq-or-ne b k)
+        where
+          here : b ≡ k → getD (set (getD g s []) k x) b nan ≡ getD (set (flat g) (s * 27 + k) x) (a * 27 + b) nan
+          here f =
+              ap (λ b. getD (set (getD g s []) k x) b nan) f ∙ getD-set-same (getD g s []) k x nan (rw long hk)
+              ∙ sym (ap₂ (λ a b. getD (set (flat g) (s * 27 + k) x) (a * 27 + b) nan) e f ∙ getD-set-same (flat g) (s * 27 + k) x nan (rw (length-flat g) (omega arith)))
+
+          there : (b ≡ k → ⊥) → getD (set (getD g s []) k x) b nan ≡ getD (set (flat g) (s * 27 + k) x) (a * 27 + b) nan
+          there n =
+              getD-set-other (getD g s []) k b x nan n ∙ ap (λ a. getD (getD g a []) b nan) (sym e)
+              ∙ sym (elsewhere (λ q. n (sym (remainder 27 a b hb) ∙ ap (λ y. y % 27) q ∙ remainder 27 s k hk)))
+
+      other : (a ≡ s → ⊥) → getD (getD after a []) b nan ≡ getD (set (flat g) (s * 27 + k) x) (a * 27 + b) nan
+      other n =
+          ap (λ v. getD v b nan) (getD-set-other g s a (set (getD g s []) k x) [] n)
+          ∙ sym (elsewhere (λ q. n (sym (quotient 27 a b hb) ∙ ap (λ y. y / 27) q ∙ quotient 27 s k hk)))
+
+  pub flat-set : flat after ≡ set (flat g) (s * 27 + k) x
+  flat-set =
+      ext-getD nan (flat after) (set (flat g) (s * 27 + k) x) (length-flat after ∙ sym (length-set (flat g) (s * 27 + k) x ∙ length-flat g))
+      (λ q h.
+      let l : q < 162 = rw (length-flat after) at h in
+      let e : q / 27 * 27 + q % 27 ≡ q = div-add-mod' q 27 in
+      let m : q % 27 < 27 = mod-lt q (lit< tt) in
+      let d : q / 27 < 6 = omega arith in
+      ap (λ q. getD (flat after) q nan) (sym e) ∙ getD-flat after (q / 27) (q % 27) d m ∙ in-block (q / 27) (q % 27) d m
+      ∙ ap (λ q. getD (set (flat g) (s * 27 + k) x) q nan) e)
+
+-- six slots of six blocks
+pub slots-in : {s0 s1 s2 s3 s4 s5 : ℕ} → s0 < 6 → s1 < 6 → s2 < 6 → s3 < 6 → s4 < 6 → s5 < 6 → Blocks6 162 s0 s1 s2 s3 s4 s5
+slots-in h0 h1 h2 h3 h4 h5 = record { in0 = omega arith; in1 = omega arith; in2 = omega arith; in3 = omega arith; in4 = omega arith; in5 = omega arith }
+
+pub slot-below : {s : ℕ} → s * 27 + 27 ≤ 162 → s < 6
+slot-below h = omega arith
 
 -- ---- two blocks have the same slot where they are the same
 
@@ -172,17 +252,17 @@ spot-in m (σ ∷ os) (τ ∷ ts) (b ∷ bs) k q u h (inr i) a = spot-in m os ts
 -- ---- the six blocks
 
 -- six blocks of g written to the set, one after the other
-unfoldable pub copySix : ℕ → ℕ → ℕ → ℕ → ℕ → ℕ → ℕ → ℕ → ℕ → ℕ → ℕ → ℕ → List Float → List Float → List Float
+unfoldable pub copySix : ℕ → ℕ → ℕ → ℕ → ℕ → ℕ → ℕ → ℕ → ℕ → ℕ → ℕ → ℕ → List (List Float) → List Float → List Float
 copySix b0 b1 b2 b3 b4 b5 s0 s1 s2 s3 s4 s5 g xs =
-    putBlock 27 b5 (block 27 s5 g)
-    (putBlock 27 b4 (block 27 s4 g)
-    (putBlock 27 b3 (block 27 s3 g)
-    (putBlock 27 b2 (block 27 s2 g)
-    (putBlock 27 b1 (block 27 s1 g) (putBlock 27 b0 (block 27 s0 g) xs)))))
+    putBlock 27 b5 (getD g s5 [])
+    (putBlock 27 b4 (getD g s4 [])
+    (putBlock 27 b3 (getD g s3 [])
+    (putBlock 27 b2 (getD g s2 [])
+    (putBlock 27 b1 (getD g s1 []) (putBlock 27 b0 (getD g s0 []) xs)))))
 
-pub six-copies : (x0 g : List Float) {x1 x2 x3 x4 x5 x6 : List Float} (b0 b1 b2 b3 b4 b5 s0 s1 s2 s3 s4 s5 : ℕ)
-    → x6 ≡ putBlock 27 b5 (block 27 s5 g) x5 → x5 ≡ putBlock 27 b4 (block 27 s4 g) x4 → x4 ≡ putBlock 27 b3 (block 27 s3 g) x3
-    → x3 ≡ putBlock 27 b2 (block 27 s2 g) x2 → x2 ≡ putBlock 27 b1 (block 27 s1 g) x1 → x1 ≡ putBlock 27 b0 (block 27 s0 g) x0
+pub six-copies : (x0 : List Float) (g : List (List Float)) {x1 x2 x3 x4 x5 x6 : List Float} (b0 b1 b2 b3 b4 b5 s0 s1 s2 s3 s4 s5 : ℕ)
+    → x6 ≡ putBlock 27 b5 (getD g s5 []) x5 → x5 ≡ putBlock 27 b4 (getD g s4 []) x4 → x4 ≡ putBlock 27 b3 (getD g s3 []) x3
+    → x3 ≡ putBlock 27 b2 (getD g s2 []) x2 → x2 ≡ putBlock 27 b1 (getD g s1 []) x1 → x1 ≡ putBlock 27 b0 (getD g s0 []) x0
     → x6 ≡ copySix b0 b1 b2 b3 b4 b5 s0 s1 s2 s3 s4 s5 g x0
 unfolding copySix
 six-copies x0 g b0 b1 b2 b3 b4 b5 s0 s1 s2 s3 s4 s5 e6 e5 e4 e3 e2 e1 = cc
@@ -228,20 +308,20 @@ module _ (b0 b1 b2 b3 b4 b5 : ℕ) (v xs g : List Float) where
           (in-has (b * 27 + p) (spots 2 six bs (C .d)) (rw in27 at (C .spot))))
 
   -- THE POINT: the local's blocks written to the set
-  pub group-put : {s0 s1 s2 s3 s4 s5 : ℕ} {G x : List Float}
+  pub group-put : {s0 s1 s2 s3 s4 s5 : ℕ} (G : List (List Float)) {x : List Float}
       → Blocks6 (length xs) b0 b1 b2 b3 b4 b5 → s0 ≡ slotOf b0 → s1 ≡ slotOf b1 → s2 ≡ slotOf b2 → s3 ≡ slotOf b3 → s4 ≡ slotOf b4 → s5 ≡ slotOf b5
-      → G ≡ spreadBlock 2 six (s0 ∷ s1 ∷ s2 ∷ s3 ∷ s4 ∷ s5 ∷ []) v g → Blocks6 (length g) s0 s1 s2 s3 s4 s5
+      → Six G → flat G ≡ spreadBlock 2 six (s0 ∷ s1 ∷ s2 ∷ s3 ∷ s4 ∷ s5 ∷ []) v g → length g ≡ 162 → Blocks6 162 s0 s1 s2 s3 s4 s5
       → x ≡ copySix b0 b1 b2 b3 b4 b5 s0 s1 s2 s3 s4 s5 G xs
       → x ≡ new
   unfolding copySix
-  group-put {s0} {s1} {s2} {s3} {s4} {s5} {G} R e0 e1 e2 e3 e4 e5 eG S k =
-      let L : G ≡ local = eG ∙ (rw (e0, e1, e2, e3, e4, e5) refl) in
-      let z0 = ap₂ (block 27) e0 L ∙ slot-is b0 (inl (inl refl)) (inl refl) (R .in0) (rw e0 at (S .in0)) in
-      let z1 = ap₂ (block 27) e1 L ∙ slot-is b1 (inl (inr (inl refl))) (inr (inl refl)) (R .in1) (rw e1 at (S .in1)) in
-      let z2 = ap₂ (block 27) e2 L ∙ slot-is b2 (inl (inr (inr (inl refl)))) (inr (inr (inl refl))) (R .in2) (rw e2 at (S .in2)) in
-      let z3 = ap₂ (block 27) e3 L ∙ slot-is b3 (inl (inr (inr (inr (inl refl))))) (inr (inr (inr (inl refl)))) (R .in3) (rw e3 at (S .in3)) in
-      let z4 = ap₂ (block 27) e4 L ∙ slot-is b4 (inl (inr (inr (inr (inr (inl refl)))))) (inr (inr (inr (inr (inl refl))))) (R .in4) (rw e4 at (S .in4)) in
-      let z5 = ap₂ (block 27) e5 L ∙ slot-is b5 (inr refl) (inr (inr (inr (inr (inr (inl refl)))))) (R .in5) (rw e5 at (S .in5)) in
+  group-put {s0} {s1} {s2} {s3} {s4} {s5} G R e0 e1 e2 e3 e4 e5 w eG lg S k =
+      let L : flat G ≡ local = eG ∙ (rw (e0, e1, e2, e3, e4, e5) refl) in
+      let z0 = flat-block G s0 w (slot-below (S .in0)) ∙ ap₂ (block 27) e0 L ∙ slot-is b0 (inl (inl refl)) (inl refl) (R .in0) (rw lg (rw e0 at (S .in0))) in
+      let z1 = flat-block G s1 w (slot-below (S .in1)) ∙ ap₂ (block 27) e1 L ∙ slot-is b1 (inl (inr (inl refl))) (inr (inl refl)) (R .in1) (rw lg (rw e1 at (S .in1))) in
+      let z2 = flat-block G s2 w (slot-below (S .in2)) ∙ ap₂ (block 27) e2 L ∙ slot-is b2 (inl (inr (inr (inl refl)))) (inr (inr (inl refl))) (R .in2) (rw lg (rw e2 at (S .in2))) in
+      let z3 = flat-block G s3 w (slot-below (S .in3)) ∙ ap₂ (block 27) e3 L ∙ slot-is b3 (inl (inr (inr (inr (inl refl))))) (inr (inr (inr (inl refl)))) (R .in3) (rw lg (rw e3 at (S .in3))) in
+      let z4 = flat-block G s4 w (slot-below (S .in4)) ∙ ap₂ (block 27) e4 L ∙ slot-is b4 (inl (inr (inr (inr (inr (inl refl)))))) (inr (inr (inr (inr (inl refl))))) (R .in4) (rw lg (rw e4 at (S .in4))) in
+      let z5 = flat-block G s5 w (slot-below (S .in5)) ∙ ap₂ (block 27) e5 L ∙ slot-is b5 (inr refl) (inr (inr (inr (inr (inr (inl refl)))))) (R .in5) (rw lg (rw e5 at (S .in5))) in
       k ∙ all refl z0 refl z1 refl z2 refl z3 refl z4 refl z5 ∙ whole
     where
       all : {w0 w1 w2 w3 w4 w5 x1 x2 x3 x4 x5 x6 : List Float}

@@ -1,4 +1,4 @@
--- The mean of six numbers (document 01: summed in the Rust's order and divided once), and what a group of blocks of third order holds of it.
+-- The means of six numbers (mean6 in `orbits` specs/Symmetric) over the blocks of a group of third order.
 -- Assumes nothing.
 use mathlib.Core.Path.{_≡_, refl, sym, ap, ap₂, _∙_}
 use Prim.Native.Nat.{ℕ, _+_, _*_, _≤_, _<_}
@@ -7,7 +7,6 @@ use lib.Dec.{lit<}
 use mathlib.Core.List.{List, [], _∷_, map}
 use lib.ListN.{length, getD}
 use lib.Ieee.{Float, nan, binary64, add, div, ofBits}
-use Rattle.lists.specs.Floats.{sumFrom}
 use Rattle.lists.specs.Tab.{tab, tabFrom, getD-tab, tab-ext}
 use Rattle.lists.specs.Elements.{straight}
 use Rattle.lists.specs.Digits.{room}
@@ -17,12 +16,8 @@ use Rattle.orbits.specs.Blockwise.{inBlock}
 use Rattle.orbits.specs.Transposed.{permuted-is-below}
 use Rattle.blocks.specs.Permuted.{permuted, permutedBlock, gathered, lnm, mln, mnl, nlm, nml, lnm-is, mln-is, mnl-is, nlm-is, nml-is}
 use Rattle.orbits.specs.Groups.{spots, meanBlock}
+pub use Rattle.orbits.specs.Symmetric.{mean6}
 use Rattle.orbits.proofs.Scatter.{permuted-straight}
-
--- the sum begins with the first number, so that six times -0.0 gives -0.0; divided by 6.0
-abbrev pub mean6 : List Float → Float
-mean6 [] = nan
-mean6 (x ∷ xs) = div binary64 (sumFrom x xs) (ofBits binary64 0x4018_0000_0000_0000)
 
 -- the six blocks' means, position by position: each block already permuted to the first one's directions
 unfoldable pub means : List Float → List Float → List Float → List Float → List Float → List Float → List Float

@@ -4,30 +4,28 @@ ghost use mathlib.Core.Bool.{true};
 ghost use mathlib.Core.List.{[], _∷_};
 ghost use Prim.Native.Nat.{_+_, _*_, _<_, _≤_};
 ghost use lib.ListN.{length, set};
-ghost use Rattle.blocks.specs.Block.{block, putBlock};
 ghost use Rattle.places.specs.Permutations.{six};
 ghost use Rattle.orbits.specs.Groups.{spots, meanBlock, spreadBlock, Apart, Distinct};
 ghost use Rattle.orbits.specs.Spread.{setAll};
 ghost use Rattle.fc3_groups.specs.Mean.{mean6, Blocks6};
 ghost use Rattle.fc3_groups.specs.Spread.{putSix, lineAt, planeAt};
-ghost use Rattle.fc3_groups.specs.Coinciding.{firstAt, copySix};
+ghost use Rattle.fc3_groups.specs.Coinciding.{firstAt, copySix, Six, flat};
 use crate::mean::group_means;
 use blocks::permute;
 use places::dir3;
-use places::with_leg;
 
-// x written at directions l, m, n of block s of the group's local.
-fn put(group: &mut [f64], s: usize, l: usize, m: usize, n: usize, x: f64)
-    requires { ⌜ (s * 27 + 27 ≤ length (now group)) × (length (now group) ≤ 162) × (l < 3) × (m < 3) × (n < 3) ⌝ }
-    ensures { λ _. ⌜ now (group .exit) ≡ set (now (group .entry)) (s * 27 + ((l * 3 + m) * 3 + n)) x ⌝ }
+// x written at directions l, m, n of block s of the group.
+fn put(group: &mut [[f64; 27]; 6], s: usize, l: usize, m: usize, n: usize, x: f64)
+    requires { ⌜ Six (now group) × (s < 6) × (l < 3) × (m < 3) × (n < 3) ⌝ }
+    ensures { λ _. ⌜ Six (now (group .exit)) × (flat (now (group .exit)) ≡ set (flat (now (group .entry))) (s * 27 + ((l * 3 + m) * 3 + n)) x) ⌝ }
 {
-    let at = with_leg(s, 27, dir3(l, m, n));
-    group[at] = x;
+    let at = dir3(l, m, n);
+    group[s][at] = x;
 }
 
 // The mean x of directions l, m, n written to its six places.
 fn put_spots(
-    group: &mut [f64],
+    group: &mut [[f64; 27]; 6],
     s0: usize,
     s1: usize,
     s2: usize,
@@ -39,8 +37,8 @@ fn put_spots(
     n: usize,
     x: f64,
 )
-    requires { ⌜ Blocks6 (length (now group)) s0 s1 s2 s3 s4 s5 × (length (now group) ≤ 162) × (l < 3) × (m < 3) × (n < 3) ⌝ }
-    ensures { λ _. ⌜ now (group .exit) ≡ setAll (spots 2 six (s0 ∷ s1 ∷ s2 ∷ s3 ∷ s4 ∷ s5 ∷ []) ((l * 3 + m) * 3 + n)) x (now (group .entry)) ⌝ }
+    requires { ⌜ Six (now group) × Blocks6 162 s0 s1 s2 s3 s4 s5 × (l < 3) × (m < 3) × (n < 3) ⌝ }
+    ensures { λ _. ⌜ Six (now (group .exit)) × (flat (now (group .exit)) ≡ setAll (spots 2 six (s0 ∷ s1 ∷ s2 ∷ s3 ∷ s4 ∷ s5 ∷ []) ((l * 3 + m) * 3 + n)) x (flat (now (group .entry)))) ⌝ }
 {
     put(group, s0, l, m, n, x);
     put(group, s1, l, n, m, x);
@@ -52,7 +50,7 @@ fn put_spots(
 
 // The positions of directions l, m.
 fn put_line(
-    group: &mut [f64],
+    group: &mut [[f64; 27]; 6],
     s0: usize,
     s1: usize,
     s2: usize,
@@ -63,8 +61,8 @@ fn put_line(
     m: usize,
     v: [f64; 27],
 )
-    requires { ⌜ Blocks6 (length (now group)) s0 s1 s2 s3 s4 s5 × (length (now group) ≤ 162) × (l < 3) × (m < 3) ⌝ }
-    ensures { λ _. ⌜ now (group .exit) ≡ lineAt (s0 ∷ s1 ∷ s2 ∷ s3 ∷ s4 ∷ s5 ∷ []) v l m (now (group .entry)) ⌝ }
+    requires { ⌜ Six (now group) × Blocks6 162 s0 s1 s2 s3 s4 s5 × (l < 3) × (m < 3) ⌝ }
+    ensures { λ _. ⌜ Six (now (group .exit)) × (flat (now (group .exit)) ≡ lineAt (s0 ∷ s1 ∷ s2 ∷ s3 ∷ s4 ∷ s5 ∷ []) v l m (flat (now (group .entry)))) ⌝ }
 {
     let mut n = 0;
     while n < 3 {
@@ -76,7 +74,7 @@ fn put_line(
 
 // The positions of direction l.
 fn put_plane(
-    group: &mut [f64],
+    group: &mut [[f64; 27]; 6],
     s0: usize,
     s1: usize,
     s2: usize,
@@ -86,8 +84,8 @@ fn put_plane(
     l: usize,
     v: [f64; 27],
 )
-    requires { ⌜ Blocks6 (length (now group)) s0 s1 s2 s3 s4 s5 × (length (now group) ≤ 162) × (l < 3) ⌝ }
-    ensures { λ _. ⌜ now (group .exit) ≡ planeAt (s0 ∷ s1 ∷ s2 ∷ s3 ∷ s4 ∷ s5 ∷ []) v l (now (group .entry)) ⌝ }
+    requires { ⌜ Six (now group) × Blocks6 162 s0 s1 s2 s3 s4 s5 × (l < 3) ⌝ }
+    ensures { λ _. ⌜ Six (now (group .exit)) × (flat (now (group .exit)) ≡ planeAt (s0 ∷ s1 ∷ s2 ∷ s3 ∷ s4 ∷ s5 ∷ []) v l (flat (now (group .entry)))) ⌝ }
 {
     let mut m = 0;
     while m < 3 {
@@ -98,7 +96,7 @@ fn put_plane(
 
 // Position after position: where two of the blocks are the same one, the last position that writes a place holds.
 fn put_planes(
-    group: &mut [f64],
+    group: &mut [[f64; 27]; 6],
     s0: usize,
     s1: usize,
     s2: usize,
@@ -107,8 +105,8 @@ fn put_planes(
     s5: usize,
     v: [f64; 27],
 )
-    requires { ⌜ Blocks6 (length (now group)) s0 s1 s2 s3 s4 s5 × (length (now group) ≤ 162) ⌝ }
-    ensures { λ _. ⌜ now (group .exit) ≡ spreadBlock 2 six (s0 ∷ s1 ∷ s2 ∷ s3 ∷ s4 ∷ s5 ∷ []) v (now (group .entry)) ⌝ }
+    requires { ⌜ Six (now group) × Blocks6 162 s0 s1 s2 s3 s4 s5 ⌝ }
+    ensures { λ _. ⌜ Six (now (group .exit)) × (flat (now (group .exit)) ≡ spreadBlock 2 six (s0 ∷ s1 ∷ s2 ∷ s3 ∷ s4 ∷ s5 ∷ []) v (flat (now (group .entry)))) ⌝ }
 {
     let mut l = 0;
     while l < 3 {
@@ -117,7 +115,7 @@ fn put_planes(
     }
 }
 
-// Where block b stands in the group's local: at the first of the group's blocks that is the same one.
+// Which of the group's blocks stands for block b: the first that is the same one.
 fn slot(b: usize, b0: usize, b1: usize, b2: usize, b3: usize, b4: usize) -> usize
     ensures { λ r. ⌜ (r ≡ firstAt (b0 ∷ b1 ∷ b2 ∷ b3 ∷ b4 ∷ []) b) × (r < 6) ⌝ }
 {
@@ -139,15 +137,6 @@ fn slot(b: usize, b0: usize, b1: usize, b2: usize, b3: usize, b4: usize) -> usiz
     5
 }
 
-// Block s of the group's local becomes block b of the set.
-fn copy_block(fc3: &mut [f64], b: usize, group: &[f64], s: usize)
-    requires { ⌜ (b * 27 + 27 ≤ length (now fc3)) × (s * 27 + 27 ≤ length (now group)) ⌝ }
-    ensures { λ _. ⌜ now (fc3 .exit) ≡ putBlock 27 b (block 27 s (now (group .entry))) (now (fc3 .entry)) ⌝ }
-{
-    let v = blocks::read27(group, s);
-    blocks::write27(fc3, b, v);
-}
-
 // The group's six blocks written whole.
 fn copy_blocks(
     fc3: &mut [f64],
@@ -157,7 +146,7 @@ fn copy_blocks(
     b3: usize,
     b4: usize,
     b5: usize,
-    group: &[f64],
+    group: [[f64; 27]; 6],
     s0: usize,
     s1: usize,
     s2: usize,
@@ -165,18 +154,18 @@ fn copy_blocks(
     s4: usize,
     s5: usize,
 )
-    requires { ⌜ Blocks6 (length (now fc3)) b0 b1 b2 b3 b4 b5 × Blocks6 (length (now group)) s0 s1 s2 s3 s4 s5 ⌝ }
-    ensures { λ _. ⌜ now (fc3 .exit) ≡ copySix b0 b1 b2 b3 b4 b5 s0 s1 s2 s3 s4 s5 (now (group .entry)) (now (fc3 .entry)) ⌝ }
+    requires { ⌜ Blocks6 (length (now fc3)) b0 b1 b2 b3 b4 b5 × Six group × Blocks6 162 s0 s1 s2 s3 s4 s5 ⌝ }
+    ensures { λ _. ⌜ now (fc3 .exit) ≡ copySix b0 b1 b2 b3 b4 b5 s0 s1 s2 s3 s4 s5 group (now (fc3 .entry)) ⌝ }
 {
-    copy_block(fc3, b0, group, s0);
-    copy_block(fc3, b1, group, s1);
-    copy_block(fc3, b2, group, s2);
-    copy_block(fc3, b3, group, s3);
-    copy_block(fc3, b4, group, s4);
-    copy_block(fc3, b5, group, s5);
+    blocks::write27(fc3, b0, group[s0]);
+    blocks::write27(fc3, b1, group[s1]);
+    blocks::write27(fc3, b2, group[s2]);
+    blocks::write27(fc3, b3, group[s3]);
+    blocks::write27(fc3, b4, group[s4]);
+    blocks::write27(fc3, b5, group[s5]);
 }
 
-// Blocks of which some may be the same one: the group's six blocks are filled in a local and written whole.
+// Blocks of which some may be the same one: the six blocks are filled as values, and written whole.
 fn put_positions(
     fc3: &mut [f64],
     b0: usize,
@@ -196,9 +185,9 @@ fn put_positions(
     let s3 = slot(b3, b0, b1, b2, b3, b4);
     let s4 = slot(b4, b0, b1, b2, b3, b4);
     let s5 = slot(b5, b0, b1, b2, b3, b4);
-    let mut group = [0.0f64; 162];
+    let mut group = [[0.0f64; 27]; 6];
     put_planes(&mut group, s0, s1, s2, s3, s4, s5, v);
-    copy_blocks(fc3, b0, b1, b2, b3, b4, b5, &group, s0, s1, s2, s3, s4, s5);
+    copy_blocks(fc3, b0, b1, b2, b3, b4, b5, group, s0, s1, s2, s3, s4, s5);
 }
 
 // Six whole blocks, each with the means permuted to its own directions.

@@ -14,7 +14,7 @@ use lib.Seq.{ext-getD}
 use lib.Ieee.{Float, nan}
 use borrow.Author.Tests.{eqb-true, eq-eqb, ne-eqb}
 use Rattle.lists.specs.Tests.{every, every-at, some, some-at, some-of, and-fst, and-snd, split, not-both}
-use Rattle.lists.specs.Tab.{tab, tabFrom, length-tab, getD-tab, times}
+use Rattle.lists.specs.Tab.{tab, tabFrom, length-tab, getD-tab, is-tab, times}
 use Rattle.lists.specs.Elements.{pick, straight, all-at}
 use Rattle.lists.specs.Digits.{quotient, remainder}
 use Rattle.lists.specs.Members.{In, alike, alike-true}
@@ -48,12 +48,9 @@ unfoldable pub sourcesOf : List ℕ → ℕ → List ℕ
 unfolding laterIfShared
 sourcesOf bs b = times 24 (laterIfShared bs b) (replicate 81 0)
 
--- a list of positions, as a rule; each of them a position of a block
+-- a list of positions, as a rule
 abbrev pub listed : List ℕ → ℕ → ℕ
 listed m k = getD m k 0
-
-abbrev pub Positions81 : List ℕ → Type 0
-Positions81 m = (k : ℕ) → k < 81 → getD m k 0 < 81
 
 -- block b made of the means v, and 24 blocks written so
 unfoldable pub madeOf : List ℕ → List Float → ℕ → List Float
@@ -63,6 +60,12 @@ madeOf bs v b = permutedBlock 81 (listed (sourcesOf bs b)) v
 unfoldable pub putBlocks : List ℕ → List Float → List Float → List Float
 unfolding madeOf
 putBlocks bs v xs = times 24 (λ s. putBlock 81 (getD bs s 0) (madeOf bs v (getD bs s 0))) xs
+
+-- the next permutation, from permutation s on, whose block no earlier one leads to: an earlier one leads to each block that is passed over
+pub record NextBlock (bs : List ℕ) (s r : ℕ) : Type 0 where
+  pub from : s ≤ r
+  pub to : r ≤ 24
+  pub passed : (j : ℕ) → s ≤ j → j < r → (i : ℕ) × (i < j) × (getD bs i 0 ≡ getD bs j 0)
 
 -- ---- the inverses
 
@@ -211,6 +214,23 @@ module _ (bs : List ℕ) (v xs : List Float) where
       put-outside 81 (getD bs n 0) (madeOf bs v (getD bs n 0)) (putTo n) q (rw (length-put n) h) (λ t. o n (omega arith) (sym t))
       ∙ put-out n q h (λ s l. o s (omega arith))
 
+  -- a block that was written holds what would be written to it again
+  again : (n i : ℕ) → i < n → getD bs i 0 ≡ getD bs n 0 → putTo (suc n) ≡ putTo n
+  unfolding times
+  again n i h e = ext-getD nan (putTo (suc n)) (putTo n) (length-put (suc n) ∙ sym (length-put n)) (λ q l. go q (rw (length-put (suc n)) at l) (ℕ-discrete (getD bs n 0) (q / 81)))
+    where
+      go : (q : ℕ) → q < length xs → Dec (getD bs n 0 ≡ q / 81) → getD (putTo (suc n)) q nan ≡ getD (putTo n) q nan
+      go q hq (yes f) = put-in (suc n) q n hq (omega arith) f ∙ sym (put-in n q i hq h (e ∙ f))
+      go q hq (no f) = put-outside 81 (getD bs n 0) (madeOf bs v (getD bs n 0)) (putTo n) q (rw (length-put n) hq) (λ t. f (sym t))
+
+  pub passed-over : (n m : ℕ) → n ≤ m → ((j : ℕ) → n ≤ j → j < m → (i : ℕ) × (i < j) × (getD bs i 0 ≡ getD bs j 0)) → putTo m ≡ putTo n
+  passed-over n zero h o = let e : 0 ≡ n = omega arith in ap putTo e
+  passed-over n (suc m) h o = go (ℕ-discrete n (suc m)) (λ l. passed-over n m l (λ j a b. o j a (omega arith)))
+    where
+      go : Dec (n ≡ suc m) → (n ≤ m → putTo m ≡ putTo n) → putTo (suc m) ≡ putTo n
+      go (yes e) r = ap putTo (sym e)
+      go (no e) r = let (i, l, f) = o m (omega arith) (omega arith) in again m i l f ∙ r (omega arith)
+
   -- ---- the spots of a position
 
   module _ (e : length bs ≡ 24) where
@@ -294,6 +314,23 @@ module _ (bs : List ℕ) (b s : ℕ) (m : List ℕ) where
   unfolding laterIfShared
   is-shared e f g = f ∙ ap (λ i. laterOf i m) g ∙ sym (rw (eq-eqb (getD bs s 0) b e) refl)
 
-pub is-made : {m : List ℕ} (bs : List ℕ) (v : List Float) (b : ℕ) → m ≡ sourcesOf bs b → permutedBlock 81 (listed m) v ≡ madeOf bs v b
-unfolding madeOf
-is-made bs v b e = ap (λ m. permutedBlock 81 (listed m) v) e
+-- a list is block b made of the means, if each of its places has the mean of its source
+pub is-made : (bs : List ℕ) (v : List Float) (b : ℕ) (m : List ℕ) (y : List Float) → m ≡ sourcesOf bs b → length y ≡ 81
+    → ((j : ℕ) → j < 81 → getD y j nan ≡ getD v (getD m j 0) nan) → y ≡ madeOf bs v b
+unfolding madeOf permutedBlock
+is-made bs v b m y e l h = is-tab nan 81 (λ j. getD v (getD m j 0) nan) y l h ∙ ap (λ m. permutedBlock 81 (listed m) v) e
+
+-- none passed over yet; permutation n passed over too, because permutation i leads to the same block
+pub none-passed : (bs : List ℕ) (s : ℕ) → s ≤ 24 → NextBlock bs s s
+none-passed bs s h = record { from = omega arith; to = h; passed = λ j a b. absurd (omega arith) }
+
+pub one-more-passed : (bs : List ℕ) (s n i : ℕ) → NextBlock bs s n → n < 24 → i ≤ n → getD bs i 0 ≡ getD bs n 0 → (i ≡ n → ⊥) → NextBlock bs s (n + 1)
+one-more-passed bs s n i p h l e d = record {
+  from = let f = p .from in omega arith;
+  to = omega arith;
+  passed = λ j a b. go j a b (ℕ-discrete j n);
+}
+  where
+    go : (j : ℕ) → s ≤ j → j < n + 1 → Dec (j ≡ n) → (i : ℕ) × (i < j) × (getD bs i 0 ≡ getD bs j 0)
+    go j a b (yes f) = (i, omega arith, e ∙ ap (λ n. getD bs n 0) (sym f))
+    go j a b (no f) = p .passed j a (omega arith)

@@ -1,14 +1,13 @@
 // The means of a group written back to its blocks. Where permutations of the legs lead to the same block, several positions are written to
 // the same place, and the last in loop order holds. That is the greatest of them: so each block is made of the means as a value, and written.
 ghost use mathlib.Core.Path.{_≡_};
-ghost use Prim.Native.Nat.{_<_, max};
-ghost use lib.ListN.{length};
+ghost use Prim.Native.Nat.{_<_, _≤_, max};
+ghost use lib.ListN.{length, getD};
 ghost use Rattle.places.specs.Permutations.{twentyFour};
-ghost use Rattle.blocks.specs.Permuted.{permutedBlock};
 ghost use Rattle.orbits.specs.Groups.{spreadBlock};
 ghost use Rattle.fc4_groups.specs.Positions.{addressTable};
 ghost use Rattle.fc4_groups.specs.Mean.{Blocks24};
-ghost use Rattle.fc4_groups.specs.Spread.{inverses, laterOf, laterIfShared, sourcesOf, listed, Positions81};
+ghost use Rattle.fc4_groups.specs.Spread.{inverses, laterOf, sourcesOf, NextBlock};
 use crate::positions::entry;
 
 // The permutations that undo the 24, by their numbers.
@@ -69,25 +68,8 @@ fn later(m: [u8; 81], t: &[u8; 1944], s: usize) -> [u8; 81]
     r
 }
 
-// The same if permutation s leads to block b; its inverse tells which position each place of the block is written from.
-fn later_if_shared(
-    m: [u8; 81],
-    bs: &[usize; 24],
-    inverse: &[usize; 24],
-    t: &[u8; 1944],
-    b: usize,
-    s: usize,
-) -> [u8; 81]
-    requires { ⌜ (now inverse ≡ inverses) × (now t ≡ addressTable) × (s < 24) ⌝ }
-    ensures { λ r. ⌜ r ≡ laterIfShared (now (bs .entry)) b s m ⌝ }
-{
-    if bs[s] != b {
-        return m;
-    }
-    later(m, t, inverse[s])
-}
-
-// The position that each place of block b gets its mean from: the last one that is written there.
+// The position that each place of block b gets its mean from: the last one that is written there. The inverse of a permutation that leads to
+// the block tells which position each place is written from.
 fn sources(bs: &[usize; 24], inverse: &[usize; 24], t: &[u8; 1944], b: usize) -> [u8; 81]
     requires { ⌜ (now inverse ≡ inverses) × (now t ≡ addressTable) ⌝ }
     ensures { λ r. ⌜ r ≡ sourcesOf (now (bs .entry)) b ⌝ }
@@ -95,29 +77,47 @@ fn sources(bs: &[usize; 24], inverse: &[usize; 24], t: &[u8; 1944], b: usize) ->
     let mut m = [0u8; 81];
     let mut s = 0;
     while s < 24 {
-        let n = later_if_shared(m, bs, inverse, t, b, s);
-        m = n;
+        if bs[s] == b {
+            let n = later(m, t, inverse[s]);
+            m = n;
+        }
         s += 1;
     }
     m
 }
 
-// The block whose places hold the numbers of v at the positions m.
-fn gathered(v: [f64; 81], m: [u8; 81]) -> [f64; 81]
-    requires { ⌜ Positions81 m ⌝ }
-    ensures { λ r. ⌜ r ≡ permutedBlock 81 (listed m) v ⌝ }
+// A permutation, up to permutation s, that leads to the same block as s: s itself, if no earlier one does.
+fn first_alike(bs: &[usize; 24], s: usize) -> usize
+    requires { ⌜ s < 24 ⌝ }
+    ensures { λ r. ⌜ (r ≤ s) × (getD (now (bs .entry)) r 0 ≡ getD (now (bs .entry)) s 0) ⌝ }
 {
-    let mut r = [0.0f64; 81];
-    let mut k = 0;
-    while k < 81 {
-        let q = m[k] as usize;
-        r[k] = v[q];
-        k += 1;
+    let mut r = 0;
+    while r < s {
+        if bs[r] == bs[s] {
+            return r;
+        }
+        r += 1;
     }
-    r
+    s
 }
 
-// Block after block, for each of the 24 permutations.
+// The next permutation, from permutation s on, whose block no earlier one leads to; 24 if there is none.
+fn next_block(bs: &[usize; 24], s: usize) -> usize
+    requires { ⌜ s ≤ 24 ⌝ }
+    ensures { λ r. ⌜ NextBlock (now (bs .entry)) s r ⌝ }
+{
+    let mut n = s;
+    while n < 24 {
+        if first_alike(bs, n) == n {
+            return n;
+        }
+        n += 1;
+    }
+    n
+}
+
+// Each block once: made of the means as a value, and written. The loop over its places stands here, where the means are, because a function
+// of its own would be given a copy of the means for each block.
 pub fn put_blocks(fc4: &mut [f64], bs: &[usize; 24], t: &[u8; 1944], v: [f64; 81])
     requires { ⌜ Blocks24 (length (now fc4)) (now bs) × (now t ≡ addressTable) ⌝ }
     ensures { λ _. ⌜ now (fc4 .exit) ≡ spreadBlock 3 twentyFour (now (bs .entry)) v (now (fc4 .entry)) ⌝ }
@@ -126,7 +126,14 @@ pub fn put_blocks(fc4: &mut [f64], bs: &[usize; 24], t: &[u8; 1944], v: [f64; 81
     let mut s = 0;
     while s < 24 {
         let m = sources(bs, &inverse, t, bs[s]);
-        blocks::write81(fc4, bs[s], gathered(v, m));
-        s += 1;
+        let mut block = [0.0f64; 81];
+        let mut k = 0;
+        while k < 81 {
+            let q = m[k] as usize;
+            block[k] = v[q];
+            k += 1;
+        }
+        blocks::write81(fc4, bs[s], block);
+        s = next_block(bs, s + 1);
     }
 }

@@ -13,15 +13,9 @@ use Rattle.places.specs.Addresses.{storedBlock}
 use Rattle.orbits.specs.Blockwise.{blockAtoms, storedAtoms, openedAtoms, atomsAt}
 use Rattle.orbits.specs.Transposed.{counterpart}
 
--- the stored block of a list of atoms
-unfoldable pub storedOf : Shifts → List ℕ → ℕ
-storedOf S [] = 0
-storedOf S (i ∷ js) = storedBlock S i js
-
-stored-of : (S : Shifts) (ks : List ℕ) → blockAtoms S (storedAtoms S ks) ≡ storedOf S ks
-unfolding blockAtoms storedAtoms storedOf storedBlock
-stored-of S [] = refl
-stored-of S (i ∷ js) = refl
+stored-of : (S : Shifts) (i : ℕ) (js : List ℕ) → blockAtoms S (storedAtoms S (i ∷ js)) ≡ storedBlock S i js
+unfolding blockAtoms storedAtoms storedBlock
+stored-of S i js = refl
 
 module _ (S : Shifts) (p : ℕ) (js : List ℕ) (b : Below (S .nSatom) js) where
   -- the atoms of the block are read off its number
@@ -29,9 +23,11 @@ module _ (S : Shifts) (p : ℕ) (js : List ℕ) (b : Below (S .nSatom) js) where
   unfolding atomsAt
   atoms-are = ap₂ _∷_ (rest-horner (S .nSatom) p js b) (digits-horner (S .nSatom) p js b)
 
-  pub counterpart-at : (σ : List ℕ) → counterpart S (length js) σ (horner (S .nSatom) p js) ≡ storedOf S (pick 0 σ (p2sAt S p ∷ js))
+  pub counterpart-at : (σ : List ℕ) (i : ℕ) (ks : List ℕ) → pick 0 σ (p2sAt S p ∷ js) ≡ i ∷ ks
+      → counterpart S (length js) σ (horner (S .nSatom) p js) ≡ storedBlock S i ks
   unfolding counterpart openedAtoms
-  counterpart-at σ = ap (λ ks. blockAtoms S (storedAtoms S (pick 0 σ (openedAtoms S ks)))) atoms-are ∙ stored-of S (pick 0 σ (p2sAt S p ∷ js))
+  counterpart-at σ i ks e =
+      ap (λ ks. blockAtoms S (storedAtoms S (pick 0 σ (openedAtoms S ks)))) atoms-are ∙ ap (λ ks. blockAtoms S (storedAtoms S ks)) e ∙ stored-of S i ks
 
   -- a representative's stored block is the block itself
   pub stored-own : Laws S → p < S .nPatom → storedBlock S (p2sAt S p) js ≡ horner (S .nSatom) p js
@@ -49,6 +45,6 @@ module _ (n i : ℕ) (js : List ℕ) (h : i < n) (b : Below n js) where
   unfolding whole
   whole-block = ap (λ a. storedBlock (whole n) a js) (sym (whole-p2s n i h)) ∙ stored-own (whole n) i js b (whole-laws n) h
 
-  pub whole-counterpart : (σ : List ℕ) → counterpart (whole n) (length js) σ (horner n i js) ≡ storedOf (whole n) (pick 0 σ (i ∷ js))
+  pub whole-counterpart : (σ : List ℕ) (k : ℕ) (ks : List ℕ) → pick 0 σ (i ∷ js) ≡ k ∷ ks → counterpart (whole n) (length js) σ (horner n i js) ≡ storedBlock (whole n) k ks
   unfolding whole
-  whole-counterpart σ = counterpart-at (whole n) i js b σ ∙ ap (λ a. storedOf (whole n) (pick 0 σ (a ∷ js))) (whole-p2s n i h)
+  whole-counterpart σ k ks e = counterpart-at (whole n) i js b σ k ks (ap (λ a. pick 0 σ (a ∷ js)) (whole-p2s n i h) ∙ e)

@@ -7,10 +7,7 @@ use Rattle.lists.specs.Elements.{Below, pick, pick-map}
 use Rattle.lists.specs.Digits.{horner, room, rest, digits, rest-div, rest-horner, rest-below, length-digits}
 use Rattle.tables.specs.Shifts.{Shifts, row, p2sAt, s2ppAt, nsymAt}
 use Rattle.places.specs.Places.{Leg, atom, dir, Place, shift, stored, opened, address, place, legsOf, size, dirs-below, atoms-legsOf, dirs-legsOf}
-
--- how many numbers a block of rank m + 1 has
-unfoldable pub inBlock : ℕ → ℕ
-inBlock m = room 3 (suc m) 1
+unfoldable pub use Rattle.places.specs.Places.{inBlock}
 
 -- ---- the block of an address: it depends on the atoms only
 

@@ -8,16 +8,17 @@ use native.Mathlib.Omega.{arith}
 use mathlib.Core.List.{List, [], _∷_, map}
 use lib.ListN.{length, getD}
 use lib.Dec.{eqb, ltb}
+use lib.Ieee.{Float, nan, binary64, div, ofBits}
 use borrow.Author.Tests.{eqb-true, eq-eqb}
 use Rattle.lists.specs.Tests.{and-fst, and-snd, both, split, not-both, says}
 use Rattle.tables.specs.Shifts.{Shifts, Laws}
 use Rattle.lists.specs.Tab.{tab}
+use Rattle.lists.specs.Floats.{sumFrom}
 use Rattle.lists.specs.Elements.{All, Below, pick, pick-pick, straight, pick-straight, map-same}
 use Rattle.lists.specs.Digits.{room}
 use Rattle.lists.specs.Members.{In, Sub, all-in, in-all, keep, in-keep, keep-in, in-map, map-in, map-sub, least, greatest, least-le, least-in, greatest-le, greatest-in, least-same, greatest-same, allOf, oneOf, alike, alike-true, all-of, one-of, members-say}
-use Rattle.places.specs.Places.{Leg, Legs, Place, stored, opened, address, place, readOut, fill, size, readOut-fill, stored-place}
-use Rattle.orbits.specs.Blockwise.{inBlock}
-use Rattle.places.specs.Permutations.{taken, Permutation, taken-legs, Group}
+use Rattle.places.specs.Places.{Leg, Legs, Place, stored, opened, address, place, readOut, fill, size, inBlock, taken, readOut-fill, stored-place}
+use Rattle.places.specs.Permutations.{Permutation, taken-legs, Group}
 use Rattle.places.specs.Moves.{source, source-stored}
 
 -- ---- what a place holds afterwards
@@ -65,6 +66,11 @@ module _ {A : Type 0} (z : A) (mean : List A → A) where
   -- the set symmetrized
   unfoldable pub symmetrized : Shifts → ℕ → List (List ℕ) → List A → List A
   symmetrized S m os set = fill S m (λ ys. meanAt S m os set (leader (inBlock m) (images S os (opened S ys))))
+
+-- The mean of third order. The sum begins with the first number, so that six times -0.0 gives -0.0; divided by 6.0.
+abbrev pub mean6 : List Float → Float
+mean6 [] = nan
+mean6 (x ∷ xs) = div binary64 (sumFrom x xs) (ofBits binary64 0x4018_0000_0000_0000)
 
 -- ---- demand 3: all permutations of any legs read out the same
 

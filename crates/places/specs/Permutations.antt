@@ -1,4 +1,4 @@
--- Permutations of legs, as lists of positions: the legs x0, x1, x2 taken by 2, 0, 1 are x2, x0, x1. Assumes nothing.
+-- Laws of permutations of legs, which Places defines as lists of positions: the legs x0, x1, x2 taken by 2, 0, 1 are x2, x0, x1. Assumes nothing.
 use mathlib.Core.Path.{_≡_, refl, _∙_}
 use mathlib.Core.Bool.{Bool, true, _&&_}
 use Prim.Native.Nat.{ℕ, suc, _<_}
@@ -11,32 +11,12 @@ use Rattle.lists.specs.Elements.{Below, pick, length-pick, all-pick, straight}
 use Rattle.lists.specs.Members.{In, in-all, allOf, oneOf, alike, members-say}
 use Rattle.tables.specs.Shifts.{Shifts}
 use Rattle.places.specs.Places.{Leg, Fit, Legs}
+pub use Rattle.places.specs.Places.{taken}
+unfoldable pub use Rattle.places.specs.Places.{two, six, twentyFour}
 
--- the legs permuted by σ
-abbrev pub taken : List ℕ → List Leg → List Leg
-taken σ xs = pick (0, 0) σ xs
-
--- m + 1 positions below m + 1. That no position comes twice is not asked here; it holds of the three lists below, which are groups.
+-- m + 1 positions below m + 1. That no position comes twice is not asked here; it holds of the three lists of Places, which are groups.
 abbrev pub Permutation : ℕ → List ℕ → Type 0
 Permutation m σ = (length σ ≡ suc m) × Below (suc m) σ
-
--- ---- the permutations of two, three and four legs, as the Rust lists them
-
--- (i, j), (j, i)
-unfoldable pub two : List (List ℕ)
-two = (0 ∷ 1 ∷ []) ∷ (1 ∷ 0 ∷ []) ∷ []
-
--- ijk, ikj, jik, jki, kij, kji: the terms of the six-term sum, first to last (fc3.rs)
-unfoldable pub six : List (List ℕ)
-six = (0 ∷ 1 ∷ 2 ∷ []) ∷ (0 ∷ 2 ∷ 1 ∷ []) ∷ (1 ∷ 0 ∷ 2 ∷ []) ∷ (1 ∷ 2 ∷ 0 ∷ []) ∷ (2 ∷ 0 ∷ 1 ∷ []) ∷ (2 ∷ 1 ∷ 0 ∷ []) ∷ []
-
--- PERMS24 (fc4.rs)
-unfoldable pub twentyFour : List (List ℕ)
-twentyFour =
-    (0 ∷ 1 ∷ 2 ∷ 3 ∷ []) ∷ (0 ∷ 1 ∷ 3 ∷ 2 ∷ []) ∷ (0 ∷ 2 ∷ 1 ∷ 3 ∷ []) ∷ (0 ∷ 2 ∷ 3 ∷ 1 ∷ []) ∷ (0 ∷ 3 ∷ 1 ∷ 2 ∷ []) ∷ (0 ∷ 3 ∷ 2 ∷ 1 ∷ [])
-    ∷ (1 ∷ 0 ∷ 2 ∷ 3 ∷ []) ∷ (1 ∷ 0 ∷ 3 ∷ 2 ∷ []) ∷ (1 ∷ 2 ∷ 0 ∷ 3 ∷ []) ∷ (1 ∷ 2 ∷ 3 ∷ 0 ∷ []) ∷ (1 ∷ 3 ∷ 0 ∷ 2 ∷ []) ∷ (1 ∷ 3 ∷ 2 ∷ 0 ∷ [])
-    ∷ (2 ∷ 0 ∷ 1 ∷ 3 ∷ []) ∷ (2 ∷ 0 ∷ 3 ∷ 1 ∷ []) ∷ (2 ∷ 1 ∷ 0 ∷ 3 ∷ []) ∷ (2 ∷ 1 ∷ 3 ∷ 0 ∷ []) ∷ (2 ∷ 3 ∷ 0 ∷ 1 ∷ []) ∷ (2 ∷ 3 ∷ 1 ∷ 0 ∷ [])
-    ∷ (3 ∷ 0 ∷ 1 ∷ 2 ∷ []) ∷ (3 ∷ 0 ∷ 2 ∷ 1 ∷ []) ∷ (3 ∷ 1 ∷ 0 ∷ 2 ∷ []) ∷ (3 ∷ 1 ∷ 2 ∷ 0 ∷ []) ∷ (3 ∷ 2 ∷ 0 ∷ 1 ∷ []) ∷ (3 ∷ 2 ∷ 1 ∷ 0 ∷ []) ∷ []
 
 -- ---- each of the three lists is a group: one computed test each
 

@@ -6,11 +6,11 @@ use mathlib.Core.Path.{_≡_, refl, sym, ap, ap₂, _∙_, subst}
 use Prim.Native.Nat.{ℕ, zero, suc, _<_}
 use native.Mathlib.Nat.{suc-inj, suc-ne-zero}
 use mathlib.Core.List.{List, [], _∷_, map}
-use lib.ListN.{length, getD, length-map}
+use lib.ListN.{length, getD, replicate, length-map}
 use lib.Seq.{ext-getD}
 use Rattle.tables.specs.Shifts.{Shifts, Laws, row, p2sAt, s2ppAt, nsymAt, nsym-shift, nsym-p2s}
 use Rattle.lists.specs.Tab.{tab, length-tab, getD-tab}
-use Rattle.lists.specs.Elements.{All, all-map, map-id, Below}
+use Rattle.lists.specs.Elements.{All, all-map, map-id, Below, pick, straight}
 use Rattle.lists.specs.Digits.{horner, room, rest, digits, length-digits, digits-below, horner-digits, rest-below, horner-below, rest-horner, digits-horner}
 
 abbrev pub Leg : Type 0
@@ -74,6 +74,38 @@ module _ {A : Type 0} (z : A) where
 -- the set that holds f's number at each place
 unfoldable pub fill : {A : Type 0} → Shifts → ℕ → (List Leg → A) → List A
 fill S m f = tab (size S m) (λ q. f (place S m q))
+
+-- how many numbers a block of rank m + 1 has
+unfoldable pub inBlock : ℕ → ℕ
+inBlock m = room 3 (suc m) 1
+
+-- A full set is a compact set over tables with one shift, the null shift: every atom is its own representative.
+unfoldable pub whole : ℕ → Shifts
+whole n = record { nSatom = n; nPatom = n; numTrans = 1; perms = straight n; p2s = straight n; s2pp = straight n; nsymList = replicate n 0 }
+
+-- ---- permutations of legs, as lists of positions
+
+-- the legs permuted by σ
+abbrev pub taken : List ℕ → List Leg → List Leg
+taken σ xs = pick (0, 0) σ xs
+
+-- the permutations of two, three and four legs, as the Rust lists them
+
+-- (i, j), (j, i)
+unfoldable pub two : List (List ℕ)
+two = (0 ∷ 1 ∷ []) ∷ (1 ∷ 0 ∷ []) ∷ []
+
+-- ijk, ikj, jik, jki, kij, kji: the terms of the six-term sum, first to last (fc3.rs)
+unfoldable pub six : List (List ℕ)
+six = (0 ∷ 1 ∷ 2 ∷ []) ∷ (0 ∷ 2 ∷ 1 ∷ []) ∷ (1 ∷ 0 ∷ 2 ∷ []) ∷ (1 ∷ 2 ∷ 0 ∷ []) ∷ (2 ∷ 0 ∷ 1 ∷ []) ∷ (2 ∷ 1 ∷ 0 ∷ []) ∷ []
+
+-- PERMS24 (fc4.rs)
+unfoldable pub twentyFour : List (List ℕ)
+twentyFour =
+    (0 ∷ 1 ∷ 2 ∷ 3 ∷ []) ∷ (0 ∷ 1 ∷ 3 ∷ 2 ∷ []) ∷ (0 ∷ 2 ∷ 1 ∷ 3 ∷ []) ∷ (0 ∷ 2 ∷ 3 ∷ 1 ∷ []) ∷ (0 ∷ 3 ∷ 1 ∷ 2 ∷ []) ∷ (0 ∷ 3 ∷ 2 ∷ 1 ∷ [])
+    ∷ (1 ∷ 0 ∷ 2 ∷ 3 ∷ []) ∷ (1 ∷ 0 ∷ 3 ∷ 2 ∷ []) ∷ (1 ∷ 2 ∷ 0 ∷ 3 ∷ []) ∷ (1 ∷ 2 ∷ 3 ∷ 0 ∷ []) ∷ (1 ∷ 3 ∷ 0 ∷ 2 ∷ []) ∷ (1 ∷ 3 ∷ 2 ∷ 0 ∷ [])
+    ∷ (2 ∷ 0 ∷ 1 ∷ 3 ∷ []) ∷ (2 ∷ 0 ∷ 3 ∷ 1 ∷ []) ∷ (2 ∷ 1 ∷ 0 ∷ 3 ∷ []) ∷ (2 ∷ 1 ∷ 3 ∷ 0 ∷ []) ∷ (2 ∷ 3 ∷ 0 ∷ 1 ∷ []) ∷ (2 ∷ 3 ∷ 1 ∷ 0 ∷ [])
+    ∷ (3 ∷ 0 ∷ 1 ∷ 2 ∷ []) ∷ (3 ∷ 0 ∷ 2 ∷ 1 ∷ []) ∷ (3 ∷ 1 ∷ 0 ∷ 2 ∷ []) ∷ (3 ∷ 1 ∷ 2 ∷ 0 ∷ []) ∷ (3 ∷ 2 ∷ 0 ∷ 1 ∷ []) ∷ (3 ∷ 2 ∷ 1 ∷ 0 ∷ []) ∷ []
 
 -- ---- which legs the laws are about
 

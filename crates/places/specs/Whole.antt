@@ -12,9 +12,7 @@ use Rattle.lists.specs.Tab.{tab, getD-tab}
 use Rattle.lists.specs.Elements.{All, straight, map-id}
 use Rattle.lists.specs.Digits.{room}
 use Rattle.places.specs.Places.{Leg, atom, dir, Fit, Legs, stored, shift, at, readOut, size}
-
-unfoldable pub whole : ℕ → Shifts
-whole n = record { nSatom = n; nPatom = n; numTrans = 1; perms = straight n; p2s = straight n; s2pp = straight n; nsymList = replicate n 0 }
+unfoldable pub use Rattle.places.specs.Places.{whole}
 
 straight-at : (n a : ℕ) → a < n → getD (straight n) a 0 ≡ a
 unfolding straight

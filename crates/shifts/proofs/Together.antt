@@ -1,6 +1,6 @@
 -- The rules one by one and all together, and the tests of the rows alone as those of the tables.
 -- Assumes nothing.
-use mathlib.Core.Path.{_≡_, refl, ap, _∙_}
+use mathlib.Core.Path.{_≡_, refl, sym, ap, _∙_}
 use mathlib.Core.List.{[], _∷_}
 use mathlib.Core.Bool.{Bool, true, false, not, _||_}
 use Prim.Native.Nat.{ℕ, suc, _*_, _≤_}
@@ -15,7 +15,7 @@ use Rattle.tables.specs.declared.Refusal.the-variants.{CountAboveLimit, WrongLe
 use Rattle.tables.specs.Answers.{refused, not-refused}
 use Rattle.tables.specs.Conditions.{anyAbove, anyWrong}
 use Rattle.tables.specs.Shifts.{Shifts, row, isNull, countsAgree, rowsInjective, hasNull, rowsClosed, rowsFree, p2sBack, s2ppKept, nsymLands, ruled}
-use Rattle.tables.specs.Compact.{ShiftTables, shiftsOf, tableLengths, judgedEntries, judgedTables, judgedCompact}
+use Rattle.tables.specs.Compact.{ShiftTables, shiftsOf, tableLengths, judgedEntries, judgedTables, judgedCompact, judged-rooms}
 use Rattle.shift_rows.specs.Rows.{rowsOf}
 
 pub product-small : (a b : ℕ) → a ≤ 1024 → b ≤ 1024 → a * b ≤ 1048576
@@ -57,13 +57,13 @@ module _ (limit m lenSet k lenWork : ℕ) (T : ShiftTables) where
   wrong = (not (eqb lenSet set) || (not (eqb lenWork work) || false)) || anyWrong (tableLengths T)
 
   pub count-above : anyAbove limit (T .nSatom ∷ (T .nPatom ∷ (T .numTrans ∷ []))) ≡ true → Refused CountAboveLimit ≡ judgedCompact limit m lenSet k lenWork T
-  unfolding judgedCompact judgedTables above
-  count-above e = refused above CountAboveLimit _ e
+  unfolding judgedTables above
+  count-above e = refused above CountAboveLimit _ e ∙ sym (judged-rooms limit m lenSet k lenWork T)
 
   module _ (e : anyAbove limit (T .nSatom ∷ (T .nPatom ∷ (T .numTrans ∷ []))) ≡ false) where
     by-length : wrong ≡ true → Refused WrongLength ≡ judgedCompact limit m lenSet k lenWork T
-    unfolding judgedCompact judgedTables above wrong set work
-    by-length f = refused wrong WrongLength (judgedEntries T) f ∙ not-refused above CountAboveLimit _ e
+    unfolding judgedTables above wrong set work
+    by-length f = refused wrong WrongLength (judgedEntries T) f ∙ not-refused above CountAboveLimit _ e ∙ sym (judged-rooms limit m lenSet k lenWork T)
 
     pub wrong-set : (lenSet ≡ room 3 (suc m) (room (T .nSatom) m (T .nPatom)) → ⊥) → Refused WrongLength ≡ judgedCompact limit m lenSet k lenWork T
     unfolding set work wrong
@@ -83,5 +83,5 @@ module _ (limit m lenSet k lenWork : ℕ) (T : ShiftTables) where
         wrong-tables h = by-length (tables-left ∙ h)
 
         pub entries-left : anyWrong (tableLengths T) ≡ false → judgedEntries T ≡ judgedCompact limit m lenSet k lenWork T
-        unfolding judgedCompact judgedTables above wrong set work
-        entries-left h = not-refused wrong WrongLength (judgedEntries T) (tables-left ∙ h) ∙ not-refused above CountAboveLimit _ e
+        unfolding judgedTables above wrong set work
+        entries-left h = not-refused wrong WrongLength (judgedEntries T) (tables-left ∙ h) ∙ not-refused above CountAboveLimit _ e ∙ sym (judged-rooms limit m lenSet k lenWork T)

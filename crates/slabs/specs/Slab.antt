@@ -8,7 +8,7 @@ use lib.IntN.{ℤ}
 use lib.ListN.{length, getD}
 use lib.Ieee.{Float, nan}
 use Rattle.lists.specs.Tab.{tab, times}
-use Rattle.lists.specs.Digits.{horner, room, rest, digits}
+use Rattle.lists.specs.Digits.{horner, rest, digits}
 use Rattle.blocks.specs.Block.{block, putBlock}
 use Rattle.rotations.specs.Rotation.{rotated}
 use Rattle.tables.specs.declared.Answer.{Answer}
@@ -39,10 +39,10 @@ judgedSlabs limit stated lengthFc mapping n lengthRotation numFirst target sourc
     (refuseIf (outOfRange n mapping) IndexOutOfRange
     (refuseIf (badSlab numFirst target source) BadSlab Done)))
 
--- the call: the answer and the set; its stated length is numFirst · n · … · n · 3 · … · 3
+-- the call: the answer and the set; its stated length is numFirst × n^k × 3^(k + 1)
 unfoldable pub distributeSlab : ℕ → ℕ → List Float → ℕ → ℕ → List ℤ → ℕ → List Float → ℕ → Answer × List Float
 distributeSlab limit k fc target source mapping n rotation numFirst =
-    let a = judgedSlabs limit (room 3 (suc k) (room n k numFirst)) (length fc) mapping n (length rotation) numFirst target source in
+    let a = judgedSlabs limit (numFirst * n ^ k * 3 ^ suc k) (length fc) mapping n (length rotation) numFirst target source in
     (a, after a (distributed mapping rotation n k target source fc) fc)
 
 -- ---- as the code goes: one loop for each other atom

@@ -1,13 +1,13 @@
 -- The one guard of every compact call, whatever its rank (document 01, refusals 1, 2, 3 and 6), and what a set that passes it is known to be.
 -- Assumes nothing.
-use mathlib.Core.Path.{_≡_, refl, sym}
+use mathlib.Core.Path.{_≡_, refl, sym, ap, ap₂, _∙_}
 use mathlib.Core.Bool.{Bool, false, not, _||_}
 use mathlib.Core.List.{List, [], _∷_, map}
-use Prim.Native.Nat.{ℕ, suc, _+_, _*_, _≤_}
+use Prim.Native.Nat.{ℕ, suc, _+_, _*_, _^_, _≤_}
 use lib.IntN.{ℤ, pos}
 use lib.ListN.{length, List·getD-map}
 use borrow.Author.Tests.{not-false}
-use Rattle.lists.specs.Digits.{room, in-row}
+use Rattle.lists.specs.Digits.{room, room-power, in-row}
 use Rattle.lists.specs.Elements.{All}
 use Rattle.tables.specs.declared.Answer.{Answer}
 use Rattle.tables.specs.declared.Answer.the-variants.{Done}
@@ -74,9 +74,16 @@ judgedTables limit lengths T =
 -- A compact call of rank m + 1: the set has n_patom × n_satom^m × 3^(m + 1) numbers, its work slice n_patom × n_satom^k entries.
 unfoldable pub judgedCompact : ℕ → ℕ → ℕ → ℕ → ℕ → ShiftTables → Answer
 judgedCompact limit m lenSet k lenWork T =
-    judgedTables limit
-    ((lenSet, room 3 (suc m) (room (T .nSatom) m (T .nPatom))) ∷ ((lenWork, room (T .nSatom) k (T .nPatom)) ∷ []))
-    T
+    judgedTables limit ((lenSet, T .nPatom * T .nSatom ^ m * 3 ^ suc m) ∷ ((lenWork, T .nPatom * T .nSatom ^ k) ∷ [])) T
+
+-- the same lengths as products, number by number
+pub judged-rooms : (limit m lenSet k lenWork : ℕ) (T : ShiftTables) → judgedCompact limit m lenSet k lenWork T
+    ≡ judgedTables limit ((lenSet, room 3 (suc m) (room (T .nSatom) m (T .nPatom))) ∷ ((lenWork, room (T .nSatom) k (T .nPatom)) ∷ [])) T
+unfolding judgedCompact
+judged-rooms limit m lenSet k lenWork T =
+    ap₂ (λ x y. judgedTables limit ((lenSet, x) ∷ ((lenWork, y) ∷ [])) T)
+    (sym (room-power 3 (suc m) (room (T .nSatom) m (T .nPatom)) ∙ ap (λ x. x * 3 ^ suc m) (room-power (T .nSatom) m (T .nPatom))))
+    (sym (room-power (T .nSatom) k (T .nPatom)))
 
 -- ---- what is known of tables and sets that pass
 
@@ -158,9 +165,8 @@ done-tables limit ls T e =
 
 -- a compact call that is not refused
 pub done-compact : (limit m lenSet k lenWork : ℕ) (T : ShiftTables) → judgedCompact limit m lenSet k lenWork T ≡ Done → Compact limit m lenSet k lenWork T
-unfolding judgedCompact
 done-compact limit m lenSet k lenWork T e =
-    let (l, F, L) = done-tables limit _ T e in
+    let (l, F, L) = done-tables limit _ T (sym (judged-rooms limit m lenSet k lenWork T) ∙ e) in
     record {
       set-length = l .0;
       work-length = l .1 .0;

@@ -25,7 +25,7 @@ use Rattle.orbits.specs.Counterparts.{Paired, visit, workedOver}
 use Rattle.orbits.specs.Transposed.{counterpart, blocksBy, paired}
 use Rattle.blocks.specs.Permuted.{permuted, permutedBlock, gathered, lnm, mln, nml, lnm-is, mln-is, nml-is}
 use Rattle.orbits.specs.BlockPairs.{joinedPair, pair-is}
-use Rattle.orbits.specs.AtBlocks.{atoms-are, storedOf, counterpart-at, stored-own}
+use Rattle.orbits.specs.AtBlocks.{atoms-are, counterpart-at, stored-own}
 use Rattle.orbits.specs.Blockwise.{inBlock, atomsAt}
 use Rattle.orbits.specs.Trading.{theOther, never, staysAt, Trades, moves}
 use Rattle.places.specs.Addresses.{storedBlock, block-below}
@@ -179,24 +179,24 @@ module _ (T : ShiftTables) (Z : Sound T) (p j k : ℕ) (a : Atoms T p j k) where
   abbrev S : Shifts
   S = shiftsOf T
 
-  at-order : (σ : List ℕ) → counterpart S 2 σ (at3 T p j k) ≡ storedOf S (pick 0 σ (p2sAt S p ∷ j ∷ k ∷ []))
+  at-order : (σ : List ℕ) (x : ℕ) (ys : List ℕ) → pick 0 σ (p2sAt S p ∷ j ∷ k ∷ []) ≡ x ∷ ys → counterpart S 2 σ (at3 T p j k) ≡ storedBlock S x ys
   unfolding horner
   at-order σ = counterpart-at S p (j ∷ k ∷ []) (a .1, (a .2, tt)) σ
 
   pub other-0 : (t r v : ℕ) → t ≡ 0 → v ≡ indexAt (T .p2s) p → r ≡ storedIn (T .nSatom) (T .s2pp) (T .nsymList) (T .perms) j (v ∷ k ∷ []) → r ≡ counterpart S 2 (order t) (at3 T p j k)
-  unfolding order pick storedOf
+  unfolding order pick
   other-0 t r v z e f =
-      f ∙ stored-in T j (v ∷ k ∷ []) ∙ ap (λ i. storedBlock S j (i ∷ k ∷ [])) (e ∙ p2s-is T p) ∙ sym (at-order (1 ∷ 0 ∷ 2 ∷ [])) ∙ ap (λ t. counterpart S 2 (order t) (at3 T p j k)) (sym z)
+      f ∙ stored-in T j (v ∷ k ∷ []) ∙ ap (λ i. storedBlock S j (i ∷ k ∷ [])) (e ∙ p2s-is T p) ∙ sym (at-order (1 ∷ 0 ∷ 2 ∷ []) j (p2sAt S p ∷ k ∷ []) refl) ∙ ap (λ t. counterpart S 2 (order t) (at3 T p j k)) (sym z)
 
   pub other-1 : (t r v : ℕ) → t ≡ 1 → v ≡ indexAt (T .p2s) p → r ≡ storedIn (T .nSatom) (T .s2pp) (T .nsymList) (T .perms) k (j ∷ v ∷ []) → r ≡ counterpart S 2 (order t) (at3 T p j k)
-  unfolding order pick storedOf
+  unfolding order pick
   other-1 t r v z e f =
-      f ∙ stored-in T k (j ∷ v ∷ []) ∙ ap (λ i. storedBlock S k (j ∷ i ∷ [])) (e ∙ p2s-is T p) ∙ sym (at-order (2 ∷ 1 ∷ 0 ∷ [])) ∙ ap (λ t. counterpart S 2 (order t) (at3 T p j k)) (sym z)
+      f ∙ stored-in T k (j ∷ v ∷ []) ∙ ap (λ i. storedBlock S k (j ∷ i ∷ [])) (e ∙ p2s-is T p) ∙ sym (at-order (2 ∷ 1 ∷ 0 ∷ []) k (j ∷ p2sAt S p ∷ []) refl) ∙ ap (λ t. counterpart S 2 (order t) (at3 T p j k)) (sym z)
 
   pub other-2 : (t r : ℕ) → t ≡ 2 → r ≡ horner (T .nSatom) p (k ∷ j ∷ []) → r ≡ counterpart S 2 (order t) (at3 T p j k)
-  unfolding order pick storedOf
+  unfolding order pick
   other-2 t r z f =
-      f ∙ sym (stored-own S p (k ∷ j ∷ []) (a .2, (a .1, tt)) (Z .rules) (a .0)) ∙ sym (at-order (0 ∷ 2 ∷ 1 ∷ [])) ∙ ap (λ t. counterpart S 2 (order t) (at3 T p j k)) (sym z)
+      f ∙ sym (stored-own S p (k ∷ j ∷ []) (a .2, (a .1, tt)) (Z .rules) (a .0)) ∙ sym (at-order (0 ∷ 2 ∷ 1 ∷ []) (p2sAt S p) (k ∷ j ∷ []) refl) ∙ ap (λ t. counterpart S 2 (order t) (at3 T p j k)) (sym z)
 
 pub at-in : (T : ShiftTables) (p j k : ℕ) → Atoms T p j k → at3 T p j k < room (T .nSatom) 2 (T .nPatom)
 unfolding horner

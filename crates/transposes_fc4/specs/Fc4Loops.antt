@@ -17,7 +17,7 @@ use Rattle.lists.specs.Tests.{or-true}
 use Rattle.lists.specs.Tab.{tab, tabFrom, times, times-nest, times-same}
 use Rattle.lists.specs.Elements.{pick, pick-pick, straight, pick-straight}
 use Rattle.lists.specs.Digits.{horner, room, rest, digits, quotient, remainder}
-use Rattle.tables.specs.Shifts.{Shifts, Laws}
+use Rattle.tables.specs.Shifts.{Shifts, Laws, p2sAt}
 use Rattle.tables.specs.Limits.{limit4}
 use Rattle.tables.specs.declared.Answer.{Answer}
 use Rattle.tables.specs.declared.Answer.the-variants.{Done}
@@ -34,7 +34,7 @@ use Rattle.orbits.specs.Counterparts.{Blocks, Paired, visit}
 use Rattle.orbits.specs.BlockPairs.{joinedPair, pair-is}
 use Rattle.orbits.specs.Transposed.{counterpart, blocksBy, counterpart-below}
 use Rattle.blocks.specs.Permuted.{permuted}
-use Rattle.orbits.specs.AtBlocks.{storedOf, counterpart-at}
+use Rattle.orbits.specs.AtBlocks.{counterpart-at}
 use Rattle.orbits.specs.Trading.{theOther, staysAt, Trades}
 use Rattle.transposes_fc4.specs.Fc4.{transposedBy4, transposeCompactFc4}
 use Rattle.half_shifts.specs.HalfShift.{Sound, Trading, trading, block-in, PairAt}
@@ -109,10 +109,10 @@ module _ (T : ShiftTables) (L : Laws (shiftsOf T)) (p j k l : ℕ) (a : Atoms T 
 
   -- the counterpart from the tables: the read-out block of the atoms with the first two exchanged
   pub found-is : (i c : ℕ) → i ≡ indexAt (T .p2s) p → c ≡ storedIn n (T .s2pp) (T .nsymList) (T .perms) j (i ∷ k ∷ l ∷ []) → c ≡ counterpart S 3 (order4 0) (at4 T p j k l)
-  unfolding horner order4 pick storedOf
+  unfolding horner order4 pick
   found-is i c e f =
       f ∙ stored-in T j (i ∷ k ∷ l ∷ []) ∙ ap (λ i. storedBlock S j (i ∷ k ∷ l ∷ [])) (e ∙ p2s-is T p)
-      ∙ sym (counterpart-at S p (j ∷ k ∷ l ∷ []) (a .1, (a .2, (a .3, tt))) (1 ∷ 0 ∷ 2 ∷ 3 ∷ []))
+      ∙ sym (counterpart-at S p (j ∷ k ∷ l ∷ []) (a .1, (a .2, (a .3, tt))) (1 ∷ 0 ∷ 2 ∷ 3 ∷ []) j (p2sAt S p ∷ k ∷ l ∷ []) refl)
 
   first-is : rest n 3 (at4 T p j k l) ≡ p
   unfolding rest

@@ -3,33 +3,34 @@ use Prim.Native.Nat.{ℕ, _+_, _*_, _≤_, _-_}
 use native.Mathlib.Omega.{arith}
 use mathlib.Core.Path.{_≡_, refl, ap, _∙_}
 use mathlib.Core.List.{[], _∷_}
-use lib.ListN.{length, getD}
+use lib.ListN.{getD}
 use lib.Ieee.{nan}
 use Rattle.lists.specs.Tab.{times, times-none, times-more}
 use Rattle.places.specs.Permutations.{six}
 use Rattle.orbits.specs.Groups.{spots}
 use Rattle.orbits.specs.Spread.{setAll}
 use Rattle.fc3_groups.specs.Spread.{lineAt, dirs-are}
+use Rattle.fc3_groups.specs.Coinciding.{Six, flat}
 use borrow.Author.Needs.{needs}
 use Rattle.fc3_groups.proofs.spread.put_line.Statement.{statement}
 use Rattle.fc3_groups.proofs.spread.put_line.Tie as tie
 
 abbrev Inv-loop : tie.InvT-loop
 Inv-loop group₀ s0 s1 s2 s3 s4 s5 l m v n₀ group n =
-    (n ≤ 3) × (length group ≡ length group₀) × (group ≡ times n (λ n. setAll (spots 2 six (s0 ∷ s1 ∷ s2 ∷ s3 ∷ s4 ∷ s5 ∷ []) ((l * 3 + m) * 3 + n)) (getD v ((l * 3 + m) * 3 + n) nan)) group₀)
+    (n ≤ 3) × Six group × (flat group ≡ times n (λ n. setAll (spots 2 six (s0 ∷ s1 ∷ s2 ∷ s3 ∷ s4 ∷ s5 ∷ []) ((l * 3 + m) * 3 + n)) (getD v ((l * 3 + m) * 3 + n) nan)) (flat group₀))
 
 abbrev μ-loop : tie.MeasureT-loop
 μ-loop group₀ s0 s1 s2 s3 s4 s5 l m v n₀ group n = 3 - n
 
 loop-holds : tie.Need-loop-holds Inv-loop μ-loop
-loop-holds c = (omega arith, refl, times-none _ _)
+loop-holds c = (omega arith, c .pre .0, times-none _ _)
 
 dir3-requires : tie.Need-dir3-requires Inv-loop μ-loop
 dir3-requires c κs = search needs
 
 mul-put-spots : tie.Need-mul-put-spots Inv-loop μ-loop
 mul-put-spots c =
-    let s = c .before .before .before .before .before in
+    let s = c .before .before .before .before in
     let t = c .before .before .before .loop in
     let (h0, h1, h2, h3) = s .pre in
     let (e, h) = dirs-are (s .args .l) (s .args .m) (t .n) h2 h3 (omega arith) (c .before .dir3 .ensures) in
@@ -37,7 +38,7 @@ mul-put-spots c =
 
 array-read-put-spots : tie.Need-array-read-put-spots Inv-loop μ-loop
 array-read-put-spots c =
-    let s = c .before .before .before .before .before in
+    let s = c .before .before .before .before in
     let t = c .before .before .before .loop in
     let (h0, h1, h2, h3) = s .pre in
     let (e, h) = dirs-are (s .args .l) (s .args .m) (t .n) h2 h3 (omega arith) (c .before .dir3 .ensures) in
@@ -46,8 +47,8 @@ array-read-put-spots c =
 put-spots-requires : tie.Need-put-spots-requires Inv-loop μ-loop
 put-spots-requires c κs =
     let l = c .before .before .before .loop in
-    let s = c .before .before .before .before .before in
-    (rw (l .inv .1) (s .pre .0), rw (l .inv .1) (s .pre .1), s .pre .2, s .pre .3, omega arith)
+    let s = c .before .before .before .before in
+    (l .inv .1, s .pre .1, s .pre .2, s .pre .3, omega arith)
 
 add-n : tie.Need-add-n Inv-loop μ-loop
 add-n c = search needs
@@ -57,27 +58,24 @@ loop-less c = search needs
 
 loop-again : tie.Need-loop-again Inv-loop μ-loop
 loop-again c =
-    let p = c .before .before in
+    let p = c in
     let l = p .before .before .before .before .loop in
-    let s = p .before .before .before .before .before .before in
+    let s = p .before .before .before .before .before in
     let (h0, h1, h2, h3) = s .pre in
     let (e, h) = dirs-are (s .args .l) (s .args .m) (l .n) h2 h3 (omega arith) (p .before .before .dir3 .ensures) in
     let bs = s .args .s0 ∷ s .args .s1 ∷ s .args .s2 ∷ s .args .s3 ∷ s .args .s4 ∷ s .args .s5 ∷ [] in (
       omega arith,
-      p .put-spots .kept .0 ∙ l .inv .1,
+      p .put-spots .ensures .0,
       times-more (l .n) _ _ (l .inv .2)
-          (p .put-spots .ensures ∙ ap (λ k. setAll (spots 2 six bs ((s .args .l * 3 + s .args .m) * 3 + l .n)) (getD (s .args .t10) k nan) (l .group)) e),
+          (p .put-spots .ensures .1 ∙ ap (λ k. setAll (spots 2 six bs ((s .args .l * 3 + s .args .m) * 3 + l .n)) (getD (s .args .t10) k nan) (flat (l .group))) e),
     )
-
-same-length : tie.Need-same-length Inv-loop μ-loop
-same-length c = search needs
 
 returns : tie.Need-returns Inv-loop μ-loop
 unfolding lineAt
 returns c =
     let l = c .before .loop in
     let e : l .n ≡ 3 = omega arith in
-    l .inv .2 ∙ rw e
+    (l .inv .1, l .inv .2 ∙ rw e)
 
 pub put-line-spec : {M : Type 1} → statement M
 put-line-spec =
@@ -93,5 +91,4 @@ put-line-spec =
     add-n
     loop-less
     loop-again
-    same-length
     returns)

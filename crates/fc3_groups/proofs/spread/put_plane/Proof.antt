@@ -3,32 +3,33 @@ use Prim.Native.Nat.{ℕ, _+_, _*_, _≤_, _-_}
 use native.Mathlib.Omega.{arith}
 use mathlib.Core.Path.{_≡_, refl, _∙_}
 use mathlib.Core.List.{[], _∷_}
-use lib.ListN.{length, getD}
+use lib.ListN.{getD}
 use lib.Ieee.{nan}
 use Rattle.lists.specs.Tab.{times, times-none, times-more}
 use Rattle.places.specs.Permutations.{six}
 use Rattle.orbits.specs.Groups.{spots}
 use Rattle.orbits.specs.Spread.{setAll}
 use Rattle.fc3_groups.specs.Spread.{lineAt, planeAt}
+use Rattle.fc3_groups.specs.Coinciding.{Six, flat}
 use borrow.Author.Needs.{needs}
 use Rattle.fc3_groups.proofs.spread.put_plane.Statement.{statement}
 use Rattle.fc3_groups.proofs.spread.put_plane.Tie as tie
 
 abbrev Inv-loop : tie.InvT-loop
 Inv-loop group₀ s0 s1 s2 s3 s4 s5 l v m₀ group m =
-    (m ≤ 3) × (length group ≡ length group₀) × (group ≡ times m (λ m. lineAt (s0 ∷ s1 ∷ s2 ∷ s3 ∷ s4 ∷ s5 ∷ []) v l m) group₀)
+    (m ≤ 3) × Six group × (flat group ≡ times m (λ m. lineAt (s0 ∷ s1 ∷ s2 ∷ s3 ∷ s4 ∷ s5 ∷ []) v l m) (flat group₀))
 
 abbrev μ-loop : tie.MeasureT-loop
 μ-loop group₀ s0 s1 s2 s3 s4 s5 l v m₀ group m = 3 - m
 
 loop-holds : tie.Need-loop-holds Inv-loop μ-loop
-loop-holds c = (omega arith, refl, times-none _ _)
+loop-holds c = (omega arith, c .pre .0, times-none _ _)
 
 put-line-requires : tie.Need-put-line-requires Inv-loop μ-loop
 put-line-requires c κs =
     let l = c .before .before .loop in
-    let s = c .before .before .before .before in
-    (rw (l .inv .1) (s .pre .0), rw (l .inv .1) (s .pre .1), s .pre .2, omega arith)
+    let s = c .before .before .before in
+    (l .inv .1, s .pre .1, s .pre .2, omega arith)
 
 add-m : tie.Need-add-m Inv-loop μ-loop
 add-m c = search needs
@@ -38,19 +39,16 @@ loop-less c = search needs
 
 loop-again : tie.Need-loop-again Inv-loop μ-loop
 loop-again c =
-    let p = c .before .before in
+    let p = c in
     let l = p .before .before .before .loop in
-    (omega arith, p .put-line .kept .0 ∙ l .inv .1, times-more (l .m) _ _ (l .inv .2) (p .put-line .ensures))
-
-same-length : tie.Need-same-length Inv-loop μ-loop
-same-length c = search needs
+    (omega arith, p .put-line .ensures .0, times-more (l .m) _ _ (l .inv .2) (p .put-line .ensures .1))
 
 returns : tie.Need-returns Inv-loop μ-loop
 unfolding planeAt
 returns c =
     let l = c .before .loop in
     let e : l .m ≡ 3 = omega arith in
-    l .inv .2 ∙ rw e
+    (l .inv .1, l .inv .2 ∙ rw e)
 
 pub put-plane-spec : {M : Type 1} → statement M
 put-plane-spec =
@@ -63,5 +61,4 @@ put-plane-spec =
     add-m
     loop-less
     loop-again
-    same-length
     returns)

@@ -3,32 +3,33 @@ use Prim.Native.Nat.{ℕ, _+_, _*_, _≤_, _-_}
 use native.Mathlib.Omega.{arith}
 use mathlib.Core.Path.{_≡_, refl, _∙_}
 use mathlib.Core.List.{[], _∷_}
-use lib.ListN.{length, getD}
+use lib.ListN.{getD}
 use lib.Ieee.{nan}
 use Rattle.lists.specs.Tab.{times, times-none, times-more}
 use Rattle.places.specs.Permutations.{six}
 use Rattle.orbits.specs.Groups.{spots}
 use Rattle.orbits.specs.Spread.{setAll}
 use Rattle.fc3_groups.specs.Spread.{planeAt, planes-are}
+use Rattle.fc3_groups.specs.Coinciding.{Six, flat}
 use borrow.Author.Needs.{needs}
 use Rattle.fc3_groups.proofs.spread.put_planes.Statement.{statement}
 use Rattle.fc3_groups.proofs.spread.put_planes.Tie as tie
 
 abbrev Inv-loop : tie.InvT-loop
 Inv-loop group₀ s0 s1 s2 s3 s4 s5 v l₀ group l =
-    (l ≤ 3) × (length group ≡ length group₀) × (group ≡ times l (λ l. planeAt (s0 ∷ s1 ∷ s2 ∷ s3 ∷ s4 ∷ s5 ∷ []) v l) group₀)
+    (l ≤ 3) × Six group × (flat group ≡ times l (λ l. planeAt (s0 ∷ s1 ∷ s2 ∷ s3 ∷ s4 ∷ s5 ∷ []) v l) (flat group₀))
 
 abbrev μ-loop : tie.MeasureT-loop
 μ-loop group₀ s0 s1 s2 s3 s4 s5 v l₀ group l = 3 - l
 
 loop-holds : tie.Need-loop-holds Inv-loop μ-loop
-loop-holds c = (omega arith, refl, times-none _ _)
+loop-holds c = (omega arith, c .pre .0, times-none _ _)
 
 put-plane-requires : tie.Need-put-plane-requires Inv-loop μ-loop
 put-plane-requires c κs =
     let l = c .before .before .loop in
-    let s = c .before .before .before .before in
-    (rw (l .inv .1) (s .pre .0), rw (l .inv .1) (s .pre .1), omega arith)
+    let s = c .before .before .before in
+    (l .inv .1, s .pre .1, omega arith)
 
 add-l : tie.Need-add-l Inv-loop μ-loop
 add-l c = search needs
@@ -38,21 +39,18 @@ loop-less c = search needs
 
 loop-again : tie.Need-loop-again Inv-loop μ-loop
 loop-again c =
-    let p = c .before .before in
+    let p = c in
     let l = p .before .before .before .loop in
-    (omega arith, p .put-plane .kept .0 ∙ l .inv .1, times-more (l .l) _ _ (l .inv .2) (p .put-plane .ensures))
-
-same-length : tie.Need-same-length Inv-loop μ-loop
-same-length c = search needs
+    (omega arith, p .put-plane .ensures .0, times-more (l .l) _ _ (l .inv .2) (p .put-plane .ensures .1))
 
 returns : tie.Need-returns Inv-loop μ-loop
 returns c =
     let l = c .before .loop in
     let e : l .l ≡ 3 = omega arith in
-    let a = c .before .before .before .args in
+    let a = c .before .before .args in
     let bs = a .s0 ∷ a .s1 ∷ a .s2 ∷ a .s3 ∷ a .s4 ∷ a .s5 ∷ [] in
-    let f : l .group ≡ times 3 (λ l. planeAt bs (a .v) l) (a .group .now) = l .inv .2 ∙ rw e in
-    f ∙ planes-are bs (a .v) (a .group .now)
+    let f : flat (l .group) ≡ times 3 (λ l. planeAt bs (a .v) l) (flat (a .group .now)) = l .inv .2 ∙ rw e in
+    (l .inv .1, f ∙ planes-are bs (a .v) (flat (a .group .now)))
 
 pub put-planes-spec : {M : Type 1} → statement M
 put-planes-spec =
@@ -65,5 +63,4 @@ put-planes-spec =
     add-l
     loop-less
     loop-again
-    same-length
     returns)

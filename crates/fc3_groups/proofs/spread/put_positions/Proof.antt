@@ -1,4 +1,5 @@
-use Rattle.fc3_groups.specs.Coinciding.{slots-in, group-put}
+use mathlib.Core.Path.{refl}
+use Rattle.fc3_groups.specs.Coinciding.{slots-in, length-flat, group-put}
 use borrow.Author.Needs.{needs}
 use Rattle.fc3_groups.proofs.spread.put_positions.Statement.{statement}
 use Rattle.fc3_groups.proofs.spread.put_positions.Tie as tie
@@ -21,9 +22,6 @@ slot-requires-5 c κs = search needs
 slot-requires-6 : tie.Need-slot-requires-6
 slot-requires-6 c κs = search needs
 
-slice-aggregate-put-planes : tie.Need-slice-aggregate-put-planes
-slice-aggregate-put-planes c = search needs
-
 put-planes-requires : tie.Need-put-planes-requires
 put-planes-requires c κs =
     let s6 = c .before in
@@ -32,13 +30,22 @@ put-planes-requires c κs =
     let s3 = s4 .before in
     let s2 = s3 .before in
     let s1 = s2 .before in
-    (slots-in (search needs) (s1 .slot .ensures .1) (s2 .slot2 .ensures .1) (s3 .slot3 .ensures .1) (s4 .slot4 .ensures .1) (s5 .slot5 .ensures .1) (s6 .slot6 .ensures .1), search needs)
-
-slice-aggregate-copy-blocks : tie.Need-slice-aggregate-copy-blocks
-slice-aggregate-copy-blocks c = search needs
+    ((refl, (refl, (refl, (refl, (refl, (refl, (refl, tt))))))), slots-in (s1 .slot .ensures .1) (s2 .slot2 .ensures .1) (s3 .slot3 .ensures .1) (s4 .slot4 .ensures .1) (s5 .slot5 .ensures .1) (s6 .slot6 .ensures .1))
 
 copy-blocks-requires : tie.Need-copy-blocks-requires
-copy-blocks-requires c κs = search needs
+copy-blocks-requires c κs =
+    let p = c .before in
+    let s6 = p .before .before in
+    let s5 = s6 .before in
+    let s4 = s5 .before in
+    let s3 = s4 .before in
+    let s2 = s3 .before in
+    let s1 = s2 .before in
+    let s = s1 .before .before in (
+      s .pre,
+      p .put-planes .ensures .0,
+      slots-in (s1 .slot .ensures .1) (s2 .slot2 .ensures .1) (s3 .slot3 .ensures .1) (s4 .slot4 .ensures .1) (s5 .slot5 .ensures .1) (s6 .slot6 .ensures .1),
+    )
 
 same-length : tie.Need-same-length
 same-length c = search needs
@@ -46,7 +53,7 @@ same-length c = search needs
 returns : tie.Need-returns
 returns c =
     let k = c .before .before in
-    let p = k .before .before .before .before in
+    let p = k .before .before in
     let s6 = p .before .before in
     let s5 = s6 .before in
     let s4 = s5 .before in
@@ -55,10 +62,10 @@ returns c =
     let s1 = s2 .before in
     let s = s1 .before .before in
     let a = s .args in
-    group-put (a .b0) (a .b1) (a .b2) (a .b3) (a .b4) (a .b5) (a .v) (a .fc3 .now) _ (s .pre)
+    group-put (a .b0) (a .b1) (a .b2) (a .b3) (a .b4) (a .b5) (a .v) (a .fc3 .now) _ _ (s .pre)
     (s1 .slot .ensures .0) (s2 .slot2 .ensures .0) (s3 .slot3 .ensures .0) (s4 .slot4 .ensures .0) (s5 .slot5 .ensures .0) (s6 .slot6 .ensures .0)
-    (p .put-planes .ensures)
-    (slots-in (search needs) (s1 .slot .ensures .1) (s2 .slot2 .ensures .1) (s3 .slot3 .ensures .1) (s4 .slot4 .ensures .1) (s5 .slot5 .ensures .1) (s6 .slot6 .ensures .1))
+    (p .put-planes .ensures .0) (p .put-planes .ensures .1) (length-flat _)
+    (slots-in (s1 .slot .ensures .1) (s2 .slot2 .ensures .1) (s3 .slot3 .ensures .1) (s4 .slot4 .ensures .1) (s5 .slot5 .ensures .1) (s6 .slot6 .ensures .1))
     (k .copy-blocks .ensures)
 
 pub put-positions-spec : {M : Type 1} → statement M
@@ -71,9 +78,7 @@ put-positions-spec =
     slot-requires-4
     slot-requires-5
     slot-requires-6
-    slice-aggregate-put-planes
     put-planes-requires
-    slice-aggregate-copy-blocks
     copy-blocks-requires
     same-length
     returns)

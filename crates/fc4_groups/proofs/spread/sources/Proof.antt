@@ -2,10 +2,11 @@
 use Prim.Native.Nat.{_≤_, _-_}
 use native.Mathlib.Omega.{arith}
 use mathlib.Core.Path.{_≡_, _∙_}
+use mathlib.Core.Logic.{⊎-elim}
 use lib.ListN.{replicate}
 use borrow.Author.Needs.{needs}
 use Rattle.lists.specs.Tab.{times, times-none, times-more}
-use Rattle.fc4_groups.specs.Spread.{laterIfShared, sourcesOf}
+use Rattle.fc4_groups.specs.Spread.{laterIfShared, sourcesOf, inverse-at, inverse-below, not-shared, is-shared}
 use Rattle.fc4_groups.proofs.spread.sources.Statement.{statement}
 use Rattle.fc4_groups.proofs.spread.sources.Tie as tie
 
@@ -19,10 +20,23 @@ abbrev μ-loop : tie.MeasureT-loop
 loop-holds : tie.Need-loop-holds Inv-loop μ-loop
 loop-holds c = (omega arith, times-none _ _)
 
-later-if-shared-requires : tie.Need-later-if-shared-requires Inv-loop μ-loop
-later-if-shared-requires c κs =
-    let a = c .before .before in
-    (a .pre .0, a .pre .1, omega arith)
+mul-if1 : tie.Need-mul-if1 Inv-loop μ-loop
+mul-if1 c = search needs
+
+element-copy-out-if1 : tie.Need-element-copy-out-if1 Inv-loop μ-loop
+element-copy-out-if1 c = search needs
+
+mul-later : tie.Need-mul-later Inv-loop μ-loop
+mul-later c = search needs
+
+element-copy-out-later : tie.Need-element-copy-out-later Inv-loop μ-loop
+element-copy-out-later c = search needs
+
+later-requires : tie.Need-later-requires Inv-loop μ-loop
+later-requires c κs =
+    let a = c .before .before .before .before .before in
+    let l = c .before .before .before .before .loop in
+    (a .pre .1, rw (inverse-at (a .pre .0) (l .s)) (inverse-below (l .s) (omega arith)))
 
 add-s : tie.Need-add-s Inv-loop μ-loop
 add-s c = search needs
@@ -32,8 +46,14 @@ loop-less c = search needs
 
 loop-again : tie.Need-loop-again Inv-loop μ-loop
 loop-again c =
-    let l = c .before .before .loop in
-    (omega arith, times-more (l .s) _ _ (l .inv .1) (c .later-if-shared .ensures))
+    let a = c .before .before .before .before in
+    let l = c .before .before .before .loop in
+    let e : c .if1 .m ≡ laterIfShared (a .args .bs .now) (a .args .b) (l .s) (l .m) =
+    ⊎-elim
+    (λ w. w .3 ∙ is-shared (a .args .bs .now) (a .args .b) (l .s) (l .m) (w .0 .taken) (w .2 .ensures) (inverse-at (a .pre .0) (l .s)))
+    (λ w. w .1 ∙ not-shared (a .args .bs .now) (a .args .b) (l .s) (l .m) (w .0 .left))
+    (c .if1 .came) in
+    (omega arith, times-more (l .s) _ _ (l .inv .1) e)
 
 returns : tie.Need-returns Inv-loop μ-loop
 unfolding sourcesOf
@@ -49,7 +69,11 @@ sources-spec =
     Inv-loop
     μ-loop
     loop-holds
-    later-if-shared-requires
+    mul-if1
+    element-copy-out-if1
+    mul-later
+    element-copy-out-later
+    later-requires
     add-s
     loop-less
     loop-again
