@@ -1,5 +1,5 @@
 /*
- * Gullyfork: force constants of second, third and fourth order, and the matching of atoms.
+ * Gullyfork: force constants of second, third and fourth order, the matching of atoms, and the roll that lists what was delivered.
  *
  * Link with target/staticlib/libcapi.a, which bindings/library writes (x86-64 Linux). C99 or later, and C++.
  *
@@ -16,7 +16,8 @@
  * ANSWERS
  *   Every call but gf_nint, gf_round and gf_sqrt takes every input and answers with a number. 0 says that its work is done. The six
  *   refusals, 1 to 6, are tried in the order of their numbers: all counts before any length, all lengths before any entry, and so on;
- *   the first that applies is answered. A refused call has written nothing: every slice is as it was.
+ *   the first that applies is answered. The calls on a roll have two more: 7 is looked at before all others, 8 after them. A refused
+ *   call has written nothing: every slice is as it was. gf_is_roll answers with true or false.
  *   Limits, beyond which a count is refused: 1,024 atoms at second order and in matching, 256 at third, 64 at fourth, and the same
  *   for n_patom, num_trans and num_first; level 1,000; the length of atom_list, num_rot, num_disp and num_site_sym 1,024. So more than
  *   1,024 operations (num_rot, num_site_sym) in one call are refused as more atoms are. 0 is within every limit; but the shift tables
@@ -41,6 +42,17 @@
  *     rows with different t never send an atom to the same place;
  *     s2pp[p2s[p]] = p; s2pp is the same for an atom and its images;
  *     row nsym_list[a] sends a to p2s[s2pp[a]].
+ *
+ * A DELIVERY ROLL
+ *   One file that lists what was delivered. Records follow each other from byte 0:
+ *     kind            1 byte    1 delivery, 2 replacement, 3 retirement
+ *     set number      4 bytes   from 1 on
+ *     earlier number  4 bytes   zero except for a replacement, where it is not
+ *     label length    1 byte
+ *     label           any bytes
+ *   At the end stands a trailer: the start of each record in 4 bytes each, in any order, every start just once; the record count in 4
+ *   bytes; and last, in 4 bytes, where the trailer begins. Integers have the lowest byte first. An empty roll is eight zero bytes. A
+ *   roll has at most 1,000 records and 65,536 bytes, and fills the first `count` bytes of the lent slice.
  *
  * NUMBERS
  *   What each call leaves is proved equal to a definition, which is written to be the result of phonopy/phonors 8e92295164 bit for bit,
@@ -69,10 +81,13 @@ enum gf_answer {
     GF_BAD_SLAB = 4,           /* the source or the target slab is not below num_first, or the two are equal */
     GF_BAD_REPRESENTATIVE = 5, /* a listed atom's representative is not itself a listed atom that represents itself */
     GF_BAD_SHIFT_TABLES = 6,   /* the shift tables break a rule */
+    GF_NOT_A_ROLL = 7,         /* the bytes are not a roll, the count passes the slice, nothing starts there, or the record breaks the rules */
+    GF_NO_ROOM = 8,            /* the roll would pass 1,000 records, 65,536 bytes or the lent slice */
     GF_NOT_MATCHED = 64,       /* gf_compute_permutation: some slot is left free */
     GF_DRIFT_STILL = 65,       /* gf_drift_report: all sums are zero */
     GF_DRIFT_WORST = 66,       /* gf_drift_report: the worst sum is named */
-    GF_DRIFT_NO_NUMBER = 67    /* gf_drift_report: a sum is NaN */
+    GF_DRIFT_NO_NUMBER = 67,   /* gf_drift_report: a sum is NaN */
+    GF_ROLL_END = 68           /* gf_read_roll: the trailer begins there */
 };
 
 /* ---- rounding and the root: never refused ---- */
@@ -426,6 +441,42 @@ uint8_t gf_rotate_delta_fc3s(
     const int64_t *rot_map_syms, size_t rot_map_syms_len,
     double *rot_delta, size_t rot_delta_len,
     size_t num_atom, size_t num_site_sym, size_t num_disp);
+
+/* ---- a delivery roll ---- */
+
+/* Whether the first count bytes of the lent slice are there and are a roll. Never refused. */
+bool gf_is_roll(const uint8_t *lent, size_t lent_len, size_t count);
+
+/*
+ * Reads a roll at a position: begin with 0 and go on with slots[5] until the answer is GF_ROLL_END. GF_DONE: a record starts there, and
+ * slots has
+ *     slots[0]  its kind
+ *     slots[1]  its set number
+ *     slots[2]  its earlier set number, 0 except for a replacement
+ *     slots[3]  where its label begins: the label is part of the roll, lent + slots[3]
+ *     slots[4]  how many bytes the label has
+ *     slots[5]  where the record ends: the next position
+ * GF_ROLL_END: the trailer begins there; the slots stay. The whole roll is judged in each call.
+ *   lent   count or more
+ *   slots  6
+ * Refusals: 7 (no roll, or neither a record of it nor its trailer starts at the position), then 2 (slots).
+ */
+uint8_t gf_read_roll(const uint8_t *lent, size_t lent_len, size_t count, size_t at, size_t *slots, size_t slots_len);
+
+/*
+ * Adds a record at the end of a roll. GF_DONE: new_count[0] is how many bytes the roll has now; it has the former records and then this
+ * one, its starts in rising order, and the bytes after it are as they were. The numbers are not looked up in the roll: a second
+ * delivery of a set is accepted.
+ *   lent       count or more; the roll grows by 14 bytes and the label
+ *   label      at most 255
+ *   new_count  1
+ * Refusals: 7 (no roll, or the record breaks the rules), then 2 (new_count), then 8.
+ */
+uint8_t gf_append_roll(
+    uint8_t *lent, size_t lent_len,
+    size_t count, uint8_t kind, uint32_t set, uint32_t earlier,
+    const uint8_t *label, size_t label_len,
+    size_t *new_count, size_t new_count_len);
 
 #ifdef __cplusplus
 }

@@ -93,4 +93,12 @@ extern "C" {
         nsym_list: *const i64, nsym_list_len: usize, perms: *const i64, perms_len: usize, done: *mut u8,
         done_len: usize, n_satom: usize, n_patom: usize, num_trans: usize, t_type: i64,
     ) -> u8;
+    pub fn gf_is_roll(lent: *const u8, lent_len: usize, count: usize) -> bool;
+    pub fn gf_read_roll(
+        lent: *const u8, lent_len: usize, count: usize, at: usize, slots: *mut usize, slots_len: usize,
+    ) -> u8;
+    pub fn gf_append_roll(
+        lent: *mut u8, lent_len: usize, count: usize, kind: u8, set: u32, earlier: u32, label: *const u8,
+        label_len: usize, new_count: *mut usize, new_count_len: usize,
+    ) -> u8;
 }

@@ -10,7 +10,8 @@ use crate::rng::Rng;
 use crate::shifts::{cyclic, tables};
 use crate::spoil::perhaps_spoilt;
 use crate::tally::Tally;
-use crate::{compare, compare_common};
+use crate::compare_roll::{Asked, Name as Name3};
+use crate::{compare, compare_common, compare_roll};
 
 const REFUSALS: std::ops::RangeInclusive<u8> = 1..=6;
 
@@ -110,6 +111,29 @@ fn drift_reports() {
             66
         });
         assert_eq!(tally.differences, differences, "{place:?}");
+    }
+}
+
+/// One flipped bit of the lent slice, of a slot or of the answer is seen in the calls on a roll.
+#[test]
+fn rolls() {
+    let mut r = Rng::new(31);
+    for name in [Name3::IsRoll, Name3::ReadRoll, Name3::AppendRoll] {
+        for _ in 0..300 {
+            let (asked, bit) = (compare_roll::make(&mut r, name), r.below(8));
+            let flipped = |flip: &dyn Fn(&mut Asked) -> u8| {
+                let mut tally = Tally::new("");
+                compare_roll::one(&mut tally, &asked, &|a: &mut Asked| {
+                    let number = a.model();
+                    number ^ flip(a)
+                });
+                tally.differences
+            };
+            assert_eq!(flipped(&|_| 0), 0);
+            assert_eq!(flipped(&|_| 1 << bit), 1);
+            assert_eq!(flipped(&|a| a.lent.last_mut().map_or(1, |b| { *b ^= 1 << bit; 0 })), 1);
+            assert_eq!(flipped(&|a| a.slots.first_mut().map_or(1, |n| { *n ^= 1 << bit; 0 })), 1);
+        }
     }
 }
 

@@ -4,10 +4,10 @@ use crate::call_compact::Name;
 use crate::compare_limits::limits;
 use crate::rng::Rng;
 use crate::tally::Tally;
-use crate::{compare_common, compare_lists, compare_true, makers, port};
+use crate::{compare_common, compare_lists, compare_roll, compare_true, makers, port};
 
-/// Every public call, the lists of transposes and the read-outs of the true ones, in the order in which they are compared.
-pub const CALLS: [&str; 26] = [
+/// Every public call, the lists of transposes, the read-outs of the true ones and whole rolls, in the order in which they are compared.
+pub const CALLS: [&str; 30] = [
     "nint",
     "round",
     "sqrt",
@@ -34,6 +34,10 @@ pub const CALLS: [&str; 26] = [
     "true_transpose_compact_fc3",
     "true_transpose_compact_fc4",
     "true transposes read out",
+    "is_roll",
+    "read_roll",
+    "append_roll",
+    "whole rolls",
 ];
 
 /// Of nint, round and sqrt so many patterns are tried for each call of the others.
@@ -68,6 +72,10 @@ fn run(tally: &mut Tally, r: &mut Rng, count: u64) {
         "true_transpose_compact_fc4" => beside(tally, r, count, |r| makers::compact(r, Name::True4)),
         "true transposes read out" => compare_true::read_outs(tally, r, count),
         "lists of transposes" => compare_lists::lists(tally, r, count),
+        "is_roll" => compare_roll::run(tally, r, count, compare_roll::Name::IsRoll),
+        "read_roll" => compare_roll::run(tally, r, count, compare_roll::Name::ReadRoll),
+        "append_roll" => compare_roll::run(tally, r, count, compare_roll::Name::AppendRoll),
+        "whole rolls" => compare_roll::walks(tally, r, count),
         _ => compare_lists::same_order(tally, r, count),
     }
 }
@@ -75,6 +83,7 @@ fn run(tally: &mut Tally, r: &mut Rng, count: u64) {
 /// Whether the library has what the comparison of that name calls.
 fn present(name: &str) -> bool {
     port::has(match name {
+        "whole rolls" => "append_roll",
         "true transposes read out" => "true_transpose_compact_fc4",
         _ if name.starts_with("lists") => "transpose_compact_fc3",
         _ => name,

@@ -25,6 +25,7 @@ mod compare;
 mod compare_common;
 mod compare_limits;
 mod compare_lists;
+mod compare_roll;
 mod compare_true;
 mod edges;
 mod fc2_records;
@@ -38,6 +39,8 @@ mod memory;
 mod port;
 mod record;
 mod rng;
+mod roll;
+mod roll_records;
 mod shift_records;
 mod shifts;
 mod slab_records;
@@ -50,7 +53,7 @@ mod wild;
 #[global_allocator]
 static HEAP: memory::Counting = memory::Counting;
 
-const USAGE: &str = "oracle record common|shifts|matching|second|compact|third|fourth|true|distribute|deltas FOLDER
+const USAGE: &str = "oracle record common|shifts|matching|second|compact|third|fourth|true|distribute|deltas|roll FOLDER
 oracle flip PROGRAM FOLDER COUNT
 oracle compare all|limits|CALL [SEED [COUNT]]
 oracle bench all|common|cells|fc2|fc3|fc4|tables|transposes [SECONDS]";
@@ -71,6 +74,7 @@ fn record(name: &str, folder: &Path) -> Outcome {
         "true" => fc_records::true_replay(),
         "distribute" => slab_records::distribute(),
         "deltas" => slab_records::deltas(),
+        "roll" => roll_records::replay(),
         _ => return None,
     };
     fs::write(folder.join("stdin"), record::pages(&replay.records)).expect("stdin can be written");
@@ -122,7 +126,7 @@ fn main() {
     let outcome = match words[..] {
         ["record", name, folder] => record(name, Path::new(folder)),
         ["flip", program, folder, count] => count.parse().ok().map(|count| flip::flip(program, Path::new(folder), count)),
-        ["compare", ..] | ["bench", ..] if !port::has("nint") => {
+        ["compare", ..] | ["bench", ..] if !port::has("nint") && !port::has("is_roll") => {
             eprintln!("compare and bench need libcapi.a: run `bindings/library` and build again");
             Some(false)
         }

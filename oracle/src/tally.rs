@@ -121,6 +121,7 @@ fn words(answer: u8) -> String {
         65 => "still".into(),
         66 => "worst".into(),
         67 => "no number".into(),
+        68 => "end".into(),
         k => format!("refused by {k}:"),
     }
 }

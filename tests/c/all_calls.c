@@ -392,6 +392,58 @@ static void fourth_order(void) {
     CHECK(fc4[1] == 3 && fc4[3] == 3 && fc4[9] == 3 && fc4[27] == 3 && cleared(S(done)));
 }
 
+/* set 7 is delivered with the label "AB", set 300 replaces it without a label: the roll that the appender makes of them */
+static const uint8_t two_records[] = {
+    1, 7, 0, 0, 0, 0, 0, 0, 0, 2, 'A', 'B',     2, 44, 1, 0, 0, 7, 0, 0, 0, 0,
+    0, 0, 0, 0,     12, 0, 0, 0,     2, 0, 0, 0,     22, 0, 0, 0,
+};
+
+static void append_roll(void) {
+    uint8_t lent[40] = {0}, before[40];
+    const uint8_t label[] = {'A', 'B'};
+    size_t count[] = {8};
+    memset(lent + 8, 9, 32);
+    CHECK(gf_is_roll(S(lent), 8));
+    CHECK(gf_append_roll(S(lent), count[0], 1, 7, 0, S(label), S(count)) == GF_DONE && count[0] == 24);
+    memcpy(before, lent, sizeof lent);
+    CHECK(gf_append_roll(S(lent), count[0], 2, 300, 0, label, 0, S(count)) == GF_NOT_A_ROLL);  /* no earlier number */
+    CHECK(gf_append_roll(S(lent), count[0], 1, 300, 7, label, 0, S(count)) == GF_NOT_A_ROLL);  /* one too many */
+    CHECK(gf_append_roll(S(lent), count[0], 0, 300, 0, label, 0, S(count)) == GF_NOT_A_ROLL);
+    CHECK(gf_append_roll(S(lent), count[0], 4, 300, 0, label, 0, S(count)) == GF_NOT_A_ROLL);
+    CHECK(gf_append_roll(S(lent), count[0], 1, 0, 0, label, 0, S(count)) == GF_NOT_A_ROLL);
+    CHECK(gf_append_roll(S(lent), 23, 2, 300, 7, label, 0, S(count)) == GF_NOT_A_ROLL);
+    CHECK(gf_append_roll(S(lent), 41, 2, 300, 7, label, 0, S(count)) == GF_NOT_A_ROLL);
+    CHECK(gf_append_roll(lent, 37, 24, 2, 300, 7, label, 0, S(count)) == GF_NO_ROOM);          /* one byte short */
+    CHECK(gf_append_roll(lent, 37, 24, 2, 300, 0, label, 0, S(count)) == GF_NOT_A_ROLL);       /* 7 before 8 */
+    CHECK(gf_append_roll(lent, 37, 24, 2, 300, 7, label, 0, count, 0) == GF_WRONG_LENGTH);     /* 2 before 8 */
+    CHECK(gf_append_roll(lent, 37, 24, 2, 300, 0, label, 0, count, 0) == GF_NOT_A_ROLL);       /* 7 before 2 */
+    CHECK(memcmp(lent, before, sizeof lent) == 0 && count[0] == 24);
+    CHECK(gf_append_roll(S(lent), count[0], 2, 300, 7, label, 0, S(count)) == GF_DONE && count[0] == 38);
+    CHECK(memcmp(lent, two_records, sizeof two_records) == 0 && lent[38] == 9 && lent[39] == 9);
+}
+
+static void read_roll(void) {
+    uint8_t lent[sizeof two_records];
+    size_t slots[] = {9, 9, 9, 9, 9, 9};
+    memcpy(lent, two_records, sizeof lent);
+    CHECK(gf_read_roll(S(lent), sizeof lent, 0, S(slots)) == GF_DONE);
+    CHECK(slots[0] == 1 && slots[1] == 7 && slots[2] == 0 && slots[3] == 10 && slots[4] == 2 && slots[5] == 12);
+    CHECK(lent[slots[3]] == 'A');
+    CHECK(gf_read_roll(S(lent), sizeof lent, 12, S(slots)) == GF_DONE);
+    CHECK(slots[0] == 2 && slots[1] == 300 && slots[2] == 7 && slots[3] == 22 && slots[4] == 0 && slots[5] == 22);
+    CHECK(gf_read_roll(S(lent), sizeof lent, 22, S(slots)) == GF_ROLL_END && slots[1] == 300);
+    CHECK(gf_read_roll(S(lent), sizeof lent, 22, slots, 5) == GF_WRONG_LENGTH);
+    CHECK(gf_read_roll(S(lent), sizeof lent, 1, S(slots)) == GF_NOT_A_ROLL && slots[1] == 300);
+    CHECK(gf_read_roll(S(lent), sizeof lent, 1, slots, 5) == GF_NOT_A_ROLL);
+    CHECK(gf_read_roll(S(lent), sizeof lent - 1, 0, S(slots)) == GF_NOT_A_ROLL);
+    CHECK(gf_read_roll(S(lent), sizeof lent + 1, 0, S(slots)) == GF_NOT_A_ROLL);
+    /* the starts in another order; then one of them twice */
+    lent[22] = 12, lent[26] = 0;
+    CHECK(gf_is_roll(S(lent), sizeof lent) && gf_read_roll(S(lent), sizeof lent, 12, S(slots)) == GF_DONE);
+    lent[26] = 12;
+    CHECK(!gf_is_roll(S(lent), sizeof lent) && gf_read_roll(S(lent), sizeof lent, 12, S(slots)) == GF_NOT_A_ROLL);
+}
+
 int main(void) {
     rounding();
     shift_tables();
@@ -406,6 +458,8 @@ int main(void) {
     slabs();
     rotated_deltas();
     fourth_order();
+    append_roll();
+    read_roll();
     printf("%d of %d hold\n", checks - failures, checks);
     return failures != 0;
 }

@@ -1,4 +1,5 @@
-//! Force constants of second, third and fourth order, and the matching of atoms: safe functions over the proved library Gullyfork.
+//! Force constants of second, third and fourth order, the matching of atoms, and delivery rolls: safe functions over the proved library
+//! Gullyfork.
 //!
 //! The modules and functions have the names and the arguments of [phonors](https://github.com/phonopy/phonors). What differs:
 //!
@@ -29,6 +30,7 @@ pub mod common;
 pub mod fc2;
 pub mod fc3;
 pub mod fc4;
+pub mod roll;
 pub mod tables;
 
 mod ffi;
@@ -51,10 +53,14 @@ pub enum Refusal {
     BadRepresentative = 5,
     /// The shift tables break a rule.
     BadShiftTables = 6,
+    /// The bytes are not a roll, the count passes the slice, nothing starts at the position, or the record to add breaks the rules.
+    NotARoll = 7,
+    /// The roll would pass 1,000 records, 65,536 bytes or the lent slice.
+    NoRoom = 8,
 }
 
 impl Refusal {
-    /// The number of the refusal, 1 to 6.
+    /// The number of the refusal, 1 to 8.
     pub fn number(self) -> u8 {
         self as u8
     }
@@ -69,6 +75,8 @@ impl fmt::Display for Refusal {
             Refusal::BadSlab => "the source or the target slab is not below num_first, or the two are equal",
             Refusal::BadRepresentative => "a listed atom's representative is not itself a listed atom that represents itself",
             Refusal::BadShiftTables => "the shift tables break a rule",
+            Refusal::NotARoll => "the bytes are not a roll, nothing starts at the position, or the record breaks the rules",
+            Refusal::NoRoom => "the roll would pass 1,000 records, 65,536 bytes or the lent slice",
         };
         f.write_str(words)
     }
@@ -76,7 +84,7 @@ impl fmt::Display for Refusal {
 
 impl error::Error for Refusal {}
 
-/// The numbers of include/gullyfork.h: 0, and the six refusals.
+/// The numbers of include/gullyfork.h: 0, and the refusals.
 fn answer(number: u8) -> Result<(), Refusal> {
     Err(match number {
         0 => return Ok(()),
@@ -86,7 +94,9 @@ fn answer(number: u8) -> Result<(), Refusal> {
         4 => Refusal::BadSlab,
         5 => Refusal::BadRepresentative,
         6 => Refusal::BadShiftTables,
-        _ => unreachable!("the library answers with 0 to 6 here, not with {number}"),
+        7 => Refusal::NotARoll,
+        8 => Refusal::NoRoom,
+        _ => unreachable!("the library answers with 0 to 8 here, not with {number}"),
     })
 }
 
@@ -111,14 +121,14 @@ mod tests {
     #[test]
     fn numbers_come_back() {
         assert_eq!(answer(0), Ok(()));
-        for number in 1..=6 {
+        for number in 1..=8 {
             assert_eq!(answer(number).unwrap_err().number(), number);
         }
     }
 
     #[test]
     fn every_refusal_has_its_own_words() {
-        let words: Vec<String> = (1..=6).map(|n| answer(n).unwrap_err().to_string()).collect();
+        let words: Vec<String> = (1..=8).map(|n| answer(n).unwrap_err().to_string()).collect();
         for (i, w) in words.iter().enumerate() {
             assert!(!words[..i].contains(w));
         }

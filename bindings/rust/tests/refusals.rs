@@ -1,5 +1,5 @@
 //! Refused calls leave every slice, counts beyond every limit cost no memory, and work memory has no influence and ends in zeros.
-use gullyfork::{cells, fc2, fc3, fc4, tables, Refusal};
+use gullyfork::{cells, fc2, fc3, fc4, roll, tables, Refusal};
 
 const HUGE: usize = usize::MAX;
 const IDENTITY: [f64; 9] = [1.0, 0.0, 0.0, 0.0, 1.0, 0.0, 0.0, 0.0, 1.0];
@@ -85,4 +85,22 @@ fn drifts() {
     let none = fc2::DriftReport { drift: fc2::Drift::NoNumber, atom: 0, directions: [2, 1] };
     assert_eq!(fc2::drift_report(&fc, 2), Ok(none));
     assert_eq!(fc2::drift_report(&fc, 3), Err(Refusal::WrongLength));
+}
+
+#[test]
+fn a_roll_that_is_none_is_left_alone() {
+    let mut file = [9; 40];
+    file[..8].copy_from_slice(&roll::EMPTY);
+    let before = file;
+    for (count, set, label, refusal) in
+        [(7, 1, 0, Refusal::NotARoll), (41, 1, 0, Refusal::NotARoll), (8, 0, 0, Refusal::NotARoll), (8, 1, 256, Refusal::NotARoll), (8, 1, 19, Refusal::NoRoom)]
+    {
+        assert_eq!(roll::append(&mut file, count, roll::DELIVERY, set, 0, &vec![65; label]), Err(refusal));
+    }
+    assert_eq!(file, before);
+    assert_eq!(roll::append(&mut file, 8, roll::DELIVERY, 1, 0, &[65; 18]), Ok(40));
+    assert_eq!(roll::read(&file, 40, 0).unwrap().unwrap().label, [65; 18]);
+    assert_eq!(roll::read(&file, 40, 28), Ok(None));
+    assert_eq!(roll::read(&file, 40, 10), Err(Refusal::NotARoll));
+    assert_eq!(roll::records(&file, 39).collect::<Vec<_>>(), [Err(Refusal::NotARoll)]);
 }

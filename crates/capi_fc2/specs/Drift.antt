@@ -12,7 +12,7 @@ use Rattle.lists.specs.Tests.{and-fst, and-snd, every, some}
 use Rattle.tables.specs.declared.Answer.{Answer}
 use Rattle.tables.specs.declared.Answer.the-variants.{Done, Refused as RefusedBy}
 use Rattle.tables.specs.declared.Refusal.{Refusal}
-use Rattle.tables.specs.declared.Refusal.the-variants.{CountAboveLimit, WrongLength, IndexOutOfRange, BadSlab, BadRepresentative, BadShiftTables}
+use Rattle.tables.specs.declared.Refusal.the-variants.{CountAboveLimit, WrongLength, IndexOutOfRange, BadSlab, BadRepresentative, BadShiftTables, NotARoll, NoRoom}
 use Rattle.tables.specs.Answers.{refusalNumber, numberOf, refuseIf}
 use Rattle.tables.specs.Limits.{limit2}
 use Rattle.tables.specs.Conditions.{anyAbove}
@@ -52,13 +52,15 @@ few Still = omega arith
 few (Worst x) = omega arith
 few NoNumber = omega arith
 
-small : (r : Refusal) → refusalNumber r ≤ 6
+small : (r : Refusal) → refusalNumber r ≤ 8
 small CountAboveLimit = omega arith
 small WrongLength = omega arith
 small IndexOutOfRange = omega arith
 small BadSlab = omega arith
 small BadRepresentative = omega arith
 small BadShiftTables = omega arith
+small NotARoll = omega arith
+small NoRoom = omega arith
 
 pub fits : (v p : ℕ) → slotsFit v p ≡ true → (v ≡ 1) × (p ≡ 3)
 fits v p e = (eqb-true v 1 (and-fst (eqb v 1) (eqb p 3) e), eqb-true p 3 (and-snd (eqb v 1) (eqb p 3) e))

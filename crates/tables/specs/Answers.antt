@@ -4,11 +4,11 @@ use mathlib.Core.Path.{_≡_, refl, sym, ap, _∙_}
 use mathlib.Core.Bool.{Bool, true, false, cond, true≢false, false≢true}
 use Prim.Native.Nat.{ℕ}
 use Rattle.tables.specs.declared.Refusal.{Refusal}
-use Rattle.tables.specs.declared.Refusal.the-variants.{CountAboveLimit, WrongLength, IndexOutOfRange, BadSlab, BadRepresentative, BadShiftTables}
+use Rattle.tables.specs.declared.Refusal.the-variants.{CountAboveLimit, WrongLength, IndexOutOfRange, BadSlab, BadRepresentative, BadShiftTables, NotARoll, NoRoom}
 use Rattle.tables.specs.declared.Answer.{Answer}
 use Rattle.tables.specs.declared.Answer.the-variants.{Done, Refused}
 
--- document 01's number of each refusal
+-- the number of each refusal: document 01's six, then document 02's
 abbrev pub refusalNumber : Refusal → ℕ
 refusalNumber CountAboveLimit = 1
 refusalNumber WrongLength = 2
@@ -16,6 +16,8 @@ refusalNumber IndexOutOfRange = 3
 refusalNumber BadSlab = 4
 refusalNumber BadRepresentative = 5
 refusalNumber BadShiftTables = 6
+refusalNumber NotARoll = 7
+refusalNumber NoRoom = 8
 
 -- the number of an answer: 0 for a call that is done
 abbrev pub numberOf : Answer → ℕ

@@ -6,7 +6,7 @@ pub mod atoms;
 pub mod index;
 pub mod limits;
 
-// Document 01's six refusals, by their numbers.
+// Document 01's six refusals and those that document 02 adds, by their numbers.
 pub enum Refusal {
     // 1: a count is above its limit
     CountAboveLimit,
@@ -20,6 +20,10 @@ pub enum Refusal {
     BadRepresentative,
     // 6: the shift tables break a rule
     BadShiftTables,
+    // 7: the bytes are not a roll, the count passes the slice, or the record to add breaks the rules
+    NotARoll,
+    // 8: the result would pass a roll's limits or the lent length
+    NoRoom,
 }
 
 // What a call answers: done, or the first refusal that applies.
@@ -28,7 +32,7 @@ pub enum Answer {
     Refused(Refusal),
 }
 
-// Document 01's number of a refusal.
+// The number of a refusal.
 pub fn refusal_number(r: Refusal) -> u8
     ensures { λ n. ⌜ n ≡ refusalNumber r ⌝ }
 {
@@ -39,6 +43,8 @@ pub fn refusal_number(r: Refusal) -> u8
         Refusal::BadSlab => 4,
         Refusal::BadRepresentative => 5,
         Refusal::BadShiftTables => 6,
+        Refusal::NotARoll => 7,
+        Refusal::NoRoom => 8,
     }
 }
 

@@ -1,0 +1,74 @@
+//! A delivery roll: one file that lists what was delivered. `include/gullyfork.h` has the format.
+//!
+//! ```
+//! use gullyfork::{roll, Refusal};
+//!
+//! let mut file = vec![0; 100];
+//! let mut count = roll::EMPTY.len();
+//! count = roll::append(&mut file, count, roll::DELIVERY, 7, 0, b"spring")?;
+//! count = roll::append(&mut file, count, roll::REPLACEMENT, 8, 7, b"")?;
+//! assert_eq!(roll::append(&mut file, count, roll::DELIVERY, 9, 7, b""), Err(Refusal::NotARoll));
+//! let records: Result<Vec<roll::Record>, Refusal> = roll::records(&file, count).collect();
+//! assert_eq!(records?.iter().map(|r| (r.set, r.label)).collect::<Vec<_>>(), [(7, &b"spring"[..]), (8, b"")]);
+//! # Ok::<(), Refusal>(())
+//! ```
+use crate::ffi::call;
+use crate::{answer, Refusal};
+
+/// A roll without records.
+pub const EMPTY: [u8; 8] = [0; 8];
+
+pub const DELIVERY: u8 = 1;
+pub const REPLACEMENT: u8 = 2;
+pub const RETIREMENT: u8 = 3;
+
+/// A record of a roll; the label is part of the roll's bytes.
+#[derive(Clone, Copy, Debug, PartialEq, Eq)]
+pub struct Record<'a> {
+    pub kind: u8,
+    pub set: u32,
+    pub earlier: u32,
+    pub label: &'a [u8],
+    /// Where the record ends: the next position.
+    pub next: usize,
+}
+
+/// Whether the first `count` bytes are there and are a roll.
+pub fn is_roll(lent: &[u8], count: usize) -> bool {
+    call!(gf_is_roll(&lent, count))
+}
+
+/// What stands at a position of the roll in the first `count` bytes: a record, or `None` at the trailer.
+pub fn read(lent: &[u8], count: usize, at: usize) -> Result<Option<Record<'_>>, Refusal> {
+    const END: u8 = 68;
+    let mut slots = [0; 6];
+    let number = call!(gf_read_roll(&lent, count, at, &mut slots));
+    if number == END {
+        return Ok(None);
+    }
+    answer(number)?;
+    let [kind, set, earlier, from, length, next] = slots;
+    Ok(Some(Record { kind: kind as u8, set: set as u32, earlier: earlier as u32, label: &lent[from..from + length], next }))
+}
+
+/// The records of a roll from byte 0, one after another; the refusal alone where the bytes are no roll.
+pub fn records(lent: &[u8], count: usize) -> impl Iterator<Item = Result<Record<'_>, Refusal>> {
+    let mut at = Some(0);
+    std::iter::from_fn(move || {
+        let found = read(lent, count, at?).transpose();
+        at = match &found {
+            Some(Ok(record)) => Some(record.next),
+            _ => None,
+        };
+        found
+    })
+}
+
+/// Adds a record at the end of the roll in the first `count` bytes, and gives the new count. The bytes after the new roll stay.
+pub fn append(lent: &mut [u8], count: usize, kind: u8, set: u32, earlier: u32, label: &[u8]) -> Result<usize, Refusal> {
+    let mut new_count = [0];
+    let number = call!(gf_append_roll(&mut lent, count, kind, set, earlier, &label, &mut new_count));
+    answer(number)?;
+    let [long] = new_count;
+    Ok(long)
+}

@@ -1,0 +1,2 @@
+pub mod Roll
+pub mod Told

@@ -1,0 +1,54 @@
+-- `replay_roll::mix_slots` is safe and ends. Assumes nothing.
+use Prim.Native.Nat.{_≤_, _-_}
+use lib.ListN.{length}
+use borrow.Author.Needs.{needs}
+use Rattle.replay_roll.proofs.mix_slots.Statement.{statement}
+use Rattle.replay_roll.proofs.mix_slots.Tie as tie
+use Rattle.replay_roll.proofs.mix_slots.Reads as reads
+use Rattle.replay_roll.proofs.mix_slots.Lts as lts
+use Rattle.records.proofs.mix.Reads as mix-reads
+
+abbrev Inv-loop : tie.InvT-loop
+Inv-loop slots g₀ i₀ g i = i ≤ length slots
+
+abbrev μ-loop : tie.MeasureT-loop
+μ-loop slots g₀ i₀ g i = length slots - i
+
+loop-holds : tie.Need-loop-holds Inv-loop μ-loop
+loop-holds c = search needs
+
+mul-mix : tie.Need-mul-mix Inv-loop μ-loop
+mul-mix c = search needs
+
+shared-slice-read-mix : tie.Need-shared-slice-read-mix Inv-loop μ-loop
+shared-slice-read-mix c = search needs
+
+mix-requires : tie.Need-mix-requires Inv-loop μ-loop
+mix-requires c κs = search needs
+
+add-i : tie.Need-add-i Inv-loop μ-loop
+add-i c = search needs
+
+loop-less : tie.Need-loop-less Inv-loop μ-loop
+loop-less c = search needs
+
+loop-again : tie.Need-loop-again Inv-loop μ-loop
+loop-again c = search needs
+
+returns : tie.Need-returns Inv-loop μ-loop
+returns c = search needs
+
+pub mix-slots-spec : {M : Type 1} → statement M
+mix-slots-spec =
+    tie.close
+    (tie.spec
+    Inv-loop
+    μ-loop
+    loop-holds
+    mul-mix
+    shared-slice-read-mix
+    mix-requires
+    add-i
+    loop-less
+    loop-again
+    returns)

@@ -1,0 +1,10 @@
+pub mod Format
+pub mod Reading
+pub mod Roll
+pub mod Starts
+pub mod Numbers
+pub mod Rendering
+pub mod Holding
+pub mod Listing
+pub mod Laws
+pub mod Samples

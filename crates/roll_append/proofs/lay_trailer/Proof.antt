@@ -1,0 +1,52 @@
+-- `roll_append::lay_trailer` meets its contract. Assumes nothing.
+use Rattle.roll_append.specs.Storing.{trailer-stored}
+use borrow.Author.Needs.{needs}
+use Rattle.roll_append.proofs.lay_trailer.Statement.{statement}
+use Rattle.roll_append.proofs.lay_trailer.Tie as tie
+
+lay-starts-requires : tie.Need-lay-starts-requires
+lay-starts-requires c κs = search needs
+
+mul-lay-four : tie.Need-mul-lay-four
+mul-lay-four c = search needs
+
+add-lay-four : tie.Need-add-lay-four
+add-lay-four c = search needs
+
+lay-four-requires : tie.Need-lay-four-requires
+lay-four-requires c κs = search needs
+
+mul-lay-four-2 : tie.Need-mul-lay-four-2
+mul-lay-four-2 c = search needs
+
+add-lay-four-2 : tie.Need-add-lay-four-2
+add-lay-four-2 c = search needs
+
+add-lay-four-3 : tie.Need-add-lay-four-3
+add-lay-four-3 c = search needs
+
+lay-four-requires-2 : tie.Need-lay-four-requires-2
+lay-four-requires-2 c κs = search needs
+
+same-length : tie.Need-same-length
+same-length c = search needs
+
+returns : tie.Need-returns
+returns c =
+    let s = c .before .before .before .before .before .before .before .before .before .before .before .before .before in
+    trailer-stored (s .args .s .now) _ _ _ (s .args .n) (s .args .t) (s .pre .1) (c .before .before .before .before .before .before .before .before .before .before .lay-starts .ensures) (c .before .before .before .before .before .before .lay-four .ensures) (c .before .before .lay-four2 .ensures)
+
+pub lay-trailer-spec : {M : Type 1} → statement M
+lay-trailer-spec =
+    tie.close
+    (tie.spec
+    lay-starts-requires
+    mul-lay-four
+    add-lay-four
+    lay-four-requires
+    mul-lay-four-2
+    add-lay-four-2
+    add-lay-four-3
+    lay-four-requires-2
+    same-length
+    returns)

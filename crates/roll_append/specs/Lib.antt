@@ -1,0 +1,6 @@
+pub mod Calls
+pub mod Laid
+pub mod Storing
+pub mod Appending
+pub mod Laws
+pub mod Samples

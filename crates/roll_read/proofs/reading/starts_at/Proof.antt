@@ -1,0 +1,114 @@
+-- `roll_read::reading::starts_at` meets its contract. The loop: p is where record i starts, and no earlier record starts at the position asked for.
+-- Assumes nothing.
+use mathlib.Core.Path.{_≡_, sym, ap, _∙_, subst}
+use mathlib.Core.Bool.{false}
+use Prim.Native.Nat.{ℕ, _+_, _-_, _≤_, _<_}
+use native.Mathlib.Omega.{arith}
+use lib.Dec.{eqb}
+use borrow.Author.Tests.{eq-eqb, ne-eqb}
+use borrow.Author.Count.{below-none, below-more}
+use Rattle.roll.specs.Reading.{start, isStart, countOf}
+use Rattle.roll.specs.Starts.{start-first, next-start, ends-before, head-before, one-passed, all-failed}
+use Rattle.roll.specs.Holding.{is-sized, count-is, at-least-eight}
+use Rattle.roll.specs.Roll.{Sized}
+use Rattle.roll_read.specs.Steps.{inside}
+use borrow.Author.Needs.{needs}
+use Rattle.roll_read.proofs.reading.starts_at.Statement.{statement}
+use Rattle.roll_read.proofs.reading.starts_at.Tie as tie
+
+abbrev Inv-loop : tie.InvT-loop
+Inv-loop b at n p₀ i₀ p i = (i ≤ n) × (p ≡ start b i) × ((k : ℕ) → k < i → eqb (start b k) at ≡ false)
+
+abbrev μ-loop : tie.MeasureT-loop
+μ-loop b at n p₀ i₀ p i = n - i
+
+sub-four : tie.Need-sub-four Inv-loop μ-loop
+sub-four c = omega (arith, at-least-eight (c .before .args .b .now) (c .before .pre))
+
+four-requires : tie.Need-four-requires Inv-loop μ-loop
+four-requires c κs = omega (arith, at-least-eight (c .before .args .b .now) (c .before .pre))
+
+loop-holds : tie.Need-loop-holds Inv-loop μ-loop
+loop-holds c = (omega arith, start-first (c .before .before .args .b .now), below-none _)
+
+returns : tie.Need-returns Inv-loop μ-loop
+unfolding isStart
+returns c =
+    let s = c .before .before .before .before .before in
+    let b = s .args .b .now in
+    let l = c .before .before .loop in
+    let e = count-is b (c .before .before .before .four .ensures .0) in
+    let met : start b (l .i) ≡ s .args .at = omega (arith, l .inv .1, c .if1 .taken) in
+    one-passed (countOf b) (λ k. eqb (start b k) (s .args .at)) (l .i) (subst (λ n. l .i < n) e (c .before .loop-test .taken)) (eq-eqb (start b (l .i)) (s .args .at) met)
+
+add-wide : tie.Need-add-wide Inv-loop μ-loop
+add-wide c =
+    let s = c .before .before .before .before .before in
+    let l = c .before .before .loop in
+    let h = inside (s .args .b .now) (s .pre) (l .i) (l .p) (subst (λ n. l .i < n) (count-is (s .args .b .now) (c .before .before .before .four .ensures .0)) (c .before .loop-test .taken)) (l .inv .1) in
+    omega arith
+
+shared-slice-read-wide : tie.Need-shared-slice-read-wide Inv-loop μ-loop
+shared-slice-read-wide c =
+    let s = c .before .before .before .before .before .before in
+    let l = c .before .before .before .loop in
+    let h = inside (s .args .b .now) (s .pre) (l .i) (l .p) (subst (λ n. l .i < n) (count-is (s .args .b .now) (c .before .before .before .before .four .ensures .0)) (c .before .before .loop-test .taken)) (l .inv .1) in
+    omega arith
+
+wide-requires : tie.Need-wide-requires Inv-loop μ-loop
+wide-requires c κs = search needs
+
+add-p : tie.Need-add-p Inv-loop μ-loop
+add-p c = search needs
+
+add-p-2 : tie.Need-add-p-2 Inv-loop μ-loop
+add-p-2 c =
+    let s = c .before .before .before .before .before .before .before in
+    let l = c .before .before .before .before .loop in
+    let h = inside (s .args .b .now) (s .pre) (l .i) (l .p) (subst (λ n. l .i < n) (count-is (s .args .b .now) (c .before .before .before .before .before .four .ensures .0)) (c .before .before .before .loop-test .taken)) (l .inv .1) in
+    omega arith
+
+add-i : tie.Need-add-i Inv-loop μ-loop
+add-i c = search needs
+
+loop-less : tie.Need-loop-less Inv-loop μ-loop
+loop-less c = search needs
+
+loop-again : tie.Need-loop-again Inv-loop μ-loop
+loop-again c =
+    let s = c .before .before .before .before .before .before .before in
+    let b = s .args .b .now in
+    let l = c .before .before .before .before .loop in (
+      omega arith,
+      next-start b (l .i) (l .p) (c .wide .result) (l .inv .1) (c .wide .ensures .0),
+      below-more (λ k. eqb (start b k) (s .args .at) ≡ false) (l .i) (l .inv .2) (ne-eqb (start b (l .i)) (s .args .at) (λ e. c .before .before .if1 .left (l .inv .1 ∙ e))),
+    )
+
+returns-2 : tie.Need-returns-2 Inv-loop μ-loop
+unfolding isStart
+returns-2 c =
+    let s = c .before .before .before .before in
+    let b = s .args .b .now in
+    let l = c .before .loop in
+    let e = count-is b (c .before .before .four .ensures .0) in
+    all-failed (countOf b) (λ k. eqb (start b k) (s .args .at)) (λ k h. l .inv .2 k (omega arith))
+
+pub starts-at-spec : {M : Type 1} → statement M
+starts-at-spec =
+    tie.close
+    (tie.spec
+    Inv-loop
+    μ-loop
+    sub-four
+    four-requires
+    loop-holds
+    returns
+    add-wide
+    shared-slice-read-wide
+    wide-requires
+    add-p
+    add-p-2
+    add-i
+    loop-less
+    loop-again
+    returns-2)

@@ -1,0 +1,4 @@
+pub mod Calls
+pub mod Steps
+pub mod Laws
+pub mod Samples

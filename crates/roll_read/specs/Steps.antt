@@ -1,0 +1,100 @@
+-- What the reader's code makes of its tests. Assumes nothing.
+use mathlib.Core.Path.{_≡_, refl, sym, ap, _∙_}
+use mathlib.Core.Bool.{Bool, true, false, not, _&&_, cond}
+use mathlib.Core.List.{List, []}
+use Prim.Native.Nat.{ℕ, _+_, _-_, _≤_, _<_}
+use native.Mathlib.Omega.{arith}
+use lib.Dec.{eqb}
+use lib.ListN.{length, getD, take, drop}
+use borrow.Author.Tests.{eq-eqb, ne-eqb, eqb-true}
+use Rattle.lists.specs.Tests.{some-at, and-fst, and-snd}
+use Rattle.tables.specs.declared.Refusal.the-variants.{NotARoll}
+use Rattle.roll.specs.Reading.{fourAt, trailerAt, countOf, entryAt, sizeAt, start, isStart, isRoll}
+use Rattle.roll.specs.Roll.{Sized}
+use Rattle.roll.specs.Starts.{ends-before, head-before}
+use Rattle.roll.specs.Holding.{is-sized}
+use Rattle.roll_read.specs.Calls.{readEntry, holdsRecord, readAt, labelAt, pastAt}
+use Rattle.roll_read.specs.declared.Item.{Item}
+use Rattle.roll_read.specs.declared.Item.the-variants.{Record, End, Refused}
+
+pub record-is : (b : List ℕ) (at x y : ℕ) → x ≡ fourAt b (at + 1) → y ≡ fourAt b (at + 5) → Record (getD b at 0) x y ≡ readEntry (entryAt b at)
+unfolding entryAt
+record-is b at x y e f = rw (e, f) refl
+
+pub its-trailer : (b : List ℕ) {r : ℕ} → r ≡ fourAt b (length b - 4) → r ≡ trailerAt b
+unfolding trailerAt
+its-trailer b e = e
+
+-- a record that starts in a roll ends in it
+pub ends-in : (b : List ℕ) (at : ℕ) → isRoll b ≡ true → isStart b at ≡ true → at + (10 + getD b (at + 9) 0) ≤ length b
+unfolding isStart sizeAt
+ends-in b at R e =
+    let S = is-sized b R in
+    let (k, l, q) = some-at (countOf b) (λ i. eqb (start b i) at) e in
+    let s : start b k ≡ at = eqb-true (start b k) at q in
+    let h : at + (10 + getD b (at + 9) 0) ≤ start b (countOf b) = subst-end b k at (countOf b) s (ends-before b k (countOf b) l) in
+    omega (arith, S .ends, S .whole)
+  where
+    subst-end : (b : List ℕ) (k at n : ℕ) → start b k ≡ at → start b k + (10 + getD b (start b k + 9) 0) ≤ start b n → at + (10 + getD b (at + 9) 0) ≤ start b n
+    subst-end b k at n s h = rw s at h
+
+module _ (b : List ℕ) (at : ℕ) where
+  pub not-held : isRoll b ≡ false → false ≡ holdsRecord b at
+  unfolding holdsRecord
+  not-held e = rw e refl
+
+  pub held-by : {r : Bool} → isRoll b ≡ true → r ≡ isStart b at → r ≡ holdsRecord b at
+  unfolding holdsRecord
+  held-by e h = rw e h
+
+  pub read-not : isRoll b ≡ false → Refused NotARoll ≡ readAt b at
+  unfolding readAt holdsRecord
+  read-not e = rw e refl
+
+  module _ (R : isRoll b ≡ true) where
+    pub read-record : {r : Item} → isStart b at ≡ true → r ≡ readEntry (entryAt b at) → r ≡ readAt b at
+    unfolding readAt holdsRecord
+    read-record e h = rw (R, e) h
+
+    pub read-end : isStart b at ≡ false → at ≡ trailerAt b → End ≡ readAt b at
+    unfolding readAt holdsRecord
+    read-end e h = rw (R, e, eq-eqb at (trailerAt b) h) refl
+
+    pub read-none : isStart b at ≡ false → (at ≡ trailerAt b → ⊥) → Refused NotARoll ≡ readAt b at
+    unfolding readAt holdsRecord
+    read-none e h = rw (R, e, ne-eqb at (trailerAt b) h) refl
+
+  pub no-label : holdsRecord b at ≡ false → [] ≡ labelAt b at
+  unfolding labelAt
+  no-label e = rw e refl
+
+  pub stays : holdsRecord b at ≡ false → at ≡ pastAt b at
+  unfolding pastAt
+  stays e = rw e refl
+
+  module _ (H : holdsRecord b at ≡ true) where
+    is-roll : isRoll b ≡ true
+    unfolding holdsRecord
+    is-roll = and-fst (isRoll b) (isStart b at) H
+
+    is-start : isStart b at ≡ true
+    unfolding holdsRecord
+    is-start = and-snd (isRoll b) (isStart b at) H
+
+    pub record-label : take (getD b (at + 9) 0) (drop (at + 10) b) ≡ labelAt b at
+    unfolding labelAt entryAt
+    record-label = rw H refl
+
+    pub goes-on : (w : ℕ) → w ≡ getD b (at + 9) 0 → at + (10 + w) ≡ pastAt b at
+    unfolding pastAt sizeAt
+    goes-on w e = rw (H, e) refl
+
+    -- the record is inside the roll
+    pub record-room : (at + (10 + getD b (at + 9) 0) ≤ length b) × (length b ≤ 65536)
+    record-room = (ends-in b at is-roll is-start, is-sized b is-roll .small)
+
+-- the head of record i is inside the roll
+pub inside : (b : List ℕ) → isRoll b ≡ true → (i p : ℕ) → i < countOf b → p ≡ start b i → (p + 10 ≤ 65536) × (p + 10 ≤ length b)
+inside b R i p h e =
+    let S = is-sized b R in
+    (omega (arith, head-before b i (countOf b) h, S .ends, S .whole, S .small), omega (arith, head-before b i (countOf b) h, S .ends, S .whole))

@@ -1,0 +1,98 @@
+// The reader's work, on a plain slice and a position.
+ghost use mathlib.Core.Path.{_≡_};
+ghost use mathlib.Core.Bool.{true, _&&_};
+ghost use Prim.Native.Nat.{_+_, _≤_, _<_};
+ghost use lib.ListN.{length};
+ghost use Rattle.roll.specs.Reading.{isRoll, isStart, entryAt, fourAt};
+ghost use Rattle.roll_read.specs.Calls.{holdsRecord, readEntry, readAt, labelAt, pastAt};
+use super::Item;
+use roll::judge::is_whole_roll;
+use roll::numbers::four;
+use roll::numbers::wide;
+use tables::Refusal;
+
+// Whether a record of the roll b starts at `at`.
+fn starts_at(b: &[u8], at: usize) -> bool
+    requires { ⌜ isRoll (now b) ≡ true ⌝ }
+    ensures { λ r. ⌜ r ≡ isStart (now (b .entry)) at ⌝ }
+{
+    let n = four(b, b.len() - 8);
+    let mut p = 0;
+    let mut i = 0;
+    while i < n {
+        if p == at {
+            return true;
+        }
+        p += 10 + wide(b[p + 9]);
+        i += 1;
+    }
+    false
+}
+
+// Whether the bytes are a roll and a record of it starts at `at`.
+fn holds_record(b: &[u8], at: usize) -> bool
+    ensures { λ r. ⌜ r ≡ holdsRecord (now (b .entry)) at ⌝ }
+{
+    if !is_whole_roll(b) {
+        return false;
+    }
+    starts_at(b, at)
+}
+
+// A number of 4 bytes.
+fn number(b: &[u8], at: usize) -> u32
+    requires { ⌜ at + 4 ≤ length (now b) ⌝ }
+    ensures { λ r. ⌜ r ≡ fourAt (now (b .entry)) at ⌝ }
+{
+    four(b, at) as u32
+}
+
+// The record at `at`.
+fn record_at(b: &[u8], at: usize) -> Item
+    requires { ⌜ at + 10 ≤ length (now b) ⌝ }
+    ensures { λ r. ⌜ r ≡ readEntry (entryAt (now (b .entry)) at) ⌝ }
+{
+    Item::Record {
+        kind: b[at],
+        set: number(b, at + 1),
+        earlier: number(b, at + 5),
+    }
+}
+
+// What stands at a position of the bytes: a record of the roll, its end, or 7.
+pub fn read_at(b: &[u8], at: usize) -> Item
+    ensures { λ r. ⌜ r ≡ readAt (now (b .entry)) at ⌝ }
+{
+    if !is_whole_roll(b) {
+        return Item::Refused(Refusal::NotARoll);
+    }
+    if starts_at(b, at) {
+        return record_at(b, at);
+    }
+    if at == four(b, b.len() - 4) {
+        return Item::End;
+    }
+    Item::Refused(Refusal::NotARoll)
+}
+
+// The label of the record that starts at a position, as a part of the roll; an empty part where none starts there.
+pub fn label_at(b: &[u8], at: usize) -> &[u8]
+    ensures { λ r. ⌜ now r ≡ labelAt (now (b .entry)) at ⌝ }
+{
+    if !holds_record(b, at) {
+        return &b[0..0];
+    }
+    let from = at + 10;
+    let end = from + wide(b[at + 9]);
+    &b[from..end]
+}
+
+// Where the record that starts at a position ends; the position itself where none starts there.
+pub fn past_at(b: &[u8], at: usize) -> usize
+    ensures { λ r. ⌜ r ≡ pastAt (now (b .entry)) at ⌝ }
+{
+    if !holds_record(b, at) {
+        return at;
+    }
+    at + (10 + wide(b[at + 9]))
+}

@@ -1,0 +1,218 @@
+/*
+ * The dispatch desk's roll: lists one, begins one, appends to one.
+ *   roll list FILE
+ *   roll new FILE
+ *   roll append FILE delivery SET [LABEL]
+ *   roll append FILE replacement SET EARLIER [LABEL]
+ *   roll append FILE retirement SET [LABEL]
+ * A roll is replaced as a whole: the new bytes are written to a file beside it, which then takes its name, so that nobody ever finds
+ * half a roll. A file that is not a roll is named and left alone. Two desks that append at the same time wait for each other.
+ * Exit status: 0 done, 7 and 8 as the library refuses, 1 everything else.
+ */
+#include "gullyfork.h"
+
+#include <errno.h>
+#include <fcntl.h>
+#include <stdio.h>
+#include <stdlib.h>
+#include <string.h>
+#include <sys/file.h>
+#include <sys/stat.h>
+#include <unistd.h>
+
+#define MOST 65536 /* bytes of a roll */
+
+static const char *const kinds[] = {"", "delivery", "replacement", "retirement"};
+
+static void fail(const char *name, const char *what)
+{
+    fprintf(stderr, "roll: %s: %s\n", name, what);
+    exit(1);
+}
+
+static int usage(void)
+{
+    fputs("usage: roll list FILE\n"
+          "       roll new FILE\n"
+          "       roll append FILE delivery SET [LABEL]\n"
+          "       roll append FILE replacement SET EARLIER [LABEL]\n"
+          "       roll append FILE retirement SET [LABEL]\n", stderr);
+    return 1;
+}
+
+static int not_a_roll(const char *path)
+{
+    fprintf(stderr, "roll: %s: not a roll (refusal 7); left as it is\n", path);
+    return 7;
+}
+
+/* all bytes of the file, at most one more than a roll has */
+static size_t read_bytes(int fd, const char *path, uint8_t *bytes)
+{
+    size_t n = 0;
+    while (n < MOST + 1) {
+        ssize_t k = read(fd, bytes + n, MOST + 1 - n);
+        if (k < 0 && errno == EINTR)
+            continue;
+        if (k < 0)
+            fail(path, strerror(errno));
+        if (k == 0)
+            break;
+        n += (size_t)k;
+    }
+    return n;
+}
+
+/* ---- listing */
+
+static void print_label(const uint8_t *label, size_t n)
+{
+    putchar('"');
+    for (size_t i = 0; i < n; i++) {
+        if (label[i] == '"' || label[i] == '\\')
+            printf("\\%c", label[i]);
+        else if (label[i] < 32 || label[i] == 127)
+            printf("\\x%02x", label[i]);
+        else
+            putchar(label[i]);
+    }
+    putchar('"');
+}
+
+static int list(const char *path)
+{
+    static uint8_t bytes[MOST + 1];
+    int fd = open(path, O_RDONLY);
+    if (fd < 0)
+        fail(path, strerror(errno));
+    size_t n = read_bytes(fd, path, bytes);
+    close(fd);
+    size_t at = 0, records = 0, slots[6];
+    uint8_t answer;
+    while ((answer = gf_read_roll(bytes, sizeof bytes, n, at, slots, 6)) == GF_DONE) {
+        printf("%s %zu", kinds[slots[0]], slots[1]);
+        if (slots[0] == 2)
+            printf(" of %zu", slots[2]);
+        if (slots[4] > 0)
+            putchar(' '), print_label(bytes + slots[3], slots[4]);
+        putchar('\n');
+        records++;
+        at = slots[5];
+    }
+    if (answer != GF_ROLL_END)
+        return not_a_roll(path);
+    printf("%zu record%s, %zu bytes\n", records, records == 1 ? "" : "s", n);
+    if (fflush(stdout) != 0)
+        fail("the list", strerror(errno));
+    return 0;
+}
+
+/* ---- writing */
+
+/* a file beside the path with these bytes, on the disk; its name is left in `name` */
+static void write_beside(const char *path, mode_t mode, const uint8_t *bytes, size_t n, char *name, size_t size)
+{
+    if (snprintf(name, size, "%s.XXXXXX", path) >= (int)size)
+        fail(path, "the name is too long");
+    int fd = mkstemp(name);
+    if (fd < 0)
+        fail(path, strerror(errno));
+    size_t done = 0;
+    while (done < n) {
+        ssize_t k = write(fd, bytes + done, n - done);
+        if (k < 0 && errno == EINTR)
+            continue;
+        if (k <= 0)
+            break;
+        done += (size_t)k;
+    }
+    if (done < n || fchmod(fd, mode) != 0 || fsync(fd) != 0 || close(fd) != 0) {
+        int why = errno;
+        unlink(name);
+        fail(path, strerror(why));
+    }
+}
+
+static int begin(const char *path)
+{
+    static const uint8_t empty[8];
+    char name[4096];
+    mode_t mask = umask(0);
+    umask(mask);
+    write_beside(path, 0666 & ~mask, empty, sizeof empty, name, sizeof name);
+    int linked = link(name, path), why = errno; /* fails where there is such a file */
+    unlink(name);
+    if (linked != 0)
+        fail(path, strerror(why));
+    return 0;
+}
+
+/* opens the file and waits until no other desk appends to it; a desk that did has put another file in its place */
+static int open_alone(const char *path, struct stat *is)
+{
+    for (;;) {
+        struct stat now;
+        int fd = open(path, O_RDONLY);
+        if (fd < 0 || flock(fd, LOCK_EX) != 0 || fstat(fd, is) != 0 || stat(path, &now) != 0)
+            fail(path, strerror(errno));
+        if (now.st_ino == is->st_ino && now.st_dev == is->st_dev)
+            return fd;
+        close(fd);
+    }
+}
+
+static int append(const char *named, uint8_t kind, uint32_t set, uint32_t earlier, const char *label)
+{
+    static uint8_t bytes[MOST + 1];
+    static char path[4096], name[4096];
+    struct stat is;
+    if (!realpath(named, path)) /* where a link points to */
+        fail(named, strerror(errno));
+    int fd = open_alone(path, &is);
+    size_t n = read_bytes(fd, named, bytes), count[1];
+    if (!gf_is_roll(bytes, sizeof bytes, n))
+        return not_a_roll(named);
+    uint8_t answer = gf_append_roll(bytes, sizeof bytes, n, kind, set, earlier, (const uint8_t *)label, strlen(label), count, 1);
+    if (answer == GF_NOT_A_ROLL)
+        fprintf(stderr, "roll: %s: the record breaks the rules (refusal 7): set numbers start at 1, a replacement names an earlier set,"
+                " a label has at most 255 bytes; left as it is\n", named);
+    else if (answer == GF_NO_ROOM)
+        fprintf(stderr, "roll: %s: full (refusal 8): a roll has at most 1,000 records and 65,536 bytes; left as it is\n", named);
+    if (answer != GF_DONE)
+        return answer;
+    write_beside(path, is.st_mode & 07777, bytes, count[0], name, sizeof name);
+    if (rename(name, path) != 0) {
+        int why = errno;
+        unlink(name);
+        fail(named, strerror(why));
+    }
+    close(fd);
+    return 0;
+}
+
+static uint32_t number(const char *word)
+{
+    char *end;
+    errno = 0;
+    unsigned long long n = strtoull(word, &end, 10);
+    if (*word < '0' || *word > '9' || *end != '\0' || errno != 0 || n > UINT32_MAX)
+        fail(word, "not a set number (1 to 4,294,967,295)");
+    return (uint32_t)n;
+}
+
+int main(int argc, char **argv)
+{
+    if (argc == 3 && strcmp(argv[1], "list") == 0)
+        return list(argv[2]);
+    if (argc == 3 && strcmp(argv[1], "new") == 0)
+        return begin(argv[2]);
+    if (argc < 5 || strcmp(argv[1], "append") != 0)
+        return usage();
+    uint8_t kind = 1;
+    while (kind <= 3 && strcmp(argv[3], kinds[kind]) != 0)
+        kind++;
+    int label = kind == 2 ? 6 : 5;
+    if (kind > 3 || argc < label || argc > label + 1)
+        return usage();
+    return append(argv[2], kind, number(argv[4]), kind == 2 ? number(argv[5]) : 0, argc > label ? argv[label] : "");
+}

@@ -1,0 +1,132 @@
+/*
+ * Times the calls on a delivery roll beside a plain C program that walks and judges the same bytes once.
+ *   cc -std=c99 -D_POSIX_C_SOURCE=199309L -O2 -I include -o target/roll_bench oracle/roll_bench.c target/staticlib/libcapi.a
+ * Prints the rows of the table in docs/PERFORMANCE.md: the least of many runs.
+ */
+#include "gullyfork.h"
+
+#include <stdio.h>
+#include <stdlib.h>
+#include <string.h>
+#include <time.h>
+
+#define MOST 65536
+
+static uint8_t lent[MOST], copy[MOST];
+
+static double now(void)
+{
+    struct timespec t;
+    clock_gettime(CLOCK_MONOTONIC, &t);
+    return (double)t.tv_sec * 1e6 + (double)t.tv_nsec / 1e3;
+}
+
+static uint32_t four(const uint8_t *b)
+{
+    return b[0] | (uint32_t)b[1] << 8 | (uint32_t)b[2] << 16 | (uint32_t)b[3] << 24;
+}
+
+/* the plain program: one walk that judges, with a mark for each start, and one look at the trailer's list; the sum keeps it honest */
+static uint64_t plain(const uint8_t *b, size_t n)
+{
+    static uint8_t marks[MOST];
+    if (n < 8 || n > MOST)
+        return 0;
+    uint64_t sum = 1;
+    size_t count = four(b + n - 8), t = four(b + n - 4), at = 0;
+    if (count > 1000 || t + 4 * count + 8 != n)
+        return 0;
+    memset(marks, 0, t);
+    for (size_t i = 0; i < count; i++) {
+        if (at + 10 > t || at + 10 + b[at + 9] > t)
+            return 0;
+        uint8_t kind = b[at];
+        uint32_t set = four(b + at + 1), earlier = four(b + at + 5);
+        if (kind < 1 || kind > 3 || set < 1 || (kind == 2) != (earlier != 0))
+            return 0;
+        marks[at] = 1;
+        sum += set;
+        at += 10 + b[at + 9];
+    }
+    if (at != t)
+        return 0;
+    for (size_t i = 0; i < count; i++) {
+        uint32_t x = four(b + t + 4 * i);
+        if (x >= t || !marks[x])
+            return 0;
+        marks[x] = 0;
+    }
+    return sum;
+}
+
+static uint64_t walk(const uint8_t *b, size_t n)
+{
+    size_t at = 0, slots[6];
+    uint64_t sum = 1;
+    while (gf_read_roll(b, MOST, n, at, slots, 6) == GF_DONE) {
+        sum += slots[1];
+        at = slots[5];
+    }
+    return sum;
+}
+
+static uint64_t judge(const uint8_t *b, size_t n)
+{
+    return gf_is_roll(b, MOST, n);
+}
+
+static uint64_t append(const uint8_t *b, size_t n)
+{
+    size_t count[1] = {0};
+    (void)b;
+    gf_append_roll(lent, MOST, n, 1, 9, 0, (const uint8_t *)"label of one", 12, count, 1);
+    return count[0];
+}
+
+/* the least time of one call, in microseconds; the lent slice is put back before each */
+static double least(uint64_t (*call)(const uint8_t *, size_t), size_t n, int runs)
+{
+    double best = 1e30;
+    volatile uint64_t kept = 0;
+    for (int i = 0; i < runs; i++) {
+        memcpy(lent, copy, sizeof lent);
+        double from = now();
+        kept += call(lent, n);
+        double took = now() - from;
+        if (took < best)
+            best = took;
+    }
+    return best;
+}
+
+/* one record more, and how many bytes the roll has then */
+static size_t grow(size_t n, size_t i)
+{
+    size_t count[1] = {0};
+    if (gf_append_roll(lent, MOST, n, 1, (uint32_t)i + 1, 0, (const uint8_t *)"label of one", 12, count, 1) != GF_DONE)
+        exit(1);
+    return count[0];
+}
+
+int main(void)
+{
+    static const size_t sizes[] = {10, 100, 1000};
+    puts("| records | bytes | plain C, one walk | gf_is_roll | whole walk | for each record | appending the last one |");
+    puts("|---|---|---|---|---|---|---|");
+    for (int k = 0; k < 3; k++) {
+        size_t n = 8;
+        memset(lent, 0, sizeof lent);
+        for (size_t i = 0; i < sizes[k] - 1; i++)
+            n = grow(n, i);
+        memcpy(copy, lent, sizeof copy);
+        double add = least(append, n, 1000);
+        memcpy(lent, copy, sizeof copy);
+        n = grow(n, sizes[k] - 1);
+        memcpy(copy, lent, sizeof copy);
+        if (plain(lent, n) == 0 || plain(lent, n) != walk(lent, n))
+            return 1;
+        double c = least(plain, n, 2000), is = least(judge, n, 2000), all = least(walk, n, 50);
+        printf("| %zu | %zu | %.2f | %.2f | %.1f | %.2f | %.2f |\n", sizes[k], n, c, is, all, all / (double)sizes[k], add);
+    }
+    return 0;
+}

@@ -1,0 +1,139 @@
+//! A delivery roll by the sentences of document 02, A.7, as plain Rust: nothing here is taken from the port.
+
+/// A record: kind 1 delivery, 2 replacement, 3 retirement.
+#[derive(Clone, Debug, PartialEq)]
+pub struct Record {
+    pub kind: u8,
+    pub set: u32,
+    pub earlier: u32,
+    pub label: Vec<u8>,
+}
+
+/// A roll that was read: each record with where it starts, and where the trailer begins.
+pub struct Roll {
+    pub records: Vec<(usize, Record)>,
+    pub trailer: usize,
+}
+
+pub const MOST_RECORDS: usize = 1000;
+pub const MOST_BYTES: usize = 65536;
+pub const NOT_A_ROLL: u8 = 7;
+pub const NO_ROOM: u8 = 8;
+
+impl Record {
+    /// Set numbers start at 1; the earlier number is zero except for kind 2, where it is not; the label's length is one byte.
+    pub fn keeps_rules(&self) -> bool {
+        let kinds = (1..=3).contains(&self.kind);
+        let earlier = if self.kind == 2 { self.earlier != 0 } else { self.earlier == 0 };
+        kinds && self.set >= 1 && earlier && u8::try_from(self.label.len()).is_ok()
+    }
+
+    pub fn bytes(&self) -> Vec<u8> {
+        let mut bytes = vec![self.kind];
+        bytes.extend(self.set.to_le_bytes());
+        bytes.extend(self.earlier.to_le_bytes());
+        bytes.push(self.label.len() as u8);
+        bytes.extend(&self.label);
+        bytes
+    }
+}
+
+/// The bytes of records one after another, and the trailer with the starts in the given order (places in the list of records).
+pub fn roll_of(records: &[Record], order: &[usize]) -> Vec<u8> {
+    let (mut bytes, mut starts) = (vec![], vec![]);
+    for record in records {
+        starts.push(bytes.len() as u32);
+        bytes.extend(record.bytes());
+    }
+    let trailer = bytes.len() as u32;
+    order.iter().for_each(|k| bytes.extend(starts[*k].to_le_bytes()));
+    bytes.extend((records.len() as u32).to_le_bytes());
+    bytes.extend(trailer.to_le_bytes());
+    bytes
+}
+
+fn integer(bytes: &[u8], at: usize) -> Option<usize> {
+    let four = bytes.get(at..at.checked_add(4)?)?;
+    Some(u32::from_le_bytes(four.try_into().unwrap()) as usize)
+}
+
+/// The record at a position, and where it ends; it has to end at the trailer or before.
+fn record_at(body: &[u8], at: usize) -> Option<(Record, usize)> {
+    let kind = *body.get(at)?;
+    let (set, earlier) = (integer(body, at + 1)? as u32, integer(body, at + 5)? as u32);
+    let from = at + 10;
+    let end = from + *body.get(at + 9)? as usize;
+    let record = Record { kind, set, earlier, label: body.get(from..end)?.to_vec() };
+    record.keeps_rules().then_some((record, end))
+}
+
+/// The roll that all the bytes are, if they are one.
+pub fn read_roll(bytes: &[u8]) -> Option<Roll> {
+    if bytes.len() < 8 || bytes.len() > MOST_BYTES {
+        return None;
+    }
+    let (trailer, count) = (integer(bytes, bytes.len() - 4)?, integer(bytes, bytes.len() - 8)?);
+    let body = bytes.get(..trailer)?;
+    let mut records = vec![];
+    let mut at = 0;
+    while at < trailer {
+        let (record, end) = record_at(body, at)?;
+        records.push((at, record));
+        at = end;
+    }
+    let mut listed: Vec<usize> = (0..records.len()).map(|k| integer(bytes, trailer + 4 * k)).collect::<Option<_>>()?;
+    listed.sort();
+    let starts: Vec<usize> = records.iter().map(|(start, _)| *start).collect();
+    let whole = trailer + 4 * count + 8 == bytes.len();
+    (records.len() == count && count <= MOST_RECORDS && whole && listed == starts).then_some(Roll { records, trailer })
+}
+
+/// The roll in the first bytes of a lent slice, their count given with it.
+pub fn held(lent: &[u8], count: usize) -> Option<Roll> {
+    read_roll(lent.get(..count)?)
+}
+
+/// What the appender answers: the new roll's bytes, its starts in rising order, or the number of the refusal.
+pub fn appended(lent: &[u8], count: usize, record: Record) -> Result<Vec<u8>, u8> {
+    let roll = held(lent, count).filter(|_| record.keeps_rules()).ok_or(NOT_A_ROLL)?;
+    let mut records: Vec<Record> = roll.records.into_iter().map(|(_, record)| record).collect();
+    records.push(record);
+    let bytes = roll_of(&records, &(0..records.len()).collect::<Vec<_>>());
+    if records.len() > MOST_RECORDS || bytes.len() > MOST_BYTES || bytes.len() > lent.len() {
+        return Err(NO_ROOM);
+    }
+    Ok(bytes)
+}
+
+#[cfg(test)]
+mod tests {
+    use super::*;
+
+    fn delivery(label: usize) -> Record {
+        Record { kind: 1, set: 1, earlier: 0, label: vec![65; label] }
+    }
+
+    #[test]
+    fn the_text() {
+        assert!(read_roll(&[0; 8]).is_some_and(|roll| roll.records.is_empty()));
+        assert!(read_roll(&[0; 7]).is_none() && read_roll(&[0; 9]).is_none());
+        let two = roll_of(&[delivery(2), delivery(0)], &[1, 0]);
+        assert_eq!(read_roll(&two).unwrap().records, [(0, delivery(2)), (12, delivery(0))]);
+        assert!(read_roll(&roll_of(&[delivery(2), delivery(0)], &[0, 0])).is_none());
+        assert_eq!(appended(&two, two.len(), delivery(0)), Err(NO_ROOM));
+        assert_eq!(appended(&two, two.len(), delivery(256)), Err(NOT_A_ROLL));
+    }
+
+    #[test]
+    fn the_limits() {
+        let rising = |n: usize| (0..n).collect::<Vec<_>>();
+        assert!(read_roll(&roll_of(&vec![delivery(0); 1000], &rising(1000))).is_some());
+        assert!(read_roll(&roll_of(&vec![delivery(0); 1001], &rising(1001))).is_none());
+        let mut records = vec![delivery(255); 243];
+        records.push(delivery(147));
+        assert_eq!(roll_of(&records, &rising(244)).len(), MOST_BYTES);
+        assert!(read_roll(&roll_of(&records, &rising(244))).is_some());
+        records[243].label.push(0);
+        assert!(read_roll(&roll_of(&records, &rising(244))).is_none());
+    }
+}
