@@ -93,14 +93,15 @@ static void match_rows(const struct delivery *d)
 static void print_drift(const char *when, const double *fc2, size_t n)
 {
     double value = 0.0;
-    size_t place[3] = {0, 0, 0};
-    uint8_t answer = gf_drift_report(fc2, n * n * 9, &value, 1, place, 3, n);
+    size_t place[4] = {0, 0, 0, 0};
+    uint8_t answer = gf_drift_report(fc2, n * n * 9, &value, 1, place, 4, n);
+    const char *along = place[0] == GF_ROWS ? "rows" : "columns";
     if (answer == GF_DRIFT_STILL)
-        printf("  drift %s: none\n", when);
+        printf("  %s: no drift\n", when);
     else if (answer == GF_DRIFT_WORST)
-        printf("  drift %s: at most %.3e, at atom %zu, directions %zu and %zu\n", when, value, place[0], place[1], place[2]);
+        printf("  %s: worst drift along %s, atom %zu, directions %zu %zu: %.3e\n", when, along, place[1], place[2], place[3], value);
     else if (answer == GF_DRIFT_NO_NUMBER)
-        printf("  drift %s: not a number at atom %zu, directions %zu and %zu\n", when, place[0], place[1], place[2]);
+        printf("  %s: drift not a number along %s, atom %zu, directions %zu %zu\n", when, along, place[1], place[2], place[3]);
     else
         must(answer, "drift report");
 }

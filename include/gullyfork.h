@@ -90,6 +90,12 @@ enum gf_answer {
     GF_ROLL_END = 68           /* gf_read_roll: the trailer begins there */
 };
 
+/* Which sums a drift report names. */
+enum gf_along {
+    GF_ROWS = 0,   /* of a row, over the second atom */
+    GF_COLUMNS = 1 /* of a column, over the first atom */
+};
+
 /* ---- rounding and the root: never refused ---- */
 
 /* The nearest whole number as an integer; halves go away from zero, beyond int64_t it stops at the nearest end, NaN gives 0. */
@@ -204,15 +210,15 @@ uint8_t gf_true_transpose_compact_fc2(
     size_t n_satom, size_t n_patom, size_t num_trans);
 
 /*
- * How far the rows of a full set are from the acoustic sum rule, by which they add up to zero: of each atom and pair of directions the
- * sum over the second atom.
- *   GF_DRIFT_STILL      all sums are zero; value 0.0, place 0, 0, 0
- *   GF_DRIFT_WORST      value: the largest absolute value of a sum; place: where it stands (one of the places, if several share it)
- *   GF_DRIFT_NO_NUMBER  a sum is NaN; value NaN, place: the first such sum, by atom and then directions
- * It never answers GF_DONE.
+ * How far the rows and the columns of a full set are from adding up to zero: of each atom and pair of directions the row sum over
+ * the second atom, and the column sum over the first.
+ *   GF_DRIFT_STILL      all sums are zero; value 0.0, place GF_ROWS, 0, 0, 0
+ *   GF_DRIFT_WORST      value: the largest absolute value of a sum; place: the first sum that has it
+ *   GF_DRIFT_NO_NUMBER  a sum is NaN; value NaN, place: the first such sum
+ * First: rows come before columns, then by atom, then by directions. It never answers GF_DONE.
  *   fc     n_satom x n_satom x 9
  *   value  1, only written
- *   place  3: the row's atom and the two directions, only written
+ *   place  4: GF_ROWS or GF_COLUMNS, the atom and the two directions, only written
  * Refusals: 1 (n_satom above 1,024), 2.
  */
 uint8_t gf_drift_report(

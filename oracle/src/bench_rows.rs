@@ -4,6 +4,7 @@ use crate::call::{fit, Call};
 use crate::call_compact::{Compact, Name};
 use crate::call_deltas::Deltas;
 use crate::call_distribute::Distribute;
+use crate::call_drift::{Drift, WORST};
 use crate::call_full::Full;
 use crate::call_matching::Matching;
 use crate::call_slabs::Slabs;
@@ -12,6 +13,7 @@ use crate::matching::{pair, Kind, SKEW};
 use crate::port;
 use crate::rng::Rng;
 use crate::shifts::{cyclic, product, tables, Group, Tables};
+use crate::stack::deepest;
 use crate::wild::plain;
 
 /// Shifts along three axes, as supercells have them.
@@ -226,5 +228,41 @@ pub fn checks(b: &Bench) {
         let (one, other) = (b.check(&plain), b.check(&mixed));
         let rules = b.least(|| assert!(plainly(std::hint::black_box(&mixed))));
         println!("| {n_patom} × {n_satom} | {:.1} | {:.1} | {:.1} | {:.1} |", one * 1e6, other * 1e6, rules * 1e6, rules / other);
+    }
+}
+
+/// The worst absolute value of the row sums alone, nine of a row side by side, or NaN.
+fn worst_of_rows(set: &[f64], n: usize) -> f64 {
+    let mut worst: f64 = 0.0;
+    for row in set.chunks_exact(9 * n) {
+        let mut sums = [0.0; 9];
+        for block in row.chunks_exact(9) {
+            sums.iter_mut().zip(block).for_each(|(sum, x)| *sum += x);
+        }
+        for sum in sums {
+            if sum.is_nan() || sum.abs() > worst {
+                worst = sum.abs();
+            }
+        }
+    }
+    worst
+}
+
+/// The drift report, which looks along rows and columns, beside the row sums alone in Rust.
+pub fn drifts(b: &Bench) {
+    println!("| drift_report, atoms | port, us | row sums alone in Rust, us | ratio | stack, kB |\n|---|---|---|---|---|");
+    for n in [16, 32, 64, 95, 96, 128, 192, 256, 512, 1024] {
+        let set = plain(&mut Rng::new(28), n * n * 9);
+        let mut call = Drift { set, value: vec![0.0], place: vec![0; 4], n_satom: n };
+        let (mut port, mut rows) = (f64::MAX, f64::MAX);
+        // in turns, so that both meet the same load
+        for _ in 0..4 {
+            port = port.min(b.least(|| assert_eq!(std::hint::black_box(&mut call).port(), WORST)));
+            rows = rows.min(b.least(|| assert!(worst_of_rows(std::hint::black_box(&call.set), n) > 0.0)));
+        }
+        let stack = deepest(&mut || {
+            std::hint::black_box(call.port());
+        });
+        println!("| {n} | {:.1} | {:.1} | {:.2} | {:.1} |", port * 1e6, rows * 1e6, port / rows, stack as f64 / 1024.0);
     }
 }

@@ -149,9 +149,6 @@ pub trait Call: Clone + Debug {
 
     /// One change of what refusals 4, 5 and 6 look at.
     fn spoil(&mut self, _: &mut Rng) {}
-
-    /// Takes over from the library's answer what document 01 leaves free, if it is as document 01 demands.
-    fn settle(&mut self, _: &Self) {}
 }
 
 /// Document 01's refusal of the call, or 0.

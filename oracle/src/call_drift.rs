@@ -1,4 +1,4 @@
-//! The drift report, which the Rust does not have: document 01's sentence as plain Rust.
+//! The drift report, which the Rust does not have: the sentences of documents 01 and 02 (A.4) as plain Rust.
 use crate::c_names;
 use crate::call::{floats, integers, Call, Parts, ATOMS};
 
@@ -6,7 +6,7 @@ use crate::call::{floats, integers, Call, Parts, ATOMS};
 pub struct Drift {
     pub set: Vec<f64>,
     pub value: Vec<f64>,
-    /// The row's atom and two directions.
+    /// 0 for rows or 1 for columns, the atom and two directions.
     pub place: Vec<i64>,
     pub n_satom: usize,
 }
@@ -16,21 +16,24 @@ pub const WORST: u8 = 66;
 pub const NO_NUMBER: u8 = 67;
 
 impl Drift {
-    /// "each row sum over the second atom, from 0.0, rising", by atom and then directions.
-    fn sums(&self) -> Vec<f64> {
+    /// "row sums and column sums, the latter over the first atom, from 0.0, rising"; "rows first, then by atom and directions".
+    fn sums(&self) -> Vec<(f64, [i64; 4])> {
         let n = self.n_satom;
         let mut sums = vec![];
-        for i in 0..n {
-            for kl in 0..9 {
-                sums.push((0..n).fold(0.0, |sum, j| sum + self.set[(i * n + j) * 9 + kl]));
+        for along in 0..2 {
+            for atom in 0..n {
+                for kl in 0..9 {
+                    let block = |other| if along == 0 { atom * n + other } else { other * n + atom };
+                    let sum = (0..n).fold(0.0, |sum, other| sum + self.set[block(other) * 9 + kl]);
+                    sums.push((sum, [along, atom as i64, kl as i64 / 3, kl as i64 % 3]));
+                }
             }
         }
         sums
     }
 
-    fn tell(&mut self, answer: u8, value: f64, at: usize) -> u8 {
-        self.value[0] = value;
-        self.place = vec![(at / 9) as i64, (at % 9 / 3) as i64, (at % 3) as i64];
+    fn tell(&mut self, answer: u8, value: f64, place: [i64; 4]) -> u8 {
+        (self.value[0], self.place) = (value, place.to_vec());
         answer
     }
 }
@@ -39,18 +42,18 @@ impl Call for Drift {
     fn parts(&mut self) -> Parts<'_> {
         let n = self.n_satom;
         let counts = vec![(&mut self.n_satom, ATOMS[2])];
-        Parts::new(counts, vec![floats(&mut self.set, &[n, n, 9]), floats(&mut self.value, &[1]), integers(&mut self.place, &[3])])
+        Parts::new(counts, vec![floats(&mut self.set, &[n, n, 9]), floats(&mut self.value, &[1]), integers(&mut self.place, &[4])])
     }
 
     fn original(&mut self) -> u8 {
         let sums = self.sums();
-        if let Some(first) = sums.iter().position(|s| s.is_nan()) {
-            return self.tell(NO_NUMBER, f64::NAN, first);
+        if let Some((_, first)) = sums.iter().find(|s| s.0.is_nan()) {
+            return self.tell(NO_NUMBER, f64::NAN, *first);
         }
-        let worst = sums.iter().fold(0.0, |worst: f64, s| worst.max(s.abs()));
-        match sums.iter().position(|s| s.abs() == worst) {
-            Some(at) if worst > 0.0 => self.tell(WORST, worst, at),
-            _ => self.tell(STILL, 0.0, 0),
+        let worst = sums.iter().fold(0.0, |worst: f64, s| worst.max(s.0.abs()));
+        match sums.iter().find(|s| s.0.abs() == worst) {
+            Some((_, first)) if worst > 0.0 => self.tell(WORST, worst, *first),
+            _ => self.tell(STILL, 0.0, [0; 4]),
         }
     }
 
@@ -67,15 +70,5 @@ impl Call for Drift {
     /// The value.
     fn made(&self, slice: usize, _: usize) -> bool {
         slice == 1
-    }
-
-    /// "If several places share the worst value, any of them may be named."
-    fn settle(&mut self, got: &Drift) {
-        if let ([worst], [atom, k, l]) = (&self.value[..], &got.place[..]) {
-            let named = *atom >= 0 && (*atom as usize) < self.n_satom && (0..3).contains(k) && (0..3).contains(l);
-            if *worst > 0.0 && named && self.sums()[(atom * 9 + k * 3 + l) as usize].abs() == *worst {
-                self.place = got.place.clone();
-            }
-        }
     }
 }

@@ -133,23 +133,22 @@ impl Recorded for Drift {
     fn fill(&mut self, seed: u64, kinds: [u64; 2]) {
         self.set = values::floats(self.set.len(), seed, kinds[0]);
         self.value = vec![7.0];
-        self.place = vec![7; 3];
+        self.place = vec![7; 4];
     }
 
     fn inputs(&self) -> Inputs {
         Inputs { set: self.set.len(), work: 0, rotations: 0, counts: [self.n_satom, 0, 0], level: 0, tables: vec![] }
     }
 
-    /// The case by the C name's number, 0 of a refusal, the value, and the place, its directions not above 2; the place of
-    /// a worst drift is free, so there the value again.
+    /// The case by the C name's number, 0 of a refusal, the value, and the place in one word.
     fn left(&self, done: bool) -> [u64; 3] {
         let value = float_word(self.value[0]);
-        let place = 9 * self.place[0] as u64 + 3 * self.place[1].min(2) as u64 + self.place[2].min(2) as u64;
+        let place = self.place.iter().zip([2048 * 64, 64, 8, 1]).map(|(k, by)| *k as u64 * by).sum();
         match self.value[0] {
             _ if !done => [0, value, place],
             0.0 => [STILL as u64, value, place],
             x if x.is_nan() => [NO_NUMBER as u64, value, place],
-            _ => [WORST as u64, value, value],
+            _ => [WORST as u64, value, place],
         }
     }
 }
@@ -222,7 +221,7 @@ fn full(atoms: usize, level: usize) -> Full {
 }
 
 fn drift(n_satom: usize) -> Drift {
-    let mut call = Drift { set: vec![], value: vec![0.0], place: vec![0; 3], n_satom };
+    let mut call = Drift { set: vec![], value: vec![0.0], place: vec![0; 4], n_satom };
     fit(&mut call, 3072);
     call
 }

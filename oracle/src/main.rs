@@ -56,7 +56,7 @@ static HEAP: memory::Counting = memory::Counting;
 const USAGE: &str = "oracle record common|shifts|matching|second|compact|third|fourth|true|distribute|deltas|roll FOLDER
 oracle flip PROGRAM FOLDER COUNT
 oracle compare all|limits|CALL [SEED [COUNT]]
-oracle bench all|common|cells|fc2|fc3|fc4|tables|transposes [SECONDS]";
+oracle bench all|common|cells|fc2|fc3|fc4|tables|transposes|drift [SECONDS]";
 
 /// Some(true) if all went well, Some(false) if the port differs, None if the words are no command.
 type Outcome = Option<bool>;
@@ -98,11 +98,11 @@ fn bench(name: &str, patience: f64) -> Outcome {
     let bench = bench::Bench::new(patience);
     let groups: [(&str, fn(&bench::Bench)); 4] =
         [("cells", bench_rows::matching), ("fc2", bench_rows::second), ("fc3", bench_rows::third), ("fc4", bench_rows::fourth)];
-    let known = ["all", "common", "tables", "transposes"].contains(&name) || groups.iter().any(|(group, _)| *group == name);
+    let known = ["all", "common", "tables", "transposes", "drift"].contains(&name) || groups.iter().any(|(group, _)| *group == name);
     if ["all", "common"].contains(&name) {
         bench_common::common();
     }
-    if !["common", "tables", "transposes"].contains(&name) && known {
+    if !["common", "tables", "transposes", "drift"].contains(&name) && known {
         bench.head();
         groups.iter().filter(|(group, _)| name == "all" || name == *group).for_each(|(_, rows)| rows(&bench));
     }
@@ -111,6 +111,9 @@ fn bench(name: &str, patience: f64) -> Outcome {
     }
     if ["all", "transposes"].contains(&name) && port::has("true_transpose_compact_fc4") {
         bench_rows::transposes(&bench);
+    }
+    if name == "drift" {
+        bench_rows::drifts(&bench);
     }
     if known {
         let cores = std::thread::available_parallelism().map_or(0, |n| n.get());

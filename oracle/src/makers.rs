@@ -76,16 +76,19 @@ pub fn check(r: &mut Rng) -> Check {
     Check(random_tables(r, 2, most))
 }
 
+/// From 96 atoms on the port reads a set in another order.
 pub fn drift(r: &mut Rng) -> Drift {
-    let n_satom = atoms(r, 2);
+    let n_satom = if r.below(40) == 0 { 120 + r.below(20) } else { atoms(r, 2) };
     let mut set = fill(r, n_satom * n_satom * 9);
     if r.below(3) == 0 {
-        // row sums that are zero, or that several places share: each block and the same negated
+        // sums of rows, of columns, or of both that are zero, or that several places share: each block and the same negated
+        let (by_row, by_column) = (r.below(2), r.below(3));
         for (k, x) in set.iter_mut().enumerate() {
-            *x = if k / 9 % 2 == 0 { 2.0 } else { -2.0 } * (k / 9 / n_satom % 3) as f64;
+            let (i, j) = (k / 9 / n_satom, k / 9 % n_satom);
+            *x = if (by_row * i + by_column * j) % 2 == 0 { 2.0 } else { -2.0 } * (if by_row == by_column { 1 } else { i % 3 }) as f64;
         }
     }
-    Drift { set, value: vec![f64::from_bits(r.bits())], place: (0..3).map(|_| r.bits() as i64).collect(), n_satom }
+    Drift { set, value: vec![f64::from_bits(r.bits())], place: (0..4).map(|_| r.bits() as i64).collect(), n_satom }
 }
 
 fn below(r: &mut Rng, n: usize, count: usize) -> Vec<i64> {

@@ -140,25 +140,32 @@ static void full_second_order(void) {
     CHECK(memcmp(two, before, sizeof two) == 0);
 }
 
+static bool is_place(const size_t *place, size_t along, size_t atom, size_t k, size_t l) {
+    return place[0] == along && place[1] == atom && place[2] == k && place[3] == l;
+}
+
 static void drift(void) {
     double fc[36] = {0}, value[] = {7};
-    size_t place[] = {7, 7, 7};
+    size_t place[] = {7, 7, 7, 7};
     CHECK(gf_drift_report(S(fc), S(value), S(place), 1025) == GF_COUNT_ABOVE_LIMIT);
     CHECK(gf_drift_report(S(fc), value, 0, S(place), 1025) == GF_COUNT_ABOVE_LIMIT);
     CHECK(gf_drift_report(S(fc), S(value), S(place), 3) == GF_WRONG_LENGTH);
     CHECK(gf_drift_report(S(fc), value, 0, S(place), 2) == GF_WRONG_LENGTH);
-    CHECK(gf_drift_report(S(fc), S(value), place, 2, 2) == GF_WRONG_LENGTH);
-    CHECK(value[0] == 7 && place[0] == 7 && place[1] == 7 && place[2] == 7);
+    CHECK(gf_drift_report(S(fc), S(value), place, 3, 2) == GF_WRONG_LENGTH);
+    CHECK(value[0] == 7 && is_place(place, 7, 7, 7, 7));
     CHECK(gf_drift_report(S(fc), S(value), S(place), 2) == GF_DRIFT_STILL);
-    CHECK(same_bits(value[0], 0.0) && place[0] == 0 && place[1] == 0 && place[2] == 0);
+    CHECK(same_bits(value[0], 0.0) && is_place(place, GF_ROWS, 0, 0, 0));
     fc[0] = 1;
-    fc[18 + 5] = -3; /* atom 1, directions 1 and 2: -3 + 0.5 */
+    fc[18 + 5] = -3; /* directions 1 and 2: row 1 has -3 + 0.5, column 0 has -3 */
     fc[27 + 5] = 0.5;
     CHECK(gf_drift_report(S(fc), S(value), S(place), 2) == GF_DRIFT_WORST);
-    CHECK(value[0] == 2.5 && place[0] == 1 && place[1] == 1 && place[2] == 2);
+    CHECK(value[0] == 3 && is_place(place, GF_COLUMNS, 0, 1, 2));
+    fc[27 + 5] = 0; /* both have -3, and the row is the first */
+    CHECK(gf_drift_report(S(fc), S(value), S(place), 2) == GF_DRIFT_WORST);
+    CHECK(value[0] == 3 && is_place(place, GF_ROWS, 1, 1, 2));
     fc[9 + 7] = (double)NAN; /* atom 0, directions 2 and 1 */
     CHECK(gf_drift_report(S(fc), S(value), S(place), 2) == GF_DRIFT_NO_NUMBER);
-    CHECK(value[0] != value[0] && place[0] == 0 && place[1] == 2 && place[2] == 1);
+    CHECK(value[0] != value[0] && is_place(place, GF_ROWS, 0, 2, 1));
 }
 
 static void compact_second_order(void) {

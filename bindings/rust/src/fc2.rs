@@ -238,7 +238,7 @@ pub fn distribute_fc2_with(
     )))
 }
 
-/// How far the rows of a full set are from adding up to zero.
+/// How far the rows and the columns of a full set are from adding up to zero.
 #[derive(Clone, Copy, Debug, PartialEq)]
 pub enum Drift {
     /// All sums are zero.
@@ -249,33 +249,47 @@ pub enum Drift {
     NoNumber,
 }
 
-/// A drift and its place: the row's atom and two directions. Still has 0 and 0, 0; if several places share the worst value, it is one
-/// of them; of the sums that are NaN it is the first.
+/// Which sums a report names.
+#[derive(Clone, Copy, Debug, PartialEq)]
+pub enum Along {
+    /// Of a row, over the second atom.
+    Rows,
+    /// Of a column, over the first atom.
+    Columns,
+}
+
+/// A drift and its place: a row or a column, its atom and two directions. Still has rows, 0 and 0, 0; otherwise it is the first place
+/// that has the worst value, or that is NaN: rows come before columns, then by atom, then by directions.
 #[derive(Clone, Copy, Debug, PartialEq)]
 pub struct DriftReport {
     pub drift: Drift,
+    pub along: Along,
     pub atom: usize,
     pub directions: [usize; 2],
 }
 
-/// The drift of a full set of n_satom² × 9 numbers: of each atom and pair of directions the sum over the second atom. Not in phonors.
+/// The drift of a full set of n_satom² × 9 numbers: of each atom and pair of directions the row sum over the second atom, and the column
+/// sum over the first. Not in phonors.
 ///
 /// ```
-/// use gullyfork::fc2::{drift_report, Drift, DriftReport};
+/// use gullyfork::fc2::{drift_report, Along, Drift, DriftReport};
 ///
 /// let mut fc = [0.0; 36];
 /// fc[18 + 5] = -3.0;
 /// fc[27 + 5] = 0.5;
-/// assert_eq!(drift_report(&fc, 2)?, DriftReport { drift: Drift::Worst(2.5), atom: 1, directions: [1, 2] });
+/// // the row of atom 1 has -3.0 + 0.5, the column of atom 0 has -3.0
+/// let worst = DriftReport { drift: Drift::Worst(3.0), along: Along::Columns, atom: 0, directions: [1, 2] };
+/// assert_eq!(drift_report(&fc, 2)?, worst);
 /// # Ok::<(), gullyfork::Refusal>(())
 /// ```
 pub fn drift_report(fc: &[f64], n_satom: usize) -> Result<DriftReport, Refusal> {
-    let (mut value, mut place) = ([0.0], [0; 3]);
+    let (mut value, mut place) = ([0.0], [0; 4]);
     let drift = match call!(gf_drift_report(&fc, &mut value, &mut place, n_satom)) {
         65 => Drift::Still,
         66 => Drift::Worst(value[0]),
         67 => Drift::NoNumber,
         number => return Err(answer(number).expect_err("a report is never answered with 0")),
     };
-    Ok(DriftReport { drift, atom: place[0], directions: [place[1], place[2]] })
+    let along = if place[0] == 0 { Along::Rows } else { Along::Columns };
+    Ok(DriftReport { drift, along, atom: place[1], directions: [place[2], place[3]] })
 }

@@ -79,10 +79,10 @@ fn no_match_is_no_refusal() {
 #[test]
 fn drifts() {
     let mut fc = [0.0; 36];
-    let still = fc2::DriftReport { drift: fc2::Drift::Still, atom: 0, directions: [0, 0] };
+    let still = fc2::DriftReport { drift: fc2::Drift::Still, along: fc2::Along::Rows, atom: 0, directions: [0, 0] };
     assert_eq!(fc2::drift_report(&fc, 2), Ok(still));
     fc[9 + 7] = f64::NAN;
-    let none = fc2::DriftReport { drift: fc2::Drift::NoNumber, atom: 0, directions: [2, 1] };
+    let none = fc2::DriftReport { drift: fc2::Drift::NoNumber, along: fc2::Along::Rows, atom: 0, directions: [2, 1] };
     assert_eq!(fc2::drift_report(&fc, 2), Ok(none));
     assert_eq!(fc2::drift_report(&fc, 3), Err(Refusal::WrongLength));
 }

@@ -6,9 +6,9 @@ ghost use Rattle.fc2.specs.Full.{permTransSymmetrizeFc};
 ghost use Rattle.fc2_compact.specs.Compact.{setIndexPermutationSymmetryCompactFc, permTransSymmetrizeCompactFc};
 ghost use Rattle.half_shifts.specs.TrueTransposes.{trueTransposeCompactFc2};
 ghost use Rattle.capi_numbers.specs.Numbered.{numbered, numberedWith};
-ghost use Rattle.capi_fc2.specs.Drift.{slotsFit, reported, Told};
+ghost use Rattle.capi_fc2.specs.Drift.{slotsFit, reported, driftCall};
 ghost use Rattle.distribute_fc2.specs.Fc2.{distributeFc2};
-use fc2::drift::DriftAnswer;
+use drift::DriftAnswer;
 use tables::limits::LIMIT2;
 
 // Symmetrizes a full set.
@@ -111,33 +111,35 @@ pub extern "C" fn gf_true_transpose_compact_fc2(
     tables::number(a)
 }
 
-// Whether the slots have the stated lengths, one for the value and three for the place.
+// Whether the slots have the stated lengths, one for the value and four for the place.
 fn slots_fit(len_value: usize, len_place: usize) -> bool
     ensures { λ r. ⌜ r ≡ slotsFit «len_value» «len_place» ⌝ }
 {
-    len_value == 1 && len_place == 3
+    len_value == 1 && len_place == 4
 }
 
-// Puts a drift's answer into the slots: its value, and its place, the row's atom and two directions. A refusal leaves them.
+// Puts a drift's answer into the slots: its value, and its place, rows or columns, the atom and two directions. A refusal leaves them.
 fn report(a: DriftAnswer, value: &mut [f64], place: &mut [usize]) -> u8
-    requires { ⌜ (length (now value) ≡ 1) × (length (now place) ≡ 3) ⌝ }
+    requires { ⌜ (length (now value) ≡ 1) × (length (now place) ≡ 4) ⌝ }
     ensures { λ r. ⌜ (r, now (value .exit), now (place .exit)) ≡ reported a (now (value .entry)) (now (place .entry)) ⌝ }
 {
     match a {
         DriftAnswer::Report(q) => {
             let d = q.drift;
-            value[0] = fc2::drift::value(d);
-            place[0] = q.atom;
-            place[1] = q.k;
-            place[2] = q.l;
-            65 + fc2::drift::number(d)
+            let along = q.along;
+            value[0] = drift::value(d);
+            place[0] = drift::along_number(along);
+            place[1] = q.atom;
+            place[2] = q.k;
+            place[3] = q.l;
+            65 + drift::number(d)
         }
         DriftAnswer::Refused(r) => tables::refusal_number(r),
     }
 }
 
-// The drift of each row sum over the second atom: 65 still, 66 worst, 67 no number, or document 01's number of the refusal. value has one slot, for the
-// drift's value; place three, for the row's atom and two directions.
+// The drift of each row sum over the second atom and of each column sum over the first: 65 still, 66 worst, 67 no number, or document 01's number of the
+// refusal. value has one slot, for the drift's value; place four: 0 for rows or 1 for columns, the atom and two directions.
 #[no_mangle]
 pub extern "C" fn gf_drift_report(
     fc: &[f64],
@@ -145,10 +147,10 @@ pub extern "C" fn gf_drift_report(
     place: &mut [usize],
     n_satom: usize,
 ) -> u8
-    ensures { λ r. ⌜ Told (now (fc .entry)) «n_satom» (now (value .entry)) (now (place .entry)) (r, now (value .exit), now (place .exit)) ⌝ }
+    ensures { λ r. ⌜ (r, now (value .exit), now (place .exit)) ≡ driftCall (now (fc .entry)) «n_satom» (now (value .entry)) (now (place .entry)) ⌝ }
 {
     if slots_fit(value.len(), place.len()) {
-        let a = fc2::drift::drift_report(fc, n_satom);
+        let a = drift::drift_report(fc, n_satom);
         return report(a, value, place);
     }
     if n_satom > LIMIT2 {

@@ -7,7 +7,3 @@ pub mod Columns
 pub mod FullPairs
 pub mod FullWork
 pub mod FullSheets
-pub mod Drift
-pub mod DriftLoops
-pub mod DriftLaws
-pub mod DriftWorst

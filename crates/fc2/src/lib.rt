@@ -1,4 +1,3 @@
-// Full sets of second order (fc2.rs): the symmetrizer, and the drift report.
+// The symmetrizer of full sets of second order (fc2.rs).
 mod columns;
-pub mod drift;
 pub mod full;

@@ -31,60 +31,29 @@ fn full(r: &[u8], set: &mut [f64]) -> Outcome {
     [wide(a), values::mix_floats(set, 0), 0, 0]
 }
 
-// The number at a place of a set, 0.0 past its end.
-fn number(set: &[f64], at: usize) -> f64 {
-    if at < set.len() {
-        return set[at];
-    }
-    0.0
-}
-
-// Where the blocks of an atom begin.
-fn row(n: usize, atom: usize) -> usize
-    requires { ⌜ (n ≤ 1024) × (atom ≤ 1024) ⌝ }
-    ensures { λ r. ⌜ r ≤ 1048576 ⌝ }
+// The line of a place: rows or columns, and the atom.
+fn line_word(along: usize, atom: usize) -> usize
+    ensures { λ r. ⌜ r ≤ 16383 ⌝ }
 {
-    atom * n
+    2048 * size(along as u64, 7) + size(atom as u64, 2047)
 }
 
-// The place of two directions in a block.
+// Two directions.
 fn directions(k: usize, l: usize) -> usize
-    ensures { λ r. ⌜ r ≤ 8 ⌝ }
+    ensures { λ r. ⌜ r ≤ 63 ⌝ }
 {
-    3 * size(k as u64, 2) + size(l as u64, 2)
+    8 * size(k as u64, 7) + size(l as u64, 7)
 }
 
-// The row sum at a place, from 0.0, rising.
-fn row_sum(set: &[f64], n: usize, atom: usize, k: usize, l: usize) -> f64 {
-    let m = size(n as u64, 1024);
-    let b = row(m, size(atom as u64, 1024));
-    let d = directions(k, l);
-    let mut s = 0.0;
-    let mut j = 0;
-    while j < m {
-        s = s + number(set, (b + j) * 9 + d);
-        j += 1;
-    }
-    s
-}
-
-// The absolute value's word.
-fn magnitude_word(x: f64) -> u64 {
-    records::float_word(x) % 0x8000_0000_0000_0000
-}
-
-// The place of a report by its number, but for the worst drift, whose place is free: there the absolute value of the sum.
-fn place_word(set: &[f64], n: usize, case: u64, place: [usize; 3]) -> u64 {
-    if case == 66 {
-        return magnitude_word(row_sum(set, n, place[0], place[1], place[2]));
-    }
-    (9 * size(place[0] as u64, 1024) + directions(place[1], place[2])) as u64
+// The place of a report in one word.
+fn place_word(place: [usize; 4]) -> u64 {
+    (64 * line_word(place[0], place[1]) + directions(place[2], place[3])) as u64
 }
 
 // A report's answer is 0, and its case the C name's number; of a refusal the case is 0.
-fn reported(set: &[f64], n: usize, a: u64, value: f64, place: [usize; 3]) -> Outcome {
+fn reported(a: u64, value: f64, place: [usize; 4]) -> Outcome {
     let v = records::float_word(value);
-    let p = place_word(set, n, a, place);
+    let p = place_word(place);
     if a < 65 {
         return [a, 0, v, p];
     }
@@ -95,9 +64,9 @@ fn reported(set: &[f64], n: usize, a: u64, value: f64, place: [usize; 3]) -> Out
 fn drift(r: &[u8], set: &[f64]) -> Outcome {
     let n = count_of(r, 10);
     let mut value = [7.0f64; 1];
-    let mut place = [7usize; 3];
+    let mut place = [7usize; 4];
     let a = wide(gf_drift_report(set, &mut value, &mut place, n));
-    reported(set, n, a, value[0], place)
+    reported(a, value[0], place)
 }
 
 // Takes the tables apart: atom_list, fc_indices_of_atom_list, permutations, map_atoms, map_syms.

@@ -14,6 +14,9 @@ value-requires c κs = search needs
 slice-write-value : tie.Need-slice-write-value
 slice-write-value c = search needs
 
+along-number-requires : tie.Need-along-number-requires
+along-number-requires c κs = search needs
+
 slice-write-place : tie.Need-slice-write-place
 slice-write-place c = search needs
 
@@ -23,11 +26,14 @@ slice-write-place-2 c = search needs
 slice-write-place-3 : tie.Need-slice-write-place-3
 slice-write-place-3 c = search needs
 
+slice-write-place-4 : tie.Need-slice-write-place-4
+slice-write-place-4 c = search needs
+
 number-requires : tie.Need-number-requires
 number-requires c κs = search needs
 
 add-result : tie.Need-add-result
-add-result c = omega (arith, few (c .before .before .before .a .given .0 .0 .drift), c .number .ensures)
+add-result c = omega (arith, few (c .before .before .before .before .a .given .0 .0 .drift), c .number .ensures)
 
 enum-known-a-2 : tie.Need-enum-known-a-2
 enum-known-a-2 c = search needs
@@ -43,10 +49,11 @@ same-length-2 c = search needs
 
 returns : tie.Need-returns
 returns c =
-    let m = c .before .before in
+    let v = c .before .before in
+    let m = v .before in
     let a = m .before .before .before .before .before .args in
     let (q, e) = m .before .a .given in
-    put (a .value .now) (a .place .now) (q .0) (a .a) (c .before .value .result) (c .number .result) (search needs) e (c .before .value .ensures) (c .number .ensures)
+    put (a .value .now) (a .place .now) (q .0) (a .a) (v .value .result) (c .before .along-number .result) (c .number .result) (search needs) e (v .value .ensures) (c .before .along-number .ensures) (c .number .ensures)
 
 returns-2 : tie.Need-returns-2
 returns-2 c =
@@ -62,9 +69,11 @@ report-spec =
     enum-known-a
     value-requires
     slice-write-value
+    along-number-requires
     slice-write-place
     slice-write-place-2
     slice-write-place-3
+    slice-write-place-4
     number-requires
     add-result
     enum-known-a-2

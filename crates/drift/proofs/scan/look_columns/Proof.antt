@@ -1,0 +1,68 @@
+use Prim.Native.Nat.{ℕ, _+_, _*_, _-_, _≤_, _<_}
+use native.Mathlib.Omega.{arith}
+use mathlib.Core.Path.{_≡_, refl, sym, ap, _∙_}
+use mathlib.Core.List.{[]}
+use lib.ListN.{getD}
+use Rattle.lists.specs.Tab.{times, times-none, times-more}
+use Rattle.drift.specs.Loops.{lookLine, lookColumns}
+use borrow.Author.Needs.{needs}
+use Rattle.drift.proofs.scan.look_columns.Statement.{statement}
+use Rattle.drift.proofs.scan.look_columns.Tie as tie
+use Rattle.drift.proofs.scan.look_columns.Reads as reads
+use Rattle.drift.proofs.scan.look_columns.Lts as lts
+use Rattle.drift.proofs.seen.look_line.Reads as look-line-reads
+
+abbrev Inv-loop : tie.InvT-loop
+Inv-loop columns n seen₀ j₀ seen j = (j ≤ n) × (seen ≡ times j (λ k. lookLine (n + k) (getD columns k [])) seen₀)
+
+abbrev μ-loop : tie.MeasureT-loop
+μ-loop columns n seen₀ j₀ seen j = n - j
+
+loop-holds : tie.Need-loop-holds Inv-loop μ-loop
+loop-holds c = (omega arith, times-none _ _)
+
+add-look-line : tie.Need-add-look-line Inv-loop μ-loop
+add-look-line c = omega (arith, c .before .before .pre .0)
+
+mul-look-line : tie.Need-mul-look-line Inv-loop μ-loop
+mul-look-line c = omega (arith, c .before .before .pre .0)
+
+shared-slice-copy-out-look-line : tie.Need-shared-slice-copy-out-look-line Inv-loop μ-loop
+shared-slice-copy-out-look-line c = omega (arith, c .before .before .pre .0, c .before .before .pre .1)
+
+look-line-requires : tie.Need-look-line-requires Inv-loop μ-loop
+look-line-requires c κs = omega (arith, c .before .before .before .pre .0)
+
+add-j : tie.Need-add-j Inv-loop μ-loop
+add-j c = search needs
+
+loop-less : tie.Need-loop-less Inv-loop μ-loop
+loop-less c = search needs
+
+loop-again : tie.Need-loop-again Inv-loop μ-loop
+loop-again c =
+    let l = c .before .before .before .loop in
+    (omega arith, times-more (l .j) _ _ (l .inv .1) (c .look-line .ensures))
+
+returns : tie.Need-returns Inv-loop μ-loop
+unfolding lookColumns
+returns c =
+    let l = c .before .loop in
+    let i : l .j ≡ c .before .before .args .n = omega arith in
+    l .inv .1 ∙ rw i
+
+pub look-columns-spec : {M : Type 1} → statement M
+look-columns-spec =
+    tie.close
+    (tie.spec
+    Inv-loop
+    μ-loop
+    loop-holds
+    add-look-line
+    mul-look-line
+    shared-slice-copy-out-look-line
+    look-line-requires
+    add-j
+    loop-less
+    loop-again
+    returns)

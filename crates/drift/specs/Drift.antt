@@ -1,0 +1,127 @@
+-- The drift report of a full set (document 01, "Drift report"; document 02, A.4). Definitions only.
+use mathlib.Core.List.{List, [], _∷_}
+use mathlib.Core.Bool.{Bool, false, cond}
+use Prim.Native.Nat.{ℕ, zero, suc, _-_, _*_, _/_, _%_}
+use lib.Dec.{eqb, ltb}
+use lib.ListN.{length}
+use lib.Ieee.{Float, nan, inf, fin, lt, eq, isNan}
+use Rattle.lists.specs.Tab.{times}
+use Rattle.lists.specs.Tests.{every, some}
+use Rattle.tables.specs.declared.Answer.{Answer}
+use Rattle.tables.specs.declared.Answer.the-variants.{Done, Refused as RefusedBy}
+use Rattle.tables.specs.declared.Refusal.the-variants.{CountAboveLimit, WrongLength}
+use Rattle.tables.specs.Answers.{refuseIf}
+use Rattle.tables.specs.Conditions.{anyAbove, anyWrong}
+use Rattle.tables.specs.Limits.{limit2}
+use Rattle.lines.specs.Nine.{plusZero}
+use Rattle.fc2.specs.Full.{rowSum, columnSum}
+use Rattle.drift.specs.declared.Drift.{Drift}
+use Rattle.drift.specs.declared.Drift.the-variants.{Still, Worst, NoNumber}
+use Rattle.drift.specs.declared.Along.{Along}
+use Rattle.drift.specs.declared.Along.the-variants.{Rows, Columns}
+use Rattle.drift.specs.declared.DriftReport.{DriftReport}
+use Rattle.drift.specs.declared.DriftAnswer.{DriftAnswer}
+use Rattle.drift.specs.declared.DriftAnswer.the-variants.{Report, Refused}
+
+-- ---- the cases: a number for each, and its value
+
+abbrev pub numberOf : Drift → ℕ
+numberOf Still = 0
+numberOf (Worst x) = 1
+numberOf NoNumber = 2
+
+abbrev pub valueOf : Drift → Float
+valueOf Still = plusZero
+valueOf (Worst x) = x
+valueOf NoNumber = nan
+
+abbrev pub alongNumber : Along → ℕ
+alongNumber Rows = 0
+alongNumber Columns = 1
+
+-- what the call answers: done, with a report, or a refusal
+abbrev pub answerOf : DriftAnswer → Answer
+answerOf (Report r) = Done
+answerOf (Refused r) = RefusedBy r
+
+-- the guard's refusal, or the report
+abbrev pub reportedAfter : Answer → DriftReport → DriftAnswer
+reportedAfter Done r = Report r
+reportedAfter (RefusedBy a) r = Refused a
+
+-- ---- floats
+
+-- the absolute value
+unfoldable pub absolute : Float → Float
+absolute nan = nan
+absolute (inf s) = inf false
+absolute (fin s m e) = fin false m e
+
+-- zero, of either sign
+unfoldable pub isZero : Float → Bool
+isZero nan = false
+isZero (inf s) = false
+isZero (fin s m e) = eqb m 0
+
+-- the larger of two; the first where they are equal or the second is no number
+abbrev pub larger : Float → Float → Float
+larger x y = cond (lt x y) y x
+
+-- ---- the sums, in the order of their places
+
+-- the sum of a row, over the second atom, or of a column, over the first
+unfoldable pub lineSum : ℕ → List Float → Along → ℕ → ℕ → ℕ → Float
+lineSum n xs Rows i k l = rowSum n xs i k l
+lineSum n xs Columns j k l = columnSum n xs j k l
+
+-- Rows come first, then the atoms rise: line q of a set is row q, and from n on column q - n.
+abbrev pub alongOf : ℕ → ℕ → Along
+alongOf n q = cond (ltb q n) Rows Columns
+
+abbrev pub atomOf : ℕ → ℕ → ℕ
+atomOf n q = cond (ltb q n) q (q - n)
+
+-- In each line the directions rise: sum r is that of line r / 9 and of directions r % 9 / 3 and r % 9 % 3. There are 2 n × 9 of them.
+unfoldable pub sumAt : ℕ → List Float → ℕ → Float
+sumAt n xs r = lineSum n xs (alongOf n (r / 9)) (atomOf n (r / 9)) (r % 9 / 3) (r % 9 % 3)
+
+abbrev pub sums : ℕ → ℕ
+sums n = n * 2 * 9
+
+-- the first number below n that passes the test, where one does
+unfoldable pub firstOf : ℕ → (ℕ → Bool) → ℕ
+firstOf zero f = 0
+firstOf (suc n) f = cond (some n f) (firstOf n f) n
+
+-- ---- the report
+
+-- the largest absolute value of the sums
+unfoldable pub worst : ℕ → List Float → Float
+worst n xs = times (sums n) (λ r w. larger w (absolute (sumAt n xs r))) plusZero
+
+unfoldable pub driftOf : ℕ → List Float → Drift
+driftOf n xs =
+    cond (some (sums n) (λ r. isNan (sumAt n xs r))) NoNumber
+    (cond (every (sums n) (λ r. isZero (sumAt n xs r))) Still
+    (Worst (worst n xs)))
+
+-- the report whose place is that of sum r
+abbrev pub reportAt : ℕ → Drift → ℕ → DriftReport
+reportAt n d r = record { drift = d; along = alongOf n (r / 9); atom = atomOf n (r / 9); k = r % 9 / 3; l = r % 9 % 3 }
+
+abbrev pub stillReport : DriftReport
+stillReport = record { drift = Still; along = Rows; atom = 0; k = 0; l = 0 }
+
+-- a drift with its place: of the worst the first sum that has its absolute value, of no number the first sum that is none
+abbrev pub placed : ℕ → List Float → Drift → DriftReport
+placed n xs Still = stillReport
+placed n xs (Worst x) = reportAt n (Worst x) (firstOf (sums n) (λ r. eq (absolute (sumAt n xs r)) x))
+placed n xs NoNumber = reportAt n NoNumber (firstOf (sums n) (λ r. isNan (sumAt n xs r)))
+
+-- what is refused: more than 1,024 atoms; a set of another length than n × n × 9
+abbrev pub judgedDrift : ℕ → ℕ → Answer
+judgedDrift len n = refuseIf (anyAbove limit2 (n ∷ [])) CountAboveLimit (refuseIf (anyWrong ((len, n * n * 9) ∷ [])) WrongLength Done)
+
+-- the call's answer
+unfoldable pub driftReport : List Float → ℕ → DriftAnswer
+driftReport xs n = reportedAfter (judgedDrift (length xs) n) (placed n xs (driftOf n xs))

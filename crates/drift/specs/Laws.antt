@@ -1,0 +1,174 @@
+-- The sums that the loops make are those of the definition, one after another, and so is the call's answer. Assumes nothing.
+use mathlib.Core.Path.{_≡_, refl, sym, ap, ap₂, _∙_, subst}
+use mathlib.Core.Bool.{cond}
+use mathlib.Core.List.{List, [], _∷_}
+use Prim.Native.Nat.{ℕ, _+_, _-_, _*_, _/_, _%_, _<_, _≤_}
+use native.Mathlib.Nat.{div-add-mod', le-refl, not-suc-le-zero}
+use native.Mathlib.Omega.{arith}
+use lib.ListN.{length, getD, set, length-set}
+use lib.Seq.{getD-set-other}
+use lib.Ieee.{Float, nan, add, binary64}
+use borrow.Author.Tests.{lt-ltb, le-ltb}
+use Rattle.lists.specs.Tab.{times, times-same, times-more, times-add, times-nest, fill-more}
+use Rattle.blocks.specs.Block.{block, block-of, place-of}
+use Rattle.tables.specs.declared.Answer.the-variants.{Done, Refused as RefusedBy}
+use Rattle.tables.specs.declared.Refusal.{Refusal}
+use Rattle.tables.specs.declared.Refusal.the-variants.{CountAboveLimit, WrongLength}
+use Rattle.tables.specs.Answers.{passed}
+use Rattle.tables.specs.Conditions.{anyAbove, anyWrong, not-above, not-wrong}
+use Rattle.tables.specs.Limits.{limit2}
+use Rattle.lines.specs.Nine.{Sums, plusZero, zeros, sumIn, more}
+use Rattle.lines.specs.Lines.{lineSums, Line, Sized, run-line}
+use Rattle.lines.specs.Drifts.{line-sum, row-sums, zeros-in}
+use Rattle.fc2.specs.Full.{rowSum, columnSum}
+use Rattle.fc2.specs.FullPlaces.{entry-at}
+use Rattle.fc2.specs.FullDrifts.{row-sum}
+use Rattle.fc2.specs.FullLaws.{column-line}
+use Rattle.drift.specs.declared.Along.{Along}
+use Rattle.drift.specs.declared.Along.the-variants.{Rows, Columns}
+use Rattle.drift.specs.declared.DriftAnswer.{DriftAnswer}
+use Rattle.drift.specs.declared.DriftAnswer.the-variants.{Report, Refused}
+use Rattle.drift.specs.declared.seen.Seen.{Seen}
+use Rattle.drift.specs.Drift.{lineSum, alongOf, atomOf, sumAt, sums, driftOf, placed, judgedDrift, reportedAfter, driftReport}
+use Rattle.drift.specs.Loops.{look, start, lookLine, lookLines, scanned, Summed, lookColumns, concluded}
+use Rattle.drift.specs.Seen.{State, all-seen, reported}
+
+-- ---- where the lines of a set stand
+
+module _ {n s : ℕ} (z : Sized n n s) where
+  pub rows-stand : (i : ℕ) → i < n → Line (i * n) 1 n s
+  rows-stand i h = run-line z i n (i * n) h (omega arith)
+
+  pub columns-stand : (j : ℕ) → j < n → Line (j * 1) n n s
+  columns-stand j h = let e : j ≡ j * 1 = omega arith in subst (λ (a : ℕ). Line a n n s) e (column-line z j h)
+
+-- ---- the sums of a line by directions
+
+column-sum : (n : ℕ) (xs : List Float) (j p : ℕ) → p < 9 → sumIn (lineSums j n n xs zeros) p ≡ columnSum n xs j (p / 3) (p % 3)
+unfolding columnSum
+column-sum n xs j p h =
+    line-sum j n n xs zeros p h
+    ∙ ap (λ z. times n (λ k t. add binary64 t (getD xs ((j + k * n) * 9 + p) nan)) z) (zeros-in p h)
+    ∙ times-same n _ _ plusZero (λ k hk t.
+    let g = div-add-mod' p 3 in
+    let w : (j + k * n) * 9 + p ≡ (k * n + j) * 9 + (p / 3 * 3 + p % 3) = omega arith in
+    ap (add binary64 t) (ap (λ r. getD xs r nan) w ∙ sym (entry-at n xs k j (p / 3) (p % 3))))
+
+-- sum p of line q
+at-line : (n : ℕ) (xs : List Float) (q p : ℕ) → p < 9 → sumAt n xs (q * 9 + p) ≡ lineSum n xs (alongOf n q) (atomOf n q) (p / 3) (p % 3)
+unfolding sumAt
+at-line n xs q p h = ap₂ (λ a b. lineSum n xs (alongOf n a) (atomOf n a) (b / 3) (b % 3)) (block-of 9 q p h) (place-of 9 q p h)
+
+row-at : (n : ℕ) (xs : List Float) (i p : ℕ) → i < n → p < 9 → sumIn (lineSums (i * n) 1 n xs zeros) p ≡ sumAt n xs (i * 9 + p)
+unfolding lineSum
+row-at n xs i p hi hp =
+    row-sums n xs i p hp ∙ row-sum n xs i p
+    ∙ sym (at-line n xs i p hp ∙ ap (λ b. lineSum n xs (cond b Rows Columns) (cond b i (i - n)) (p / 3) (p % 3)) (lt-ltb i n hi))
+
+column-at : (n : ℕ) (xs : List Float) (j p : ℕ) → p < 9 → sumIn (lineSums j n n xs zeros) p ≡ sumAt n xs ((n + j) * 9 + p)
+unfolding lineSum
+column-at n xs j p hp =
+    let e : n + j - n ≡ j = omega arith in
+    column-sum n xs j p hp
+    ∙ sym (at-line n xs (n + j) p hp
+    ∙ ap (λ b. lineSum n xs (cond b Rows Columns) (cond b (n + j) (n + j - n)) (p / 3) (p % 3)) (le-ltb (n + j) n (omega arith))
+    ∙ ap (λ a. columnSum n xs a (p / 3) (p % 3)) e)
+
+-- ---- the sums, one after another
+
+module _ (n : ℕ) (xs : List Float) where
+  -- line q, looked at sum by sum
+  abbrev lineOf : ℕ → Seen → Seen
+  lineOf q c = times 9 (λ p. look (q * 9 + p) (sumAt n xs (q * 9 + p))) c
+
+  by-sums : (q : ℕ) (s : Sums) → ((p : ℕ) → p < 9 → sumIn s p ≡ sumAt n xs (q * 9 + p)) → (c : Seen) → lookLine q s c ≡ lineOf q c
+  unfolding lookLine
+  by-sums q s h c = times-same 9 _ _ c (λ p hp t. ap (λ x. look (q * 9 + p) x t) (h p hp))
+
+  rows-looked : (c : Seen) → lookLines 0 n 1 n xs c ≡ times n lineOf c
+  unfolding lookLines
+  rows-looked c =
+      times-same n _ _ c (λ i hi t.
+      let e : 0 + i ≡ i = omega arith in
+      ap (λ q. lookLine q (lineSums (i * n) 1 n xs zeros) t) e ∙ by-sums i (lineSums (i * n) 1 n xs zeros) (λ p hp. row-at n xs i p hi hp) t)
+
+  columns-looked : (c : Seen) → lookLines n 1 n n xs c ≡ times n (λ j. lineOf (n + j)) c
+  unfolding lookLines
+  columns-looked c =
+      times-same n _ _ c (λ j hj t.
+      let e : j * 1 ≡ j = omega arith in
+      ap (λ a. lookLine (n + j) (lineSums a n n xs zeros) t) e ∙ by-sums (n + j) (lineSums j n n xs zeros) (λ p hp. column-at n xs j p hp) t)
+
+  scanned-sums : scanned n xs ≡ times (sums n) (λ r. look r (sumAt n xs r)) start
+  unfolding scanned
+  scanned-sums =
+      let e : n + n ≡ n * 2 = omega arith in
+      ap (lookLines n 1 n n xs) (rows-looked start)
+      ∙ columns-looked (times n lineOf start)
+      ∙ sym (times-add n n lineOf start)
+      ∙ ap (λ m. times m lineOf start) e
+      ∙ sym (times-nest (n * 2) 9 (λ r. look r (sumAt n xs r)) start)
+
+-- ---- the sums of all columns, row by row
+
+-- cs holds the sums of the columns over the first i rows, and of the first j columns over one row more
+pub record Adding (n i j : ℕ) (xs : List Float) (cs : List Sums) : Type 0 where
+  pub long : length cs ≡ 1024
+  pub done : (k : ℕ) → k < j → getD cs k [] ≡ lineSums k n (i + 1) xs zeros
+  pub left : (k : ℕ) → j ≤ k → k < n → getD cs k [] ≡ lineSums k n i xs zeros
+
+module _ (n : ℕ) (xs : List Float) (cs : List Sums) where
+  pub summed-none : length cs ≡ 1024 → ((j : ℕ) → j < n → getD cs j [] ≡ zeros) → Summed n 0 xs cs
+  unfolding lineSums times
+  summed-none e h = record { long = e; column = h }
+
+  pub adding-none : (i : ℕ) → Summed n i xs cs → Adding n i 0 xs cs
+  adding-none i s = record { long = s .long; done = λ k h. absurd (not-suc-le-zero h); left = λ k l h. s .column k h }
+
+  pub adding-all : (i j : ℕ) → j ≡ n → Adding n i j xs cs → Summed n (i + 1) xs cs
+  adding-all i j e s = record { long = s .long; column = λ k h. s .done k (subst (λ (m : ℕ). k < m) (sym e) h) }
+
+  -- block (i, j) is added to the sums of column j
+  column-more : (i j : ℕ) → getD cs j [] ≡ lineSums j n i xs zeros → more (getD cs j []) (block 9 (i * n + j) xs) ≡ lineSums j n (i + 1) xs zeros
+  unfolding lineSums
+  column-more i j h =
+      let w : i * n + j ≡ j + i * n = omega arith in
+      times-more i (λ k t. more t (block 9 (j + k * n) xs)) zeros h (ap (λ b. more (getD cs j []) (block 9 b xs)) w)
+
+  pub adding-more : (i j : ℕ) (s : Sums) → n ≤ 1024 → j < n → s ≡ more (getD cs j []) (block 9 (i * n + j) xs) → Adding n i j xs cs → Adding n i (j + 1) xs (set cs j s)
+  adding-more i j s hn hj e a =
+      record {
+        long = length-set cs j s ∙ a .long;
+        done = fill-more [] (λ k. lineSums k n (i + 1) xs zeros) cs j s (omega (arith, a .long)) (e ∙ column-more i j (a .left j (le-refl j) hj)) (a .done);
+        left = λ k l h. getD-set-other cs j k s [] (λ g. omega arith) ∙ a .left k (omega arith) h;
+      }
+
+  -- the columns looked at by their sums
+  pub columns-by : Summed n n xs cs → (c : Seen) → lookColumns n cs c ≡ lookLines n 1 n n xs c
+  unfolding lookColumns lookLines
+  columns-by s c =
+      times-same n _ _ c (λ j hj t.
+      let e : j ≡ j * 1 = omega arith in
+      ap (λ a. lookLine (n + j) a t) (s .column j hj ∙ ap (λ a. lineSums a n n xs zeros) e))
+
+-- ---- the answer
+
+module _ (xs : List Float) (n : ℕ) where
+  -- what is known of a set that is reported on
+  pub sized : judgedDrift (length xs) n ≡ Done → Sized n n (length xs)
+  sized e =
+      let (c, r) = passed (anyAbove limit2 (n ∷ [])) CountAboveLimit _ e in
+      let (l, _) = passed (anyWrong ((length xs, n * n * 9) ∷ [])) WrongLength Done r in
+      record { few = not-above limit2 (n ∷ []) c .0; small = not-above limit2 (n ∷ []) c .0; long = not-wrong ((length xs, n * n * 9) ∷ []) l .0 }
+
+  pub report-refused : (a : Refusal) → judgedDrift (length xs) n ≡ RefusedBy a → Refused a ≡ driftReport xs n
+  unfolding driftReport
+  report-refused a e = sym (ap (λ g. reportedAfter g (placed n xs (driftOf n xs))) e)
+
+  pub all-looked : (c : Seen) → c ≡ scanned n xs → State (sumAt n xs) (sums n) c
+  all-looked c g = subst (State (sumAt n xs) (sums n)) (sym (g ∙ scanned-sums n xs)) (all-seen (sumAt n xs) (sums n))
+
+  pub report-done : judgedDrift (length xs) n ≡ Done → (c : Seen) → c ≡ scanned n xs → Report (concluded n c) ≡ driftReport xs n
+  unfolding driftReport
+  report-done e c g =
+      ap Report (reported xs n c (all-looked c g)) ∙ sym (ap (λ h. reportedAfter h (placed n xs (driftOf n xs))) e)

@@ -1,0 +1,48 @@
+-- What the functions compute, as their loops run. Definitions only.
+use mathlib.Core.Path.{_≡_}
+use mathlib.Core.List.{List, []}
+use mathlib.Core.Bool.{true, false, cond}
+use Prim.Native.Nat.{ℕ, _+_, _*_, _<_}
+use lib.ListN.{length, getD}
+use lib.Ieee.{Float, lt, ne, eq}
+use Rattle.lists.specs.Tab.{times}
+use Rattle.lines.specs.Nine.{Sums, plusZero, zeros, sumIn}
+use Rattle.lines.specs.Lines.{lineSums}
+use Rattle.drift.specs.declared.Drift.the-variants.{Worst, NoNumber}
+use Rattle.drift.specs.declared.DriftReport.{DriftReport}
+use Rattle.drift.specs.declared.seen.Seen.{Seen}
+use Rattle.drift.specs.Drift.{absolute, reportAt, stillReport}
+
+-- sum r, x, is looked at
+abbrev pub look : ℕ → Float → Seen → Seen
+look r x c =
+    cond (ne x x)
+    (cond (c .none) c (record { none = true; first = r; worst = c .worst; at = c .at }))
+    (cond (lt (c .worst) (absolute x)) (record { none = c .none; first = c .first; worst = absolute x; at = r }) c)
+
+abbrev pub start : Seen
+start = record { none = false; first = 0; worst = plusZero; at = 0 }
+
+-- the nine sums of line q are looked at
+unfoldable pub lookLine : ℕ → Sums → Seen → Seen
+lookLine q s c = times 9 (λ p. look (q * 9 + p) (sumIn s p)) c
+
+-- n lines, the first of them line `first`; line i begins with block i * apart, and its n blocks stand `step` apart
+unfoldable pub lookLines : ℕ → ℕ → ℕ → ℕ → List Float → Seen → Seen
+lookLines first apart step n xs c = times n (λ i. lookLine (first + i) (lineSums (i * apart) step n xs zeros)) c
+
+-- the rows, and then the columns
+unfoldable pub scanned : ℕ → List Float → Seen
+scanned n xs = lookLines n 1 n n xs (lookLines 0 n 1 n xs start)
+
+-- cs holds the sums of the n columns over the first i rows
+pub record Summed (n i : ℕ) (xs : List Float) (cs : List Sums) : Type 0 where
+  pub long : length cs ≡ 1024
+  pub column : (j : ℕ) → j < n → getD cs j [] ≡ lineSums j n i xs zeros
+
+-- the nine sums that cs holds for each of n columns are looked at
+unfoldable pub lookColumns : ℕ → List Sums → Seen → Seen
+lookColumns n cs c = times n (λ j. lookLine (n + j) (getD cs j [])) c
+
+abbrev pub concluded : ℕ → Seen → DriftReport
+concluded n c = cond (c .none) (reportAt n NoNumber (c .first)) (cond (eq (c .worst) plusZero) stillReport (reportAt n (Worst (c .worst)) (c .at)))

@@ -1,0 +1,168 @@
+// The drift report of a full set (document 01, "Drift report"; document 02, A.4): how far its rows and its columns are from adding up to zero.
+mod scan;
+mod seen;
+
+use places::last_leg;
+use places::legs_before;
+use scan::scan_set;
+use seen::Seen;
+use tables::Answer;
+use tables::Refusal;
+ghost use mathlib.Core.Path.{_≡_};
+ghost use lib.ListN.{length};
+ghost use Rattle.drift.specs.Drift.{numberOf, valueOf, alongNumber, answerOf, alongOf, atomOf, reportAt, stillReport, judgedDrift, driftReport};
+ghost use Rattle.drift.specs.Loops as loops;
+
+// Still: all sums are zero. Worst: the largest absolute value of a sum. NoNumber: a sum is NaN.
+pub enum Drift {
+    Still,
+    Worst(f64),
+    NoNumber,
+}
+
+// Which sums a report names: that of a row, over the second atom, or that of a column, over the first.
+pub enum Along {
+    Rows,
+    Columns,
+}
+
+// The drift and its place: a row or a column, its atom, and the directions.
+pub struct DriftReport {
+    pub drift: Drift,
+    pub along: Along,
+    pub atom: usize,
+    pub k: usize,
+    pub l: usize,
+}
+
+pub enum DriftAnswer {
+    Report(DriftReport),
+    Refused(Refusal),
+}
+
+// A number for each case.
+pub fn number(d: Drift) -> u8
+    ensures { λ r. ⌜ r ≡ numberOf d ⌝ }
+{
+    match d {
+        Drift::Still => 0,
+        Drift::Worst(_) => 1,
+        Drift::NoNumber => 2,
+    }
+}
+
+// The value of each case: 0.0, the worst absolute value, NaN.
+pub fn value(d: Drift) -> f64
+    ensures { λ r. ⌜ r ≡ valueOf d ⌝ }
+{
+    match d {
+        Drift::Still => 0.0,
+        Drift::Worst(x) => x,
+        Drift::NoNumber => 0.0 / 0.0,
+    }
+}
+
+// A number for rows and for columns.
+pub fn along_number(a: Along) -> usize
+    ensures { λ r. ⌜ r ≡ alongNumber a ⌝ }
+{
+    match a {
+        Along::Rows => 0,
+        Along::Columns => 1,
+    }
+}
+
+// Done, or the refusal.
+pub fn answer(r: DriftAnswer) -> Answer
+    ensures { λ a. ⌜ a ≡ answerOf r ⌝ }
+{
+    match r {
+        DriftAnswer::Report(_) => Answer::Done,
+        DriftAnswer::Refused(r) => Answer::Refused(r),
+    }
+}
+
+// Line q is row q, and from n on column q - n.
+fn along_of(n: usize, q: usize) -> Along
+    ensures { λ r. ⌜ r ≡ alongOf n q ⌝ }
+{
+    if q < n {
+        return Along::Rows;
+    }
+    Along::Columns
+}
+
+fn atom_of(n: usize, q: usize) -> usize
+    ensures { λ r. ⌜ r ≡ atomOf n q ⌝ }
+{
+    if q < n {
+        return q;
+    }
+    q - n
+}
+
+// The report whose place is that of sum r.
+fn report_at(n: usize, d: Drift, r: usize) -> DriftReport
+    ensures { λ q. ⌜ q ≡ reportAt n d r ⌝ }
+{
+    let line = legs_before(r, 9);
+    let along = along_of(n, line);
+    let atom = atom_of(n, line);
+    DriftReport {
+        drift: d,
+        along: along,
+        atom: atom,
+        k: legs_before(last_leg(r, 9), 3),
+        l: last_leg(last_leg(r, 9), 3),
+    }
+}
+
+fn still() -> DriftReport
+    ensures { λ q. ⌜ q ≡ stillReport ⌝ }
+{
+    DriftReport {
+        drift: Drift::Still,
+        along: Along::Rows,
+        atom: 0,
+        k: 0,
+        l: 0,
+    }
+}
+
+fn conclude(n: usize, c: Seen) -> DriftReport
+    ensures { λ r. ⌜ r ≡ loops.concluded n c ⌝ }
+{
+    if c.none {
+        return report_at(n, Drift::NoNumber, c.first);
+    }
+    if c.worst == 0.0 {
+        return still();
+    }
+    report_at(n, Drift::Worst(c.worst), c.at)
+}
+
+fn judge_drift(len: usize, n: usize) -> Answer
+    ensures { λ r. ⌜ r ≡ judgedDrift «len» n ⌝ }
+{
+    if n > tables::limits::LIMIT2 {
+        return Answer::Refused(Refusal::CountAboveLimit);
+    }
+    if len != n * n * 9 {
+        return Answer::Refused(Refusal::WrongLength);
+    }
+    Answer::Done
+}
+
+// The drift of each row sum over the second atom and of each column sum over the first, and its place.
+pub fn drift_report(fc: &[f64], n_satom: usize) -> DriftAnswer
+    ensures { λ r. ⌜ r ≡ driftReport (now (fc .entry)) «n_satom» ⌝ }
+{
+    let a = judge_drift(fc.len(), n_satom);
+    match a {
+        Answer::Refused(r) => DriftAnswer::Refused(r),
+        Answer::Done => {
+            let seen = scan_set(fc, n_satom);
+            DriftAnswer::Report(conclude(n_satom, seen))
+        }
+    }
+}

@@ -1,0 +1,82 @@
+// What is known of the sums that were looked at, one after another in the order of their places.
+use places::last_leg;
+use places::legs_before;
+use places::with_leg;
+ghost use mathlib.Core.Path.{_≡_};
+ghost use Prim.Native.Nat.{_<_};
+ghost use Rattle.drift.specs.Drift.{absolute};
+ghost use Rattle.drift.specs.Loops as loops;
+
+// Whether one is NaN, and the first of those; the worst absolute value, and where it stands first.
+pub struct Seen {
+    pub none: bool,
+    pub first: usize,
+    pub worst: f64,
+    pub at: usize,
+}
+
+// No sum was looked at.
+pub fn start() -> Seen
+    ensures { λ s. ⌜ s ≡ loops.start ⌝ }
+{
+    Seen {
+        none: false,
+        first: 0,
+        worst: 0.0,
+        at: 0,
+    }
+}
+
+// The absolute value.
+fn magnitude(x: f64) -> f64
+    ensures { λ r. ⌜ r ≡ absolute x ⌝ }
+{
+    if x < 0.0 {
+        return -x;
+    }
+    if x == 0.0 {
+        return 0.0;
+    }
+    x
+}
+
+// Looks at sum r, which is x.
+fn look(r: usize, x: f64, c: Seen) -> Seen
+    ensures { λ s. ⌜ s ≡ loops.look r x c ⌝ }
+{
+    if x != x {
+        if c.none {
+            return c;
+        }
+        return Seen {
+            none: true,
+            first: r,
+            worst: c.worst,
+            at: c.at,
+        };
+    }
+    let m = magnitude(x);
+    if c.worst < m {
+        return Seen {
+            none: c.none,
+            first: c.first,
+            worst: m,
+            at: r,
+        };
+    }
+    c
+}
+
+// Looks at the nine sums of line q.
+pub fn look_line(q: usize, s: [[f64; 3]; 3], c: Seen) -> Seen
+    requires { ⌜ q < 2048 ⌝ }
+    ensures { λ r. ⌜ r ≡ loops.lookLine q s c ⌝ }
+{
+    let mut seen = c;
+    for p in 0..9usize {
+        let x = s[legs_before(p, 3)][last_leg(p, 3)];
+        let more = look(with_leg(q, 9, p), x, seen);
+        seen = more;
+    }
+    seen
+}
