@@ -87,7 +87,8 @@ enum gf_answer {
     GF_DRIFT_STILL = 65,       /* gf_drift_report: all sums are zero */
     GF_DRIFT_WORST = 66,       /* gf_drift_report: the worst sum is named */
     GF_DRIFT_NO_NUMBER = 67,   /* gf_drift_report: a sum is NaN */
-    GF_ROLL_END = 68           /* gf_read_roll: the trailer begins there */
+    GF_ROLL_END = 68,          /* gf_read_roll: the trailer begins there */
+    GF_MATCH_NO_NUMBER = 69    /* gf_compute_permutation: some slot is left free, and a distance was NaN */
 };
 
 /* Which sums a drift report names. */
@@ -132,11 +133,15 @@ uint8_t gf_check_shift_tables(
  * and d = (0, 0.5, 0) has the length of b / 2, the root of 1.25. With the vectors in the rows, {3, 0, 0,  1, 2, 0,  0, 0, 4}, it would
  * get the length 1: such a lattice is not refused, and gives wrong distances wherever the cell is oblique.
  * GF_DONE: all slots are filled, and they are a bijection of near pairs. GF_NOT_MATCHED: a slot is left at -1; a match may exist all
- * the same, since a slot once taken is not given up.
+ * the same, since a slot once taken is not given up. GF_MATCH_NO_NUMBER: the same, and a distance was NaN, as it is of NaN coordinates;
+ * pair says which: of the pairs of position i and free slot j that the search tried, the first whose distance is NaN. In words, for
+ * pair {3, 7}: "position 3 against slot 7: the distance is not a number". A NaN tolerance makes no distance NaN: all numbers are far
+ * then. An infinite distance is far.
  *   rot_atom  num_pos      only written
  *   lattice   9            row after row, the basis vectors in the columns
  *   pos       3 x num_pos
  *   rot_pos   3 x num_pos
+ *   pair      2            position and slot, written with GF_MATCH_NO_NUMBER only
  * Refusals: 1 (num_pos above 1,024), 2.
  */
 uint8_t gf_compute_permutation(
@@ -145,6 +150,7 @@ uint8_t gf_compute_permutation(
     double symprec,
     const double *pos, size_t pos_len,
     const double *rot_pos, size_t rot_pos_len,
+    size_t *pair, size_t pair_len,
     size_t num_pos);
 
 /* ---- second order ---- */

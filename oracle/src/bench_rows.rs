@@ -69,7 +69,7 @@ pub fn matching(b: &Bench) {
     for n in [64, 512, 1024] {
         for (what, kind) in [("same order", Kind::Same), ("neighbours exchanged", Kind::Near), ("any order", Kind::Permuted)] {
             let (pos, rot_pos) = pair(&mut r, kind, n);
-            let call = Matching { slots: vec![0; n], lattice: SKEW.to_vec(), symprec: 1e-5, pos, rot_pos, num_pos: n };
+            let call = Matching { slots: vec![0; n], lattice: SKEW.to_vec(), symprec: 1e-5, pos, rot_pos, pair: vec![0; 2], num_pos: n };
             b.row(&format!("compute_permutation, {what}"), &format!("{n}"), call, None, false);
         }
     }

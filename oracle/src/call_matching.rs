@@ -9,11 +9,51 @@ pub struct Matching {
     pub symprec: f64,
     pub pos: Vec<f64>,
     pub rot_pos: Vec<f64>,
+    /// The position and the slot that a failed match names.
+    pub pair: Vec<i64>,
     pub num_pos: usize,
 }
 
-/// The number for "not matched" beside those of the refusals.
+/// The numbers for "not matched" beside those of the refusals: a plain false, and one that names a pair, which the Rust
+/// does not do.
 pub const FALSE: u8 = 64;
+pub const NO_NUMBER: u8 = 69;
+
+/// The distance of a position and a rotated position, as the Rust works it out.
+fn distance(lattice: &[f64], pos: &[f64], rot_pos: &[f64]) -> f64 {
+    let mut diff = [0.0; 3];
+    for (k, x) in diff.iter_mut().enumerate() {
+        *x = pos[k] - rot_pos[k];
+        *x -= x.round();
+    }
+    let mut squares = 0.0;
+    for row in lattice.chunks(3) {
+        let mut component = 0.0;
+        for (a, x) in row.iter().zip(diff) {
+            component += a * x;
+        }
+        squares += component * component;
+    }
+    squares.sqrt()
+}
+
+/// Document 02, A.3: "of the pairs of atom and free slot that the search tried, the first whose distance was no number".
+pub fn first_no_number(lattice: &[f64], symprec: f64, pos: &[f64], rot_pos: &[f64]) -> Option<[usize; 2]> {
+    let mut free = vec![true; rot_pos.len() / 3];
+    for (i, atom) in pos.chunks(3).enumerate() {
+        for (j, slot) in rot_pos.chunks(3).enumerate() {
+            let d = if free[j] { distance(lattice, atom, slot) } else { continue };
+            if d.is_nan() {
+                return Some([i, j]);
+            }
+            if d < symprec {
+                free[j] = false;
+                break;
+            }
+        }
+    }
+    None
+}
 
 impl Call for Matching {
     fn parts(&mut self) -> Parts<'_> {
@@ -24,6 +64,7 @@ impl Call for Matching {
             floats(&mut self.lattice, &[9]),
             floats(&mut self.pos, &[3, n]),
             floats(&mut self.rot_pos, &[3, n]),
+            integers(&mut self.pair, &[2]),
         ];
         Parts::new(counts, slices)
     }
@@ -31,18 +72,24 @@ impl Call for Matching {
     fn original(&mut self) -> u8 {
         let lattice: &[f64; 9] = self.lattice[..].try_into().expect("nine numbers");
         if cells::compute_permutation(&mut self.slots, lattice, &self.pos, &self.rot_pos, self.num_pos, self.symprec) {
-            0
-        } else {
-            FALSE
+            return 0;
+        }
+        match first_no_number(&self.lattice, self.symprec, &self.pos, &self.rot_pos) {
+            Some(pair) => {
+                self.pair = pair.map(|k| k as i64).to_vec();
+                NO_NUMBER
+            }
+            None => FALSE,
         }
     }
 
     fn port(&mut self) -> u8 {
-        // SAFETY: slices by their pointers and lengths, no precondition.
+        // SAFETY: slices by their pointers and lengths, no precondition; usize has the size of i64.
         unsafe {
             c_names::gf_compute_permutation(
                 self.slots.as_mut_ptr(), self.slots.len(), self.lattice.as_ptr(), self.lattice.len(), self.symprec,
-                self.pos.as_ptr(), self.pos.len(), self.rot_pos.as_ptr(), self.rot_pos.len(), self.num_pos,
+                self.pos.as_ptr(), self.pos.len(), self.rot_pos.as_ptr(), self.rot_pos.len(),
+                self.pair.as_mut_ptr() as *mut usize, self.pair.len(), self.num_pos,
             )
         }
     }

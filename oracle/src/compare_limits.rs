@@ -54,7 +54,7 @@ fn second(tallies: &mut Vec<Tally>, r: &mut Rng) {
     let drift = Drift { set: plain(r, 1024 * 1024 * 9), value: vec![0.0], place: vec![0; 4], n_satom: 1024 };
     one(tallies, "drift_report", drift);
     let (pos, rot_pos) = pair(r, Kind::Permuted, 1024);
-    let matching = Matching { slots: vec![], lattice: SKEW.to_vec(), symprec: 1e-5, pos, rot_pos, num_pos: 1024 };
+    let matching = Matching { slots: vec![], lattice: SKEW.to_vec(), symprec: 1e-5, pos, rot_pos, pair: vec![0; 2], num_pos: 1024 };
     one(tallies, "compute_permutation", matching);
     one(tallies, "distribute_fc2", distribute(r, 1024));
 }

@@ -168,5 +168,6 @@ pub fn matching(r: &mut Rng) -> Matching {
     let usual = r.below(3) > 0;
     let symprec = TOLERANCES[if usual { TOLERANCES.len() - 1 - r.below(3) } else { r.below(TOLERANCES.len()) }];
     let lattice = LATTICES[if usual { r.below(2) } else { r.below(LATTICES.len()) }].to_vec();
-    Matching { slots: (0..n).map(|_| r.bits() as i64).collect(), lattice, symprec, pos, rot_pos, num_pos: n }
+    let mut rubbish = |n: usize| (0..n).map(|_| r.bits() as i64).collect();
+    Matching { slots: rubbish(n), lattice, symprec, pos, rot_pos, pair: rubbish(2), num_pos: n }
 }

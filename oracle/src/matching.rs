@@ -1,9 +1,10 @@
 //! Recorded answers of the original's compute_permutation.
+use crate::call_matching::first_no_number;
 use crate::cells::compute_permutation;
 use crate::record::{counted, float_word, report, Record, Replay};
 use crate::rng::Rng;
 
-/// What the slots hold before each call.
+/// What the slots, and the two of the pair, hold before each call.
 const BEFORE: i64 = 7;
 
 /// Document 01's limit of num_pos.
@@ -36,6 +37,10 @@ impl Call {
         }
     }
 
+    fn no_number(&self) -> Option<[usize; 2]> {
+        first_no_number(&self.lattice, self.symprec, &self.pos, &self.rot_pos)
+    }
+
     fn record(&self) -> Record {
         let refusal = self.refusal();
         let mut slots = vec![BEFORE; self.slots];
@@ -47,6 +52,9 @@ impl Call {
         words.extend(self.lattice.map(float_word));
         words.extend(self.pos.iter().chain(&self.rot_pos).map(|x| float_word(*x)));
         words.extend(slots.iter().map(|s| *s as u64));
+        let named = if refusal == 0 && !matched { self.no_number() } else { None };
+        words.push(named.is_some() as u64);
+        words.extend(named.unwrap_or([BEFORE as usize; 2]).map(|k| k as u64));
         counted(words)
     }
 }
@@ -103,9 +111,10 @@ pub enum Kind {
     NoNumber,
     Infinite,
     Huge,
+    Opposite,
 }
 
-pub const KINDS: [Kind; 9] = [
+pub const KINDS: [Kind; 10] = [
     Kind::Same,
     Kind::Near,
     Kind::Permuted,
@@ -115,6 +124,7 @@ pub const KINDS: [Kind; 9] = [
     Kind::NoNumber,
     Kind::Infinite,
     Kind::Huge,
+    Kind::Opposite,
 ];
 
 /// Positions and what they are matched against.
@@ -140,7 +150,13 @@ pub fn pair(r: &mut Rng, kind: Kind, n: usize) -> (Vec<f64>, Vec<f64>) {
             pos.iter_mut().for_each(|x| *x = (*x * 2.0).round() / 4.0);
             rot = permuted(r, &pos, &order);
         }
-        Kind::NoNumber if n > 0 => rot[r.below(last)] = f64::NAN,
+        // one to three, among the positions and the slots
+        Kind::NoNumber if n > 0 => {
+            for _ in 0..=r.below(3) {
+                let of = if r.below(2) == 0 { &mut pos } else { &mut rot };
+                of[r.below(last)] = f64::NAN;
+            }
+        }
         Kind::Infinite if n > 0 => pos[r.below(last)] = f64::INFINITY,
         Kind::Huge => {
             // whole numbers so large that nothing is left of a fraction
@@ -149,6 +165,13 @@ pub fn pair(r: &mut Rng, kind: Kind, n: usize) -> (Vec<f64>, Vec<f64>) {
             }
             rot = pos.clone();
             rot.iter_mut().step_by(3).for_each(|x| *x = -*x);
+        }
+        // the difference of two of opposite sign is infinite, and less its rounding NaN: a match may still be complete
+        Kind::Opposite => {
+            for a in 0..n {
+                pos[a * 3] = f64::MAX * if r.below(2) == 0 { 1.0 } else { -1.0 };
+            }
+            rot = order.iter().flat_map(|a| pos[a * 3..a * 3 + 3].to_vec()).collect();
         }
         _ => {}
     }
@@ -193,6 +216,37 @@ fn sheets() -> Vec<Call> {
         Call::new(UNIT, 0.1875, vec![0.25, 0.0, 0.0, 0.0, 0.0, 0.0], vec![0.125, 0.0, 0.0, 0.375, 0.0, 0.0]),
         Call::new(UNIT, 0.125, vec![0.125, 0.0, 0.0], origin()),
         Call::new(UNIT, 0.125, vec![0.25, 0.0, 0.0], vec![0.375, 0.0, 0.0]),
+    ]
+}
+
+/// Document 02, A.3, each with the pair that it is to name.
+fn named() -> Vec<(Call, Option<[usize; 2]>)> {
+    let at = |xs: &[f64]| xs.iter().flat_map(|x| [*x, 0.0, 0.0]).collect::<Vec<f64>>();
+    let unit = |symprec, pos: &[f64], rot: &[f64]| Call::new(UNIT, symprec, at(pos), at(rot));
+    let (nan, huge) = (f64::NAN, 2f64.powi(1023));
+    vec![
+        // the first tried, not the lowest slot, and not the last
+        (unit(0.125, &[0.0, nan], &[nan, 0.0]), Some([0, 0])),
+        (unit(0.125, &[0.0, nan, nan], &[0.0, 0.25, 0.375]), Some([1, 1])),
+        (unit(0.125, &[0.25, nan, 0.0], &[nan, 0.25, 0.0]), Some([0, 0])),
+        (unit(0.125, &[0.0, 0.25, nan], &[0.0, 0.375, nan]), Some([1, 2])),
+        // slot 1 comes after the one that takes position 0: not tried with it
+        (unit(0.125, &[0.0, 0.0], &[0.0, nan]), Some([1, 1])),
+        (unit(0.125, &[0.0, 0.25, 0.5], &[0.0, 0.5, nan]), Some([1, 2])),
+        // tolerances: NaN makes every number far, and no tolerance makes NaN one
+        (unit(nan, &[0.0], &[0.0]), None),
+        (unit(nan, &[0.0, 0.25], &[0.5, nan]), Some([0, 1])),
+        (unit(f64::INFINITY, &[nan], &[0.0]), Some([0, 0])),
+        (unit(-1.0, &[nan], &[0.0]), Some([0, 0])),
+        // infinite coordinates, and an infinite distance
+        (unit(0.125, &[f64::INFINITY], &[0.0]), Some([0, 0])),
+        (Call::new(INFINITE, 0.1, at(&[0.5]), at(&[0.0])), None),
+        (Call::new(HUGE, 0.1, at(&[0.5]), at(&[0.0])), None),
+        // the first component is too long, and the root is NaN
+        (Call::new(NO_NUMBER, 0.1, at(&[0.5]), at(&[0.0])), Some([0, 0])),
+        // a complete match names nothing
+        (unit(0.125, &[huge, -huge], &[-huge, huge]), None),
+        (unit(0.125, &[huge, -huge, 0.0], &[-huge, huge, 0.25]), Some([0, 0])),
     ]
 }
 
@@ -295,15 +349,18 @@ fn refused() -> Vec<Call> {
 }
 
 /// The words of a record: how many follow; refusal; 1 for true; num_pos; lengths of slots, pos, rot_pos;
-/// symprec; nine lattice numbers; pos; rot_pos; the slots after the call, which all held 7 before it.
+/// symprec; nine lattice numbers; pos; rot_pos; the slots after the call, which all held 7 before it; 1 if a pair is
+/// named; the pair after the call, 7 and 7 before it.
 pub fn replay() -> Replay {
     let mut calls = sheets();
     calls.extend(matched());
+    calls.extend(named().into_iter().map(|(call, _)| call));
     calls.extend(told_apart());
     calls.extend(refused());
     let records: Vec<Record> = calls.iter().map(Call::record).collect();
     let answers = |matched: u64| records.iter().filter(|r| r[1] == 0 && r[2] == matched).count();
-    let stdout = report("matching", &records, 1) + &format!("true: {}\nfalse: {}\n", answers(1), answers(0));
+    let pairs = records.iter().filter(|r| r[r.len() - 3] == 1).count();
+    let stdout = report("matching", &records, 1) + &format!("true: {}\nfalse: {}\nof these with a pair: {pairs}\n", answers(1), answers(0));
     Replay::new(records, stdout, 4)
 }
 
@@ -314,7 +371,8 @@ mod tests {
     // refusal, answer, slots
     fn answer(call: &Call) -> (u64, bool, Vec<i64>) {
         let record = call.record();
-        let slots = record[record.len() - call.slots..].iter().map(|s| *s as i64).collect();
+        let end = record.len() - 3;
+        let slots = record[end - call.slots..end].iter().map(|s| *s as i64).collect();
         (record[1], record[2] == 1, slots)
     }
 
@@ -327,6 +385,15 @@ mod tests {
         assert_eq!(answers[3], (0, false, vec![0, -1]));
         assert_eq!(answers[4], (0, false, vec![-1]));
         assert_eq!(answers[5], (0, false, vec![-1]));
+    }
+
+    #[test]
+    fn the_first_tried_pair_is_named() {
+        for (call, pair) in named() {
+            let record = call.record();
+            let held = pair.map_or([0, 7, 7], |[i, j]| [1, i as u64, j as u64]);
+            assert_eq!(record[record.len() - 3..], held, "{:?} {:?}", call.pos, call.rot_pos);
+        }
     }
 
     // what is recorded is the original's answer: its sentence is RIGHT

@@ -121,6 +121,7 @@ fn words(answer: u8) -> String {
         66 => "worst".into(),
         67 => "no number".into(),
         68 => "end".into(),
+        69 => "not matched, no number".into(),
         k => format!("refused by {k}:"),
     }
 }

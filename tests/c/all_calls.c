@@ -102,23 +102,33 @@ static void shift_tables(void) {
 
 static void matching(void) {
     const double unit[] = {1, 0, 0, 0, 1, 0, 0, 0, 1}, origin[] = {0, 0, 0}, eighth[] = {0.125, 0, 0};
-    const double pos[] = {0.25, 0, 0, 0, 0, 0}, rot_pos[] = {0.125, 0, 0, 0.375, 0, 0};
+    double pos[] = {0.25, 0, 0, 0, 0, 0}, rot_pos[] = {0.125, 0, 0, 0.375, 0, 0};
     int64_t slot[] = {7}, slots[] = {7, 7};
-    CHECK(gf_compute_permutation(slot, 0, S(unit), 0.1, origin, 0, origin, 0, 0) == GF_DONE); /* sheet 8 */
+    size_t pair[] = {7, 7};
+    CHECK(gf_compute_permutation(slot, 0, S(unit), 0.1, origin, 0, origin, 0, S(pair), 0) == GF_DONE); /* sheet 8 */
     CHECK(slot[0] == 7);
-    CHECK(gf_compute_permutation(S(slot), S(unit), ldexp(1.0, -600), S(origin), S(origin), 1) == GF_DONE);
+    CHECK(gf_compute_permutation(S(slot), S(unit), ldexp(1.0, -600), S(origin), S(origin), S(pair), 1) == GF_DONE);
     CHECK(slot[0] == 0);
-    CHECK(gf_compute_permutation(S(slot), S(unit), 0.0, S(origin), S(origin), 1) == GF_NOT_MATCHED);
+    CHECK(gf_compute_permutation(S(slot), S(unit), 0.0, S(origin), S(origin), S(pair), 1) == GF_NOT_MATCHED);
     CHECK(slot[0] == -1);
-    CHECK(gf_compute_permutation(S(slots), S(unit), 0.1875, S(pos), S(rot_pos), 2) == GF_NOT_MATCHED); /* sheet 9 */
+    CHECK(gf_compute_permutation(S(slots), S(unit), 0.1875, S(pos), S(rot_pos), S(pair), 2) == GF_NOT_MATCHED); /* sheet 9 */
     CHECK(slots[0] == 0 && slots[1] == -1);
-    CHECK(gf_compute_permutation(S(slot), S(unit), 0.125, S(eighth), S(origin), 1) == GF_NOT_MATCHED); /* sheet 10 */
+    CHECK(gf_compute_permutation(S(slot), S(unit), 0.125, S(eighth), S(origin), S(pair), 1) == GF_NOT_MATCHED); /* sheet 10 */
+    CHECK(gf_compute_permutation(S(slot), S(unit), (double)NAN, S(origin), S(origin), S(pair), 1) == GF_NOT_MATCHED);
+    CHECK(pair[0] == 7 && pair[1] == 7);
+    pos[3] = (double)NAN; /* the second position; slot 1 is the first that it tries */
+    rot_pos[0] = 0.25;
+    CHECK(gf_compute_permutation(S(slots), S(unit), 0.1875, S(pos), S(rot_pos), S(pair), 2) == GF_MATCH_NO_NUMBER);
+    CHECK(slots[0] == 0 && slots[1] == -1 && pair[0] == 1 && pair[1] == 1);
     slot[0] = 7;
-    CHECK(gf_compute_permutation(S(slot), S(unit), 0.1, S(origin), S(origin), 1025) == GF_COUNT_ABOVE_LIMIT);
-    CHECK(gf_compute_permutation(S(slot), unit, 8, 0.1, S(origin), S(origin), 1025) == GF_COUNT_ABOVE_LIMIT);
-    CHECK(gf_compute_permutation(S(slot), unit, 8, 0.1, S(origin), S(origin), 1) == GF_WRONG_LENGTH);
-    CHECK(gf_compute_permutation(S(slot), S(unit), 0.1, S(origin), origin, 2, 1) == GF_WRONG_LENGTH);
-    CHECK(slot[0] == 7);
+    pair[0] = pair[1] = 7;
+    CHECK(gf_compute_permutation(S(slot), S(unit), 0.1, S(origin), S(origin), pair, 1, 1) == GF_WRONG_LENGTH);
+    CHECK(gf_compute_permutation(S(slot), S(unit), 0.1, S(origin), S(origin), pair, 1, 1025) == GF_COUNT_ABOVE_LIMIT);
+    CHECK(gf_compute_permutation(S(slot), S(unit), 0.1, S(origin), S(origin), S(pair), 1025) == GF_COUNT_ABOVE_LIMIT);
+    CHECK(gf_compute_permutation(S(slot), unit, 8, 0.1, S(origin), S(origin), S(pair), 1025) == GF_COUNT_ABOVE_LIMIT);
+    CHECK(gf_compute_permutation(S(slot), unit, 8, 0.1, S(origin), S(origin), S(pair), 1) == GF_WRONG_LENGTH);
+    CHECK(gf_compute_permutation(S(slot), S(unit), 0.1, S(origin), origin, 2, S(pair), 1) == GF_WRONG_LENGTH);
+    CHECK(slot[0] == 7 && pair[0] == 7 && pair[1] == 7);
 }
 
 static void full_second_order(void) {

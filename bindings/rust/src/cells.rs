@@ -1,10 +1,38 @@
 //! The matching of atoms.
 use crate::ffi::call;
 use crate::{answer, Refusal};
+use std::{error, fmt};
+
+/// Why matching gives neither true nor false.
+#[derive(Clone, Copy, Debug, PartialEq, Eq, Hash)]
+pub enum MatchError {
+    /// The call was turned down, and nothing is touched.
+    Refused(Refusal),
+    /// The match failed, and a distance was NaN: of the pairs of position and free slot that the search tried, the first whose distance
+    /// is no number. The slots are those of the failed match.
+    NoNumber { position: usize, slot: usize },
+}
+
+impl From<Refusal> for MatchError {
+    fn from(refusal: Refusal) -> MatchError {
+        MatchError::Refused(refusal)
+    }
+}
+
+impl fmt::Display for MatchError {
+    fn fmt(&self, f: &mut fmt::Formatter) -> fmt::Result {
+        match self {
+            MatchError::Refused(refusal) => refusal.fmt(f),
+            MatchError::NoNumber { position, slot } => write!(f, "position {position} against slot {slot}: the distance is not a number"),
+        }
+    }
+}
+
+impl error::Error for MatchError {}
 
 /// Which position each rotated position comes from: the lowest free slot j of `rot_atom` whose `rot_pos` j is nearer than `symprec` to
 /// `pos` i takes i, for i rising; a slot that nothing takes is -1. True exactly if all slots are filled. False does not say that no
-/// match exists.
+/// match exists. A match that fails where a distance was NaN is an error that names the first such pair.
 ///
 /// The basis vectors stand in the columns of `lat`: component k of a difference is row k times the difference of the coordinates. With
 /// the vectors in the rows the distances of an oblique cell are wrong, and nothing is refused.
@@ -12,16 +40,22 @@ use crate::{answer, Refusal};
 /// Lengths: `rot_atom` num_pos, `pos` and `rot_pos` 3 × num_pos; num_pos up to 1,024.
 ///
 /// ```
-/// use gullyfork::{cells, Refusal};
+/// use gullyfork::{cells, cells::MatchError, Refusal};
 ///
 /// let unit = [1.0, 0.0, 0.0, 0.0, 1.0, 0.0, 0.0, 0.0, 1.0];
-/// let pos = [0.0, 0.0, 0.0, 0.5, 0.0, 0.0];
+/// let mut pos = [0.0, 0.0, 0.0, 0.5, 0.0, 0.0];
 /// let rot_pos = [0.5, 0.0, 0.0, 1.0, 0.0, 0.0];
 /// let mut slots = [0; 2];
 /// assert!(cells::compute_permutation(&mut slots, &unit, &pos, &rot_pos, 2, 1e-5)?);
 /// assert_eq!(slots, [1, 0]);
-/// assert_eq!(cells::compute_permutation(&mut slots, &unit, &pos, &rot_pos[1..], 2, 1e-5), Err(Refusal::WrongLength));
-/// # Ok::<(), Refusal>(())
+/// let refused = cells::compute_permutation(&mut slots, &unit, &pos, &rot_pos[1..], 2, 1e-5);
+/// assert_eq!(refused, Err(MatchError::Refused(Refusal::WrongLength)));
+///
+/// pos[3] = f64::NAN;
+/// let failed = cells::compute_permutation(&mut slots, &unit, &pos, &rot_pos, 2, 1e-5).unwrap_err();
+/// assert_eq!(failed.to_string(), "position 1 against slot 0: the distance is not a number");
+/// assert_eq!(slots, [-1, 0]);
+/// # Ok::<(), MatchError>(())
 /// ```
 pub fn compute_permutation(
     rot_atom: &mut [i64],
@@ -30,11 +64,13 @@ pub fn compute_permutation(
     rot_pos: &[f64],
     num_pos: usize,
     symprec: f64,
-) -> Result<bool, Refusal> {
+) -> Result<bool, MatchError> {
     const NOT_MATCHED: u8 = 64;
-    let number = call!(gf_compute_permutation(&mut rot_atom, &lat, symprec, &pos, &rot_pos, num_pos));
-    if number == NOT_MATCHED {
-        return Ok(false);
+    const NO_NUMBER: u8 = 69;
+    let mut pair = [0; 2];
+    match call!(gf_compute_permutation(&mut rot_atom, &lat, symprec, &pos, &rot_pos, &mut pair, num_pos)) {
+        NOT_MATCHED => Ok(false),
+        NO_NUMBER => Err(MatchError::NoNumber { position: pair[0], slot: pair[1] }),
+        number => Ok(answer(number).map(|()| true)?),
     }
-    answer(number).map(|()| true)
 }

@@ -46,6 +46,8 @@ extern "C" {
         pos_len: usize,
         rot_pos: *const f64,
         rot_pos_len: usize,
+        pair: *mut usize,
+        pair_len: usize,
         num_pos: usize,
     ) -> u8;
     pub fn gf_perm_trans_symmetrize_fc(fc: *mut f64, fc_len: usize, n_satom: usize, level: usize) -> u8;

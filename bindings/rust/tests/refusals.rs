@@ -1,5 +1,5 @@
 //! Refused calls leave every slice, counts beyond every limit cost no memory, and work memory has no influence and ends in zeros.
-use gullyfork::{cells, fc2, fc3, fc4, roll, tables, Refusal};
+use gullyfork::{cells, cells::MatchError, fc2, fc3, fc4, roll, tables, Refusal};
 
 const HUGE: usize = usize::MAX;
 const IDENTITY: [f64; 9] = [1.0, 0.0, 0.0, 0.0, 1.0, 0.0, 0.0, 0.0, 1.0];
@@ -14,7 +14,7 @@ fn huge_counts_are_refused_before_memory_is_asked_for() {
     let above = Err(Refusal::CountAboveLimit);
     let mut set = counting(27);
     assert_eq!(tables::check_shift_tables(&[], &[], &[], &[], HUGE, HUGE, HUGE), above);
-    assert_eq!(cells::compute_permutation(&mut [], &IDENTITY, &[], &[], HUGE, 0.1), Err(Refusal::CountAboveLimit));
+    assert_eq!(cells::compute_permutation(&mut [], &IDENTITY, &[], &[], HUGE, 0.1), Err(Refusal::CountAboveLimit.into()));
     assert_eq!(fc2::perm_trans_symmetrize_fc(&mut set, HUGE, 1), above);
     assert_eq!(fc2::perm_trans_symmetrize_compact_fc(&mut set, &[], &[], &[], &[], HUGE, HUGE, 1), above);
     assert_eq!(fc2::set_index_permutation_symmetry_compact_fc(&mut set, &[], &[], &[], &[], HUGE, 2, true), above);
@@ -74,6 +74,24 @@ fn no_match_is_no_refusal() {
     let (pos, rot_pos) = ([0.25, 0.0, 0.0, 0.0, 0.0, 0.0], [0.125, 0.0, 0.0, 0.375, 0.0, 0.0]);
     assert_eq!(cells::compute_permutation(&mut slots, &IDENTITY, &pos, &rot_pos, 2, 0.1875), Ok(false));
     assert_eq!(slots, [0, -1]);
+}
+
+#[test]
+fn a_distance_that_is_no_number_is_named() {
+    let mut slots = [7; 8];
+    let (mut pos, mut rot_pos) = ([0.0; 24], [0.0; 24]);
+    for a in 0..8 {
+        pos[a * 3] = a as f64 / 8.0;
+        rot_pos[a * 3] = a as f64 / 8.0;
+    }
+    // atom 3 is moved away, and slot 7, which it tries last, is NaN
+    pos[9] += 0.0625;
+    rot_pos[22] = f64::NAN;
+    let failed = cells::compute_permutation(&mut slots, &IDENTITY, &pos, &rot_pos, 8, 0.03125).unwrap_err();
+    assert_eq!(failed, MatchError::NoNumber { position: 3, slot: 7 });
+    assert_eq!(failed.to_string(), "position 3 against slot 7: the distance is not a number");
+    assert_eq!(slots, [0, 1, 2, -1, 4, 5, 6, -1]);
+    assert_eq!(cells::compute_permutation(&mut slots, &IDENTITY, &pos, &pos, 8, f64::NAN), Ok(false));
 }
 
 #[test]

@@ -3,13 +3,15 @@ ghost use mathlib.Core.Path.{_≡_};
 ghost use lib.Ieee.{binary64};
 ghost use Rattle.common.specs.Root.{sqrt};
 ghost use Rattle.common.specs.Whole.{nearestWhole, nint};
-ghost use mathlib.Core.List.{[]};
+ghost use mathlib.Core.List.{[], _∷_};
 ghost use Rattle.tables.specs.Answers.{numberOf};
 ghost use Rattle.tables.specs.Limits.{limit2};
 ghost use Rattle.tables.specs.Compact.{shiftTables, judgedTables};
 ghost use lib.ListN.{length};
-ghost use Rattle.capi_cells.specs.Cells.{permutation};
-use cells::Cell;
+ghost use Rattle.capi_cells.specs.Cells.{cellFits, pairLeft, permutation};
+use cells::Matching;
+use cells::Pair;
+use distances::Cell;
 use tables::limits::LIMIT2;
 
 // The nearest whole number as an integer.
@@ -63,8 +65,39 @@ fn nine(lattice: &[f64]) -> [f64; 9]
     l
 }
 
+// Whether the lattice has nine numbers, and the pair two slots.
+fn cell_fits(len_lattice: usize, len_pair: usize) -> bool
+    ensures { λ r. ⌜ r ≡ cellFits «len_lattice» «len_pair» ⌝ }
+{
+    len_lattice == 9 && len_pair == 2
+}
+
+fn put(p: Pair, pair: &mut [usize])
+    requires { ⌜ length (now pair) ≡ 2 ⌝ }
+    ensures { λ _. ⌜ now (pair .exit) ≡ (p .position ∷ p .slot ∷ []) ⌝ }
+{
+    pair[0] = p.position;
+    pair[1] = p.slot;
+}
+
+// Puts the pair that a failed match names into the two slots.
+fn tell(m: Matching, pair: &mut [usize])
+    requires { ⌜ length (now pair) ≡ 2 ⌝ }
+    ensures { λ _. ⌜ now (pair .exit) ≡ pairLeft m (now (pair .entry)) ⌝ }
+{
+    match m {
+        Matching::Matched => {}
+        Matching::NotMatched => {}
+        Matching::NoNumber(p) => {
+            put(p, pair);
+        }
+        Matching::Refused(_) => {}
+    }
+}
+
 // Which position each rotated position comes from: slot j of rot_atom gets the number of the position that is near rot_pos j, or -1.
-// 0 if all slots are filled, 64 if not, or document 01's number of the refusal.
+// 0 if all slots are filled, 64 if not, 69 if not and a distance that the search tried is no number (then pair has the first such position and slot), or
+// document 01's number of the refusal.
 #[no_mangle]
 pub extern "C" fn gf_compute_permutation(
     rot_atom: &mut [i64],
@@ -72,17 +105,19 @@ pub extern "C" fn gf_compute_permutation(
     symprec: f64,
     pos: &[f64],
     rot_pos: &[f64],
+    pair: &mut [usize],
     num_pos: usize,
 ) -> u8
-    ensures { λ r. ⌜ (r, now («rot_atom» .exit)) ≡ permutation (now («rot_atom» .entry)) (now (lattice .entry)) symprec (now (pos .entry)) (now («rot_pos» .entry)) «num_pos» ⌝ }
+    ensures { λ r. ⌜ (r, now («rot_atom» .exit), now (pair .exit)) ≡ permutation (now («rot_atom» .entry)) (now (lattice .entry)) symprec (now (pos .entry)) (now («rot_pos» .entry)) (now (pair .entry)) «num_pos» ⌝ }
 {
-    if lattice.len() == 9 {
+    if cell_fits(lattice.len(), pair.len()) {
         let l = nine(lattice);
         let cell = Cell {
             lattice: l,
             symprec: symprec,
         };
         let m = cells::compute_permutation(rot_atom, cell, pos, rot_pos, num_pos);
+        tell(m, pair);
         return cells::matching_number(m);
     }
     if num_pos > LIMIT2 {

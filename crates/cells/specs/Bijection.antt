@@ -7,6 +7,7 @@ use mathlib.Core.List.{List, [], _∷_}
 use Prim.Native.Nat.{ℕ, zero, suc, _+_, _≤_, _<_}
 use native.Mathlib.Nat.{not-suc-le-zero}
 use native.Mathlib.Omega.{arith}
+use lib.Dec.{ltb}
 use lib.IntN.{ℤ, pos, negsuc}
 use lib.ListN.{length, getD, set, replicate, length-set, length-replicate, getD-replicate}
 use lib.Seq.{getD-set-same, getD-set-other, set-out}
@@ -16,13 +17,14 @@ use Rattle.lists.specs.Cases.{lt-or-le, eq-or-ne}
 use Rattle.lists.specs.Tests.{split, and-fst, and-snd, not-both, refuted}
 use Rattle.lists.specs.Tab.{times}
 use Rattle.tables.specs.declared.Answer.the-variants.{Done}
-use Rattle.cells.specs.declared.Cell.{Cell}
+use Rattle.distances.specs.declared.Cell.{Cell}
+use Rattle.distances.specs.Near.{near, distance}
+use Rattle.cells.specs.declared.Pair.{Pair}
 use Rattle.cells.specs.declared.Matching.{Matching}
-use Rattle.cells.specs.declared.Matching.the-variants.{Matched, NotMatched, Refused}
-use Rattle.cells.specs.Near.{near}
-use Rattle.cells.specs.Matching.{isFilled, lowest, takes, place, placed, allFilled, judged, computePermutation}
+use Rattle.cells.specs.declared.Matching.the-variants.{Matched, NotMatched, NoNumber}
+use Rattle.cells.specs.Matching.{isFilled, lowest, takes, place, placedTo, placed, allFilled, judged, firstNone, failedBy, computePermutation}
 use Rattle.cells.specs.Slots.{slotAt, lowest-le, lowest-passes, filled-at, not-all-filled, all-filled, length-place}
-use Rattle.cells.specs.Outcome.{done}
+use Rattle.cells.specs.Outcome.{ended}
 
 -- slot j holds a position below n that is near it
 abbrev pub Taken : (ℕ → ℕ → Bool) → ℕ → List ℤ → ℕ → Type 0
@@ -226,12 +228,13 @@ module _ (isNear : ℕ → ℕ → Bool) (n : ℕ) where
 -- ---- what a call that is not refused answers and leaves
 
 after-placed : (isNear : ℕ → ℕ → Bool) (n : ℕ) → After isNear n n (placed isNear n)
-unfolding placed
+unfolding placed placedTo
 after-placed isNear n = after isNear n n
 
-by-answer : (b : Bool) → cond b Matched NotMatched ≡ Matched → b ≡ true
-by-answer true e = refl
-by-answer false e = let z : _≡_ {A = ℕ} 0 1 = cc in absurd (omega arith)
+by-answer : (b c : Bool) (p : Pair) → cond b Matched (cond c (NoNumber p) NotMatched) ≡ Matched → b ≡ true
+by-answer true c p e = refl
+by-answer false true p e = let z : _≡_ {A = ℕ} 0 1 = cc in absurd (omega arith)
+by-answer false false p e = let z : _≡_ {A = ℕ} 0 1 = cc in absurd (omega arith)
 
 module _ (slots : List ℤ) (cell : Cell) (positions rotated : List Float) (n : ℕ) (taken-on : judged (length slots) (length positions) (length rotated) n ≡ Done) where
   abbrev left : List ℤ
@@ -241,21 +244,28 @@ module _ (slots : List ℤ) (cell : Cell) (positions rotated : List Float) (n : 
   answer = computePermutation slots cell positions rotated n .0
 
   left-is : placed (near cell positions rotated) n ≡ left
-  left-is = ap (λ r. r .1) (done slots cell positions rotated n taken-on)
+  left-is = ap (λ r. r .1) (ended slots cell positions rotated n taken-on)
 
   after-call : After (near cell positions rotated) n n left
   after-call = subst (λ s. After (near cell positions rotated) n n s) left-is (after-placed (near cell positions rotated) n)
 
-  answer-is : cond (allFilled left) Matched NotMatched ≡ answer
-  answer-is = ap (λ s. cond (allFilled s) Matched NotMatched) (sym left-is) ∙ ap (λ r. r .0) (done slots cell positions rotated n taken-on)
+  -- the pair that a failed match names
+  abbrev pair : Pair
+  pair = firstNone (distance cell positions rotated) n
+
+  answer-is : cond (allFilled left) Matched (failedBy n pair) ≡ answer
+  answer-is = ap (λ s. cond (allFilled s) Matched (failedBy n pair)) (sym left-is) ∙ ap (λ r. r .0) (ended slots cell positions rotated n taken-on)
+
+  all-of : answer ≡ Matched → allFilled left ≡ true
+  all-of e = by-answer (allFilled left) (ltb (pair .position) n) pair (answer-is ∙ e)
 
   -- the answer is true exactly if no slot is left at -1
   pub matched-exactly : (answer ≡ Matched) ↔ ((j : ℕ) → j < n → slotAt left j ≡ negsuc 0 → ⊥)
   matched-exactly = (
-    λ e. none-free (near cell positions rotated) n left after-call (by-answer (allFilled left) (answer-is ∙ e)),
-    λ f. sym answer-is ∙ ap (λ b. cond b Matched NotMatched) (all-taken (near cell positions rotated) n left after-call f),
+    λ e. none-free (near cell positions rotated) n left after-call (all-of e),
+    λ f. sym answer-is ∙ ap (λ b. cond b Matched (failedBy n pair)) (all-taken (near cell positions rotated) n left after-call f),
   )
 
   -- then the slots are a bijection, and every pair is near
   pub matched-bijection : answer ≡ Matched → Bijection (near cell positions rotated) n left
-  matched-bijection e = bijective (near cell positions rotated) n left after-call (by-answer (allFilled left) (answer-is ∙ e))
+  matched-bijection e = bijective (near cell positions rotated) n left after-call (all-of e)

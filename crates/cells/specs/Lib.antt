@@ -1,7 +1,7 @@
-pub mod Near
-pub mod Reach
 pub mod Matching
 pub mod Slots
+pub mod Search
 pub mod Outcome
 pub mod Bijection
+pub mod Named
 pub mod Sheets

@@ -1,23 +1,26 @@
--- Sheets 8, 9 and 10 of document 01, by computation, whatever the slots held. Assumes nothing.
+-- Sheets 8, 9 and 10 of document 01, and values of document 02, A.3, by computation, whatever the slots held. Assumes nothing.
 use mathlib.Core.Path.{_≡_, refl}
+use mathlib.Core.Bool.{false}
 use mathlib.Core.List.{List, [], _∷_}
 use lib.IntN.{ℤ, pos, negsuc}
-use lib.Ieee.{Float, binary64, ofBits, add, sub, mul, lt, round}
+use lib.Ieee.{Float, nan, inf, binary64, ofBits, add, sub, mul, lt, isNan, round}
 use Rattle.lists.specs.Tab.{times}
 use Rattle.lists.specs.Members.{allOf}
 use Rattle.common.specs.Whole.{nearestWhole}
 use Rattle.common.specs.Root.{sqrt}
-use Rattle.tables.specs.Answers.{after}
-use Rattle.cells.specs.declared.Cell.{Cell}
-use Rattle.cells.specs.declared.Matching.the-variants.{Matched, NotMatched}
-use Rattle.cells.specs.Near.{squares, distance2, near}
-use Rattle.cells.specs.Matching.{lowest, place, placed, allFilled, judged, answerOf, computePermutation}
+use Rattle.distances.specs.declared.Cell.{Cell}
+use Rattle.distances.specs.Near.{squares, distance2, distance}
+use Rattle.cells.specs.declared.Matching.the-variants.{Matched, NotMatched, NoNumber}
+use Rattle.cells.specs.Matching.{lowest, place, placedTo, placed, takenAt, noneAt, hasNone, firstNone, allFilled, judged, searched, answered, computePermutation}
 
 abbrev zero64 : Float
 zero64 = ofBits binary64 0
 
 abbrev one64 : Float
 one64 = ofBits binary64 0x3ff0_0000_0000_0000
+
+abbrev half64 : Float
+half64 = ofBits binary64 0x3fe0_0000_0000_0000
 
 abbrev eighth : Float
 eighth = ofBits binary64 0x3fc0_0000_0000_0000
@@ -33,16 +36,16 @@ at-x x more = x ∷ zero64 ∷ zero64 ∷ more
 
 -- 8: num_pos 0
 pub no-positions : (cell : Cell) → computePermutation [] cell [] [] 0 ≡ (Matched, [])
-unfolding computePermutation judged answerOf after placed times allFilled allOf
+unfolding computePermutation judged answered searched placed placedTo times firstNone lowest allFilled allOf
 no-positions cell = refl
 
 -- 8: one atom at 0, 0, 0 on itself, at 2 ^ -600 and at 0
 pub on-itself : (old : ℤ) → computePermutation (old ∷ []) (unitCell (ofBits binary64 0x1a70_0000_0000_0000)) (at-x zero64 []) (at-x zero64 []) 1 ≡ (Matched, pos 0 ∷ [])
-unfolding computePermutation judged answerOf after placed times place lowest allFilled allOf near distance2 squares ofBits add sub mul lt nearestWhole sqrt round
+unfolding computePermutation judged answered searched placed placedTo times place lowest takenAt noneAt hasNone firstNone allFilled allOf distance distance2 squares ofBits add sub mul lt isNan nearestWhole sqrt round
 on-itself old = refl
 
 pub at-zero : (old : ℤ) → computePermutation (old ∷ []) (unitCell zero64) (at-x zero64 []) (at-x zero64 []) 1 ≡ (NotMatched, negsuc 0 ∷ [])
-unfolding computePermutation judged answerOf after placed times place lowest allFilled allOf near distance2 squares ofBits add sub mul lt nearestWhole sqrt round
+unfolding computePermutation judged answered searched placed placedTo times place lowest takenAt noneAt hasNone firstNone allFilled allOf distance distance2 squares ofBits add sub mul lt isNan nearestWhole sqrt round
 at-zero old = refl
 
 -- 9: first coordinates 0.25, 0 against 0.125, 0.375, at 0.1875
@@ -50,10 +53,56 @@ pub two-positions : (old old′ : ℤ)
     → computePermutation (old ∷ old′ ∷ []) (unitCell (ofBits binary64 0x3fc8_0000_0000_0000))
     (at-x (ofBits binary64 0x3fd0_0000_0000_0000) (at-x zero64 [])) (at-x eighth (at-x (ofBits binary64 0x3fd8_0000_0000_0000) [])) 2
     ≡ (NotMatched, pos 0 ∷ negsuc 0 ∷ [])
-unfolding computePermutation judged answerOf after placed times place lowest allFilled allOf near distance2 squares ofBits add sub mul lt nearestWhole sqrt round
+unfolding computePermutation judged answered searched placed placedTo times place lowest takenAt noneAt hasNone firstNone allFilled allOf distance distance2 squares ofBits add sub mul lt isNan nearestWhole sqrt round
 two-positions old old′ = refl
 
 -- 10: the distance is the tolerance, 0.125
 pub at-tolerance : (old : ℤ) → computePermutation (old ∷ []) (unitCell eighth) (at-x zero64 []) (at-x eighth []) 1 ≡ (NotMatched, negsuc 0 ∷ [])
-unfolding computePermutation judged answerOf after placed times place lowest allFilled allOf near distance2 squares ofBits add sub mul lt nearestWhole sqrt round
+unfolding computePermutation judged answered searched placed placedTo times place lowest takenAt noneAt hasNone firstNone allFilled allOf distance distance2 squares ofBits add sub mul lt isNan nearestWhole sqrt round
 at-tolerance old = refl
+
+-- ---- document 02, A.3
+
+-- Slot 0 is NaN, and so is position 1. Position 0 tries slot 0, whose distance is no number, and takes slot 1; position 1 tries slot 0 again.
+pub first-named : (old old′ : ℤ)
+    → computePermutation (old ∷ old′ ∷ []) (unitCell eighth) (at-x zero64 (at-x nan [])) (at-x nan (at-x zero64 [])) 2
+    ≡ (NoNumber (record { position = 0; slot = 0 }), negsuc 0 ∷ pos 0 ∷ [])
+unfolding computePermutation judged answered searched placed placedTo times place lowest takenAt noneAt hasNone firstNone allFilled allOf distance distance2 squares ofBits add sub mul lt isNan nearestWhole sqrt round
+first-named old old′ = refl
+
+-- Position 0 takes slot 0, and slot 1, which is NaN, is not tried for it; position 1 tries slot 1 only.
+pub untried-not-named : (old old′ : ℤ)
+    → computePermutation (old ∷ old′ ∷ []) (unitCell eighth) (at-x zero64 (at-x zero64 [])) (at-x zero64 (at-x nan [])) 2
+    ≡ (NoNumber (record { position = 1; slot = 1 }), pos 0 ∷ negsuc 0 ∷ [])
+unfolding computePermutation judged answered searched placed placedTo times place lowest takenAt noneAt hasNone firstNone allFilled allOf distance distance2 squares ofBits add sub mul lt isNan nearestWhole sqrt round
+untried-not-named old old′ = refl
+
+-- A true answer names no pair. At 2 ^ 1023 and -2 ^ 1023 the difference is infinite and less its rounding NaN: position 0 tries slot 0, and takes slot 1.
+pub true-stays : (old old′ : ℤ)
+    → computePermutation (old ∷ old′ ∷ []) (unitCell eighth)
+    (at-x (ofBits binary64 0x7fe0_0000_0000_0000) (at-x (ofBits binary64 0xffe0_0000_0000_0000) [])) (at-x (ofBits binary64 0xffe0_0000_0000_0000) (at-x (ofBits binary64 0x7fe0_0000_0000_0000) [])) 2
+    ≡ (Matched, pos 1 ∷ pos 0 ∷ [])
+unfolding computePermutation judged answered searched placed placedTo times place lowest takenAt noneAt hasNone firstNone allFilled allOf distance distance2 squares ofBits add sub mul lt isNan nearestWhole sqrt round
+true-stays old old′ = refl
+
+-- a NaN tolerance: every distance that is a number is far, and the false is a plain one
+pub no-tolerance : (old : ℤ) → computePermutation (old ∷ []) (unitCell nan) (at-x zero64 []) (at-x zero64 []) 1 ≡ (NotMatched, negsuc 0 ∷ [])
+unfolding computePermutation judged answered searched placed placedTo times place lowest takenAt noneAt hasNone firstNone allFilled allOf distance distance2 squares ofBits add sub mul lt isNan nearestWhole sqrt round
+no-tolerance old = refl
+
+-- a lattice with the diagonal a, b, 1
+abbrev diagonal : Float → Float → Float → Cell
+diagonal a b symprec =
+    record { lattice = a ∷ zero64 ∷ zero64 ∷ zero64 ∷ b ∷ zero64 ∷ zero64 ∷ zero64 ∷ one64 ∷ []; symprec = symprec }
+
+-- NaN in the second row: no number, although the first component alone is longer than the tolerance
+pub nan-lattice : (old : ℤ)
+    → computePermutation (old ∷ []) (diagonal one64 nan eighth) (at-x half64 []) (at-x zero64 []) 1 ≡ (NoNumber (record { position = 0; slot = 0 }), negsuc 0 ∷ [])
+unfolding computePermutation judged answered searched placed placedTo times place lowest takenAt noneAt hasNone firstNone allFilled allOf distance distance2 squares ofBits add sub mul lt isNan nearestWhole sqrt round
+nan-lattice old = refl
+
+-- an infinite distance is far
+pub infinite-lattice : (old : ℤ)
+    → computePermutation (old ∷ []) (diagonal (inf false) one64 eighth) (at-x half64 []) (at-x zero64 []) 1 ≡ (NotMatched, negsuc 0 ∷ [])
+unfolding computePermutation judged answered searched placed placedTo times place lowest takenAt noneAt hasNone firstNone allFilled allOf distance distance2 squares ofBits add sub mul lt isNan nearestWhole sqrt round
+infinite-lattice old = refl

@@ -67,6 +67,16 @@ lowest-passes (suc n) f h = go (f 0) refl h (lowest-passes n (λ k. f (suc k)))
     go true e l r = e
     go false e l r = r (omega arith)
 
+pub lowest-fails : (n : ℕ) (f : ℕ → Bool) (k : ℕ) → k < lowest n f → f k ≡ false
+unfolding lowest
+lowest-fails zero f k h = absurd (not-suc-le-zero h)
+lowest-fails (suc n) f k h = go (f 0) refl k h (lowest-fails n (λ k. f (suc k)))
+  where
+    go : (b : Bool) → f 0 ≡ b → (k : ℕ) → k < cond b 0 (suc (lowest n (λ k. f (suc k)))) → ((k : ℕ) → k < lowest n (λ k. f (suc k)) → f (suc k) ≡ false) → f k ≡ false
+    go true e k l r = absurd (not-suc-le-zero l)
+    go false e zero l r = e
+    go false e (suc k) l r = r k (omega arith)
+
 -- ---- filled slots
 
 all-of-getD : (slots : List ℤ) → ((k : ℕ) → k < length slots → isFilled (slotAt slots k) ≡ true) → allFilled slots ≡ true

@@ -1,34 +1,36 @@
-// The distance leaf and the matching of atoms.
-mod near;
+// The matching of atoms.
 mod slots;
 
 ghost use mathlib.Core.Path.{_≡_};
 ghost use Rattle.cells.specs.Matching.{matchingNumber, judged, computePermutation};
+use distances::Cell;
 use tables::Answer;
 use tables::Refusal;
 use tables::limits::LIMIT2;
 
-// A crystal's cell: the lattice's nine numbers, row after row, and the tolerance. Component k of a difference is row k times the difference of the coordinates,
-// so the basis vectors stand in the columns.
-pub struct Cell {
-    pub lattice: [f64; 9],
-    pub symprec: f64,
+// A position and a slot.
+pub struct Pair {
+    pub position: usize,
+    pub slot: usize,
 }
 
-// What matching answers: document 01's true and false, or a refusal.
+// What matching answers: document 01's true and false, or a refusal. A false is NoNumber where the search met a distance that is no number; the pair is the first
+// such position and slot.
 pub enum Matching {
     Matched,
     NotMatched,
+    NoNumber(Pair),
     Refused(Refusal),
 }
 
-// The number of an answer: 0 for true, 64 for false, and document 01's number of a refusal.
+// The number of an answer: 0 for true, 64 for a plain false, 69 for a false with a pair that is no number, and document 01's number of a refusal.
 pub fn matching_number(m: Matching) -> u8
     ensures { λ r. ⌜ r ≡ matchingNumber m ⌝ }
 {
     match m {
         Matching::Matched => 0,
         Matching::NotMatched => 64,
+        Matching::NoNumber(_) => 69,
         Matching::Refused(r) => tables::refusal_number(r),
     }
 }
@@ -52,7 +54,7 @@ fn judge(len_slots: usize, len_pos: usize, len_rot: usize, num_pos: usize) -> An
 }
 
 // Which position each rotated position comes from: slot j of rot_atom gets the number of the position that is near rot_pos j, or -1. The answer is true exactly
-// if all slots are filled.
+// if all slots are filled; a false names the first pair tried whose distance is no number.
 pub fn compute_permutation(
     rot_atom: &mut [i64],
     cell: Cell,
@@ -65,12 +67,6 @@ pub fn compute_permutation(
     let a = judge(rot_atom.len(), pos.len(), rot_pos.len(), num_pos);
     match a {
         Answer::Refused(r) => Matching::Refused(r),
-        Answer::Done => {
-            if slots::fill(rot_atom, cell, pos, rot_pos) {
-                Matching::Matched
-            } else {
-                Matching::NotMatched
-            }
-        }
+        Answer::Done => slots::fill(rot_atom, cell, pos, rot_pos),
     }
 }

@@ -27,7 +27,7 @@ use Rattle.places.specs.Whole.{whole}
 use Rattle.places.specs.Moves.{source, stays, order, traded, transposed}
 use Rattle.orbits.specs.Blockwise.{inBlock}
 use Rattle.orbits.specs.Symmetric.{images, firstBlock, leader, meanAt, symmetrized}
-use Rattle.cells.specs.declared.Cell.{Cell}
+use Rattle.distances.specs.declared.Cell.{Cell}
 use Rattle.cells.specs.declared.Matching.the-variants.{Matched, NotMatched}
 use Rattle.cells.specs.Matching.{computePermutation}
 use Rattle.cells.specs.Sheets as matching

@@ -1,7 +1,7 @@
 // Replays what the Rust answered for compute_permutation, through its C name. Its input are pages of records, which oracle/ makes;
 // oracle/README.md says what the words of a record are. It writes how many calls were compared, how many differ in
 // the answer or in a slot, how many there are of each answer, and a checksum of the inputs and of all that was worked
-// out from them.
+// out from them. The Rust has no answer that names a pair: it counts as false, and the pair is that of the recorder's plain model.
 use capi_cells::gf_compute_permutation;
 use records::steps::after;
 use records::steps::first;
@@ -12,11 +12,12 @@ use records::values::mix_integers;
 use records::wide;
 use replays::Tally;
 
-// What was compared so far, and how many answers were true and false.
+// What was compared so far, how many answers were true and false, and how many of these named a pair.
 struct Counts {
     all: Tally,
     matched: u64,
     not_matched: u64,
+    named: u64,
 }
 
 fn number(r: &[u8], k: usize) -> f64 {
@@ -48,13 +49,19 @@ fn lattice(r: &[u8]) -> [f64; 9] {
 }
 
 // Reads the positions, which are as many as the record says, and matches them. The answer's number.
-fn answer(r: &[u8], slots: &mut [i64], pos: &mut [f64], rot_pos: &mut [f64]) -> u64 {
+fn answer(
+    r: &[u8],
+    slots: &mut [i64],
+    pos: &mut [f64],
+    rot_pos: &mut [f64],
+    pair: &mut [usize],
+) -> u64 {
     let a = after(17, pos.len());
     floats(r, 17, pos);
     floats(r, a, rot_pos);
     let n = records::word_of(r, 3) as usize;
     let l = lattice(r);
-    wide(gf_compute_permutation(slots, &l, number(r, 7), pos, rot_pos, n))
+    wide(gf_compute_permutation(slots, &l, number(r, 7), pos, rot_pos, pair, n))
 }
 
 // How many slots hold something else than the words of the record from number `from` on.
@@ -71,33 +78,46 @@ fn slot_differences(r: &[u8], from: usize, slots: &[i64]) -> u64 {
 
 // The record's number of a refusal: 0 for true and false.
 fn refusal(m: u64) -> u64 {
-    if m == 64 { 0 } else { m }
+    if m == 64 || m == 69 { 0 } else { m }
 }
 
-// What was compared with the record r too: the answer m, and the slots, which the record has from number `at` on.
-fn tallied(t: Tally, r: &[u8], at: usize, m: u64, slots: &[i64]) -> Tally {
+// How many of the three words of the record from number `at` on differ: whether a pair is named, and the pair.
+fn pair_differences(r: &[u8], at: usize, m: u64, pair: [u64; 2]) -> u64 {
+    let a = records::differs(is(m, 69), records::word_of(r, at));
+    let b = records::differs(pair[0], records::word_of(r, after(at, 1)));
+    let c = records::differs(pair[1], records::word_of(r, after(at, 2)));
+    plus(plus(a, b), c)
+}
+
+// What was compared with the record r too: the answer m, the slots, which the record has from number `at` on, and the pair, which follows them.
+fn tallied(t: Tally, r: &[u8], at: usize, m: u64, slots: &[i64], pair: [u64; 2]) -> Tally {
     let a = records::differs(refusal(m), records::word_of(r, 1));
     let b = records::differs(is(m, 0), records::word_of(r, 2));
     let c = slot_differences(r, at, slots);
+    let d = pair_differences(r, after(at, slots.len()), m, pair);
     let head = records::mix(records::mix(t.sum, records::word_of(r, 0)), refusal(m));
     let inputs = records::mix_words(r, 3, at, records::mix(head, is(m, 0)));
+    let left = records::mix(mix_integers(slots, inputs), is(m, 69));
     replays::tallied(
         t,
         refusal(m),
-        plus(plus(a, b), c),
-        mix_integers(slots, inputs),
+        plus(plus(a, b), plus(c, d)),
+        records::mix(records::mix(left, pair[0]), pair[1]),
     )
 }
 
-// The record r, with room for its slots and positions.
+// The record r, with room for its slots and positions. The pair holds 7 and 7 before the call.
 fn compare(t: Counts, r: &[u8], slots: &mut [i64], pos: &mut [f64], rot_pos: &mut [f64]) -> Counts {
     let at = after(after(17, pos.len()), rot_pos.len());
-    let m = answer(r, slots, pos, rot_pos);
+    let mut pair = [7usize; 2];
+    let m = answer(r, slots, pos, rot_pos, &mut pair);
+    let named = [pair[0] as u64, pair[1] as u64];
     let before = t.all;
     Counts {
-        all: tallied(before, r, at, m, slots),
+        all: tallied(before, r, at, m, slots, named),
         matched: plus(t.matched, is(m, 0)),
-        not_matched: plus(t.not_matched, is(m, 64)),
+        not_matched: plus(t.not_matched, plus(is(m, 64), is(m, 69))),
+        named: plus(t.named, is(m, 69)),
     }
 }
 
@@ -140,6 +160,7 @@ fn pages() -> Counts {
         all: replays::none(),
         matched: 0,
         not_matched: 0,
+        named: 0,
     };
     let a = read_page(none);
     let b = read_page(a);
@@ -153,4 +174,5 @@ fn main() {
     replays::report(b"matching", all);
     replays::line(b"true: ", t.matched);
     replays::line(b"false: ", t.not_matched);
+    replays::line(b"of these with a pair: ", t.named);
 }

@@ -1,9 +1,10 @@
 -- `cells::compute_permutation` meets its contract. Assumes nothing.
-use mathlib.Core.Path.{sym, _∙_}
-use mathlib.Core.Bool.{true, false}
+use mathlib.Core.Path.{sym, ap, _∙_}
 use native.Mathlib.Omega.{arith}
 use lib.ListN.{length}
-use Rattle.cells.specs.Outcome.{accepted, refused, ended}
+use Rattle.distances.specs.Near.{distance}
+use Rattle.cells.specs.Matching.{searched}
+use Rattle.cells.specs.Outcome.{accepted, refused, done}
 use borrow.Author.Needs.{needs}
 use Rattle.cells.proofs.compute_permutation.Statement.{statement}
 use Rattle.cells.proofs.compute_permutation.Tie as tie
@@ -35,33 +36,13 @@ same-length c = search needs
 
 returns-2 : tie.Need-returns-2
 returns-2 c =
-    let f = c .before .before in
+    let f = c .before in
     let j = f .before .before .before .before in
     let a = j .before .before .before .args in
-    ended (a .rot-atom .now) (a .cell) (a .pos .now) (a .rot-pos .now) (a .num-pos) _ true (sym (j .judge .ensures) ∙ f .before .before .enum-told .given .1)
-    (f .fill .ensures .0) (sym (c .if1 .taken) ∙ f .fill .ensures .1)
-
-same-length-2 : tie.Need-same-length-2
-same-length-2 c = search needs
-
-returns-3 : tie.Need-returns-3
-returns-3 c =
-    let f = c .before .before in
-    let j = f .before .before .before .before in
-    let a = j .before .before .before .args in
-    ended (a .rot-atom .now) (a .cell) (a .pos .now) (a .rot-pos .now) (a .num-pos) _ false (sym (j .judge .ensures) ∙ f .before .before .enum-told .given .1)
-    (f .fill .ensures .0) (sym (c .if1 .left) ∙ f .fill .ensures .1)
+    let d = sym (j .judge .ensures) ∙ f .before .before .enum-told .given .1 in
+    let n = accepted (length (a .rot-atom .now)) (length (a .pos .now)) (length (a .rot-pos .now)) (a .num-pos) d .slots-len in
+    f .fill .ensures ∙ ap (searched (distance (a .cell) (a .pos .now) (a .rot-pos .now))) n ∙ done (a .rot-atom .now) (a .cell) (a .pos .now) (a .rot-pos .now) (a .num-pos) d
 
 pub compute-permutation-spec : {M : Type 1} → statement M
 compute-permutation-spec =
-    tie.close
-    (tie.spec
-    judge-requires
-    enum-known-a
-    enum-told
-    fill-requires
-    returns
-    same-length
-    returns-2
-    same-length-2
-    returns-3)
+    tie.close (tie.spec judge-requires enum-known-a enum-told fill-requires returns same-length returns-2)

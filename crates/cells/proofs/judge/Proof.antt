@@ -6,35 +6,28 @@ use Rattle.cells.proofs.judge.Tie as tie
 use Rattle.cells.proofs.judge.Reads as reads
 use Rattle.cells.proofs.judge.Lts as lts
 
--- src/lib.rt:38:9
 returns : tie.Need-returns
 unfolding judged
 returns c = simp (lt-ltb _ _ (c .if1 .taken))
 
--- src/lib.rt:41:9
 returns-2 : tie.Need-returns-2
 unfolding judged
 returns-2 c = simp (le-ltb _ _ (c .before .if1 .left), ne-eqb _ _ (c .if2 .taken))
 
--- src/lib.rt:43:19
 mul-if3 : tie.Need-mul-if3
 mul-if3 c = search needs
 
--- src/lib.rt:44:9
 returns-3 : tie.Need-returns-3
 unfolding judged
 returns-3 c = simp (le-ltb _ _ (c .before .before .if1 .left), eq-eqb _ _ (c .before .if2 .left), ne-eqb _ _ (c .if3 .taken))
 
--- src/lib.rt:46:19
 mul-if4 : tie.Need-mul-if4
 mul-if4 c = search needs
 
--- src/lib.rt:47:9
 returns-4 : tie.Need-returns-4
 unfolding judged
 returns-4 c = simp (le-ltb _ _ (c .before .before .before .if1 .left), eq-eqb _ _ (c .before .before .if2 .left), eq-eqb _ _ (c .before .if3 .left), ne-eqb _ _ (c .if4 .taken))
 
--- src/lib.rt:34:1
 returns-5 : tie.Need-returns-5
 unfolding judged
 returns-5 c = simp (le-ltb _ _ (c .before .before .before .if1 .left), eq-eqb _ _ (c .before .before .if2 .left), eq-eqb _ _ (c .before .if3 .left), eq-eqb _ _ (c .if4 .left))

@@ -13,11 +13,9 @@ use Rattle.cells.proofs.slots.all_filled.Reads as reads
 use Rattle.cells.proofs.slots.all_filled.Lts as lts
 use Rattle.cells.proofs.slots.skip_filled.Reads as skip-filled-reads
 
--- src/slots.rt:46:5
 skip-filled-requires : tie.Need-skip-filled-requires
 skip-filled-requires c κs = record { there = omega arith; filled = below-none _ }
 
--- src/slots.rt:43:1
 returns : tie.Need-returns
 returns c =
     let s = c .before .args .rot-atom .now in

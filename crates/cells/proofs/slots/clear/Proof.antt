@@ -18,37 +18,29 @@ Inv-loop rot-atom₀ j₀ rot-atom j = (j ≤ length rot-atom₀) × (length rot
 abbrev μ-loop : tie.MeasureT-loop
 μ-loop rot-atom₀ j₀ rot-atom j = length rot-atom₀ - j
 
--- src/slots.rt:19:5
 loop-holds : tie.Need-loop-holds Inv-loop μ-loop
 loop-holds c = (omega arith, refl, below-none _)
 
--- src/slots.rt:20:9
 mul-rot-atom : tie.Need-mul-rot-atom Inv-loop μ-loop
 mul-rot-atom c = search needs
 
--- src/slots.rt:20:9
 slice-set-of-rot-atom : tie.Need-slice-set-of-rot-atom Inv-loop μ-loop
 slice-set-of-rot-atom c = search needs
 
--- src/slots.rt:21:9
 add-j : tie.Need-add-j Inv-loop μ-loop
 add-j c = search needs
 
--- src/slots.rt:19:5
 loop-less : tie.Need-loop-less Inv-loop μ-loop
 loop-less c = search needs
 
--- src/slots.rt:19:5
 loop-again : tie.Need-loop-again Inv-loop μ-loop
 loop-again c =
     let l = c .before .loop in
     (omega arith, search needs, fill-more (pos 0) (λ k. negsuc 0) (l .rot-atom) (l .j) (negsuc 0) (omega arith) refl (l .inv .2))
 
--- src/slots.rt:15:1
 same-length : tie.Need-same-length Inv-loop μ-loop
 same-length c = search needs
 
--- src/slots.rt:15:1
 returns : tie.Need-returns Inv-loop μ-loop
 returns c =
     let l = c .before .loop in

@@ -1,77 +1,92 @@
-use mathlib.Core.Bool.{true, false, not, _&&_}
-use Rattle.cells.specs.Slots.{is-lowest, filled-stays-out}
-use Rattle.cells.specs.Matching.{isFilled, takes}
-use Rattle.cells.specs.Near.{near}
+use mathlib.Core.Bool.{true, false}
+use Rattle.cells.specs.Slots.{slotAt, filled-stays-out}
+use Rattle.cells.specs.Matching.{isFilled, takes, blank}
+use Rattle.distances.specs.Near.{isNear, isNone, near, distance}
+use Rattle.cells.specs.Search.{triedAs, First, first-none, first-noted, filled-not-blank, near-tried, none-tried, taken-is, noted-is}
 use Rattle.tables.proofs.Integers.{handed}
 use borrow.Author.Count.{below-more}
-use mathlib.Core.Path.{_≡_, sym, _∙_}
+use mathlib.Core.Path.{_≡_, sym, ap, _∙_, subst}
 use lib.ListN.{length}
 use native.Mathlib.Omega.{arith}
-use Prim.Native.Nat.{ℕ, _-_, _≤_, _<_}
+use Prim.Native.Nat.{ℕ, _+_, _-_, _≤_, _<_}
 use borrow.Author.Needs.{needs}
 use Rattle.cells.proofs.slots.find.Statement.{statement}
 use Rattle.cells.proofs.slots.find.Tie as tie
 use Rattle.cells.proofs.slots.find.Reads as reads
 use Rattle.cells.proofs.slots.find.Lts as lts
-use Rattle.cells.proofs.slots.takes.Reads as takes-reads
+use Rattle.cells.proofs.slots.tried.Reads as tried-reads
 
 abbrev Inv-loop : tie.InvT-loop
-Inv-loop rot-atom cell reach pos rot-pos i start j₀ j = (j ≤ length rot-atom) × ((k : ℕ) → k < j → takes (near cell pos rot-pos) rot-atom i k ≡ false)
+Inv-loop rot-atom cell reach pos rot-pos i start none₀ j₀ none j =
+    (j ≤ length rot-atom) × ((k : ℕ) → k < j → takes (near cell pos rot-pos) rot-atom i k ≡ false) × First (blank (distance cell pos rot-pos) rot-atom i) (length rot-atom) j none
 
 abbrev μ-loop : tie.MeasureT-loop
-μ-loop rot-atom cell reach pos rot-pos i start j₀ j = length rot-atom - j
+μ-loop rot-atom cell reach pos rot-pos i start none₀ j₀ none j = length rot-atom - j
 
--- src/slots.rt:71:5
 loop-holds : tie.Need-loop-holds Inv-loop μ-loop
 loop-holds c =
     let s = c .before .before in
     let a = s .args in
-    let b = s .pre .1 in
-    (b .there, λ k h. filled-stays-out (near (a .cell) (a .pos .now) (a .rot-pos .now)) (a .rot-atom .now) (a .i) k (b .filled k h))
+    let b = s .pre .1 in (
+      b .there,
+      λ k h. filled-stays-out (near (a .cell) (a .pos .now) (a .rot-pos .now)) (a .rot-atom .now) (a .i) k (b .filled k h),
+      first-none _ _ _ (λ k h. filled-not-blank (distance (a .cell) (a .pos .now) (a .rot-pos .now)) (a .rot-atom .now) (a .i) k (b .filled k h)),
+    )
 
--- src/slots.rt:72:18
-mul-takes : tie.Need-mul-takes Inv-loop μ-loop
-mul-takes c = search needs
+mul-tried : tie.Need-mul-tried Inv-loop μ-loop
+mul-tried c = search needs
 
--- src/slots.rt:72:18
-shared-slice-copy-out-takes : tie.Need-shared-slice-copy-out-takes Inv-loop μ-loop
-shared-slice-copy-out-takes c = search needs
+shared-slice-copy-out-tried : tie.Need-shared-slice-copy-out-tried Inv-loop μ-loop
+shared-slice-copy-out-tried c = search needs
 
--- src/slots.rt:72:12
-takes-requires : tie.Need-takes-requires Inv-loop μ-loop
-takes-requires c κs = search needs
+tried-requires : tie.Need-tried-requires Inv-loop μ-loop
+tried-requires c κs = search needs
 
--- src/slots.rt:73:13
+is-near-requires : tie.Need-is-near-requires Inv-loop μ-loop
+is-near-requires c κs = search needs
+
 returns : tie.Need-returns Inv-loop μ-loop
 returns c =
-    let w = c .before in
+    let w = c .before .before in
     let l = w .before .before .before .loop in
     let a = w .before .before .before .before .before .before .args in
-    let e = handed (λ z. w .takes .result ≡ (not (isFilled z) && near (a .cell) (a .pos .now) (a .rot-pos .now) (a .i) (l .j))) (a .rot-atom .now) (l .j) (w .before .takes-arg .given) (w .takes .ensures) in
-    is-lowest _ _ (l .j) (l .inv .0) (l .inv .1) (λ h. sym e ∙ c .if1 .taken)
+    let dist = distance (a .cell) (a .pos .now) (a .rot-pos .now) in
+    let slots = a .rot-atom .now in
+    let e = handed (λ z. w .tried .result ≡ triedAs z (dist (a .i) (l .j))) slots (l .j) (w .before .tried-arg .given) (w .tried .ensures) in
+    let t : takes (near (a .cell) (a .pos .now) (a .rot-pos .now)) slots (a .i) (l .j) ≡ true = sym (near-tried (isFilled (slotAt slots (l .j))) (dist (a .i) (l .j))) ∙ ap isNear (sym e) ∙ sym (c .before .is-near .ensures) ∙ c .if1 .taken in
+    let p = taken-is dist slots (a .i) (l .j) (l .inv .0) (l .inv .1) (λ _. t) in
+    (p, noted-is dist slots (a .i) (l .j) (l .none) p (l .inv .0) (l .inv .2))
 
--- src/slots.rt:75:9
+noted-requires : tie.Need-noted-requires Inv-loop μ-loop
+noted-requires c κs = search needs
+
 add-j : tie.Need-add-j Inv-loop μ-loop
 add-j c = search needs
 
--- src/slots.rt:71:5
 loop-less : tie.Need-loop-less Inv-loop μ-loop
 loop-less c = search needs
 
--- src/slots.rt:71:5
 loop-again : tie.Need-loop-again Inv-loop μ-loop
 loop-again c =
-    let w = c .before in
+    let n = c .before .before in
+    let w = n .before in
     let l = w .before .before .before .loop in
     let a = w .before .before .before .before .before .before .args in
-    let e = handed (λ z. w .takes .result ≡ (not (isFilled z) && near (a .cell) (a .pos .now) (a .rot-pos .now) (a .i) (l .j))) (a .rot-atom .now) (l .j) (w .before .takes-arg .given) (w .takes .ensures) in
-    (omega arith, below-more _ (l .j) (l .inv .1) (sym e ∙ c .if1 .left))
+    let dist = distance (a .cell) (a .pos .now) (a .rot-pos .now) in
+    let slots = a .rot-atom .now in
+    let e = handed (λ z. w .tried .result ≡ triedAs z (dist (a .i) (l .j))) slots (l .j) (w .before .tried-arg .given) (w .tried .ensures) in
+    let t : takes (near (a .cell) (a .pos .now) (a .rot-pos .now)) slots (a .i) (l .j) ≡ false = sym (near-tried (isFilled (slotAt slots (l .j))) (dist (a .i) (l .j))) ∙ ap isNear (sym e) ∙ sym (n .is-near .ensures) ∙ c .before .if1 .left in
+    let b : blank dist slots (a .i) (l .j) ≡ isNone (w .tried .result) = sym (none-tried (isFilled (slotAt slots (l .j))) (dist (a .i) (l .j))) ∙ ap isNone (sym e) in
+    let f = first-noted (blank dist slots (a .i)) (length slots) (l .j) (l .none) (l .inv .2) (w .tried .result) b (w .before .before .loop-test .taken) in
+    (omega arith, below-more _ (l .j) (l .inv .1) t, subst (First (blank dist slots (a .i)) (length slots) (l .j + 1)) (sym (c .noted .ensures)) f)
 
--- src/slots.rt:66:1
 returns-2 : tie.Need-returns-2 Inv-loop μ-loop
 returns-2 c =
     let l = c .before .loop in
-    is-lowest _ _ (l .j) (l .inv .0) (l .inv .1) (λ h. absurd (omega arith))
+    let a = c .before .before .before .before .args in
+    let dist = distance (a .cell) (a .pos .now) (a .rot-pos .now) in
+    let p = taken-is dist (a .rot-atom .now) (a .i) (l .j) (l .inv .0) (l .inv .1) (λ h. absurd (omega arith)) in
+    (p, noted-is dist (a .rot-atom .now) (a .i) (l .j) (l .none) p (l .inv .0) (l .inv .2))
 
 pub find-spec : {M : Type 1} → statement M
 find-spec =
@@ -80,10 +95,12 @@ find-spec =
     Inv-loop
     μ-loop
     loop-holds
-    mul-takes
-    shared-slice-copy-out-takes
-    takes-requires
+    mul-tried
+    shared-slice-copy-out-tried
+    tried-requires
+    is-near-requires
     returns
+    noted-requires
     add-j
     loop-less
     loop-again

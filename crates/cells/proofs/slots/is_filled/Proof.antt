@@ -5,7 +5,6 @@ use Rattle.cells.proofs.slots.is_filled.Tie as tie
 use Rattle.cells.proofs.slots.is_filled.Reads as reads
 use Rattle.cells.proofs.slots.is_filled.Lts as lts
 
--- src/slots.rt:25:1
 returns : tie.Need-returns
 returns c = sign-read (c .args .slot) (c .fits .slot)
 

@@ -1,6 +1,7 @@
 use Rattle.cells.specs.Slots.{Row, FilledBelow, still-filled, length-place}
 use Rattle.cells.specs.Matching.{place}
-use Rattle.cells.specs.Near.{near}
+use Rattle.distances.specs.Near.{near, distance}
+use Rattle.cells.specs.Search.{pairAfter, pair-none, pair-more}
 use Rattle.lists.specs.Tab.{times, times-none, times-more}
 use borrow.Author.Count.{below-none}
 use lib.ListN.{length}
@@ -16,23 +17,22 @@ use Rattle.cells.proofs.slots.place.Reads as place-reads
 use Rattle.cells.proofs.slots.skip_filled.Reads as skip-filled-reads
 
 abbrev Inv-loop : tie.InvT-loop
-Inv-loop rot-atom₀ cell pos rot-pos r start₀ i₀ rot-atom start i = (i ≤ length rot-atom₀) × (length rot-atom ≡ length rot-atom₀) × FilledBelow rot-atom start × (rot-atom ≡ times i (place (near cell pos rot-pos)) rot-atom₀)
+Inv-loop rot-atom₀ cell pos rot-pos r first₀ start₀ i₀ rot-atom first start i =
+    (i ≤ length rot-atom₀) × (length rot-atom ≡ length rot-atom₀) × FilledBelow rot-atom start × (rot-atom ≡ times i (place (near cell pos rot-pos)) rot-atom₀)
+    × (first ≡ pairAfter (distance cell pos rot-pos) rot-atom₀ i)
 
 abbrev μ-loop : tie.MeasureT-loop
-μ-loop rot-atom₀ cell pos rot-pos r start₀ i₀ rot-atom start i = length rot-atom₀ - i
+μ-loop rot-atom₀ cell pos rot-pos r first₀ start₀ i₀ rot-atom first start i = length rot-atom₀ - i
 
--- src/slots.rt:98:5
 reach-of-requires : tie.Need-reach-of-requires Inv-loop μ-loop
 reach-of-requires c κs = search needs
 
 loop-holds : tie.Need-loop-holds Inv-loop μ-loop
-loop-holds c = (omega arith, refl, record { there = omega arith; filled = below-none _ }, times-none _ _)
+loop-holds c = (omega arith, refl, record { there = omega arith; filled = below-none _ }, times-none _ _, pair-none _ _)
 
--- src/slots.rt:99:9
 skip-filled-requires : tie.Need-skip-filled-requires Inv-loop μ-loop
 skip-filled-requires c κs = c .before .before .loop .inv .2
 
--- src/slots.rt:100:9
 place-requires : tie.Need-place-requires Inv-loop μ-loop
 place-requires c κs =
     let l = c .before .before .before .before .loop in
@@ -40,39 +40,41 @@ place-requires c κs =
     let s = r .before .before .before in
     (record { triples = record { pos-len = omega (arith, l .inv .1, s .pre .pos-len); rot-len = omega (arith, l .inv .1, s .pre .rot-len) }; below = omega arith }, c .before .skip-filled .ensures .0, r .reach-of .ensures)
 
--- src/slots.rt:101:9
+first-pair-requires : tie.Need-first-pair-requires Inv-loop μ-loop
+first-pair-requires c κs = search needs
+
 add-i : tie.Need-add-i Inv-loop μ-loop
 add-i c = search needs
 
--- src/slots.rt:98:5
 loop-less : tie.Need-loop-less Inv-loop μ-loop
 loop-less c = search needs
 
--- src/slots.rt:98:5
 loop-again : tie.Need-loop-again Inv-loop μ-loop
 loop-again c =
-    let l = c .before .before .before .before .before .before .loop in
-    let a = c .before .before .before .before .before .before .before .before .before .before .args in
-    let p = c .before .place .ensures in
-    let b = c .before .before .before .skip-filled .ensures .0 in
-    let isNear = near (a .cell) (a .pos .now) (a .rot-pos .now) in (
+    let l = c .before .before .before .before .before .before .before .loop in
+    let a = c .before .before .before .before .before .before .before .before .before .before .before .args in
+    let p = c .before .before .place .ensures .0 in
+    let q = c .before .before .place .ensures .1 in
+    let b = c .before .before .before .before .skip-filled .ensures .0 in
+    let isNear = near (a .cell) (a .pos .now) (a .rot-pos .now) in
+    let dist = distance (a .cell) (a .pos .now) (a .rot-pos .now) in
+    let n = ap length p ∙ length-place isNear (l .i) (l .rot-atom) ∙ l .inv .1 in (
       omega arith,
-      ap length p ∙ length-place isNear (l .i) (l .rot-atom) ∙ l .inv .1,
+      n,
       rw p (still-filled isNear (l .i) (l .rot-atom) _ b),
       times-more (l .i) _ _ (l .inv .3) p,
+      c .first-pair .ensures ∙ pair-more dist (a .rot-atom .now) (l .i) _ _ (l .first) (l .rot-atom) (l .inv .4) (omega (arith, n, l .inv .1)) (l .inv .3) q,
     )
 
--- src/slots.rt:92:1
 same-length : tie.Need-same-length Inv-loop μ-loop
 same-length c = search needs
 
--- src/slots.rt:92:1
 returns : tie.Need-returns Inv-loop μ-loop
 returns c =
     let l = c .before .loop in
     let n = length (c .before .before .before .before .before .args .rot-atom .now) in
     let e : l .i ≡ n = omega arith in
-    l .inv .3 ∙ rw e
+    (l .inv .3 ∙ rw e, l .inv .4 ∙ rw e)
 
 pub place-all-spec : {M : Type 1} → statement M
 place-all-spec =
@@ -84,6 +86,7 @@ place-all-spec =
     loop-holds
     skip-filled-requires
     place-requires
+    first-pair-requires
     add-i
     loop-less
     loop-again

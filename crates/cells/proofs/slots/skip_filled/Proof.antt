@@ -19,31 +19,24 @@ Inv-loop rot-atom start k₀ k = FilledBelow rot-atom k
 abbrev μ-loop : tie.MeasureT-loop
 μ-loop rot-atom start k₀ k = length rot-atom - k
 
--- src/slots.rt:55:5
 loop-holds : tie.Need-loop-holds Inv-loop μ-loop
 loop-holds c = search needs
 
--- src/slots.rt:56:22
 mul-is-filled : tie.Need-mul-is-filled Inv-loop μ-loop
 mul-is-filled c = search needs
 
--- src/slots.rt:56:22
 shared-slice-copy-out-is-filled : tie.Need-shared-slice-copy-out-is-filled Inv-loop μ-loop
 shared-slice-copy-out-is-filled c = search needs
 
--- src/slots.rt:56:12
 is-filled-requires : tie.Need-is-filled-requires Inv-loop μ-loop
 is-filled-requires c κs = search needs
 
--- src/slots.rt:57:13
 add-k : tie.Need-add-k Inv-loop μ-loop
 add-k c = search needs
 
--- src/slots.rt:55:5
 loop-less : tie.Need-loop-less Inv-loop μ-loop
 loop-less c = search needs
 
--- src/slots.rt:55:5
 loop-again : tie.Need-loop-again Inv-loop μ-loop
 loop-again c =
     let w = c .before in
@@ -52,7 +45,6 @@ loop-again c =
     let e = handed (λ z. w .is-filled .result ≡ isFilled z) s (l .k) (w .before .is-filled-arg .given) (w .is-filled .ensures) in
     record { there = omega arith; filled = below-more _ (l .k) (l .inv .filled) (sym e ∙ c .if1 .taken) }
 
--- src/slots.rt:59:13
 returns : tie.Need-returns Inv-loop μ-loop
 returns c =
     let w = c .before in
@@ -61,7 +53,6 @@ returns c =
     let e = handed (λ z. w .is-filled .result ≡ isFilled z) s (l .k) (w .before .is-filled-arg .given) (w .is-filled .ensures) in
     (l .inv, λ h. sym e ∙ c .if1 .left)
 
--- src/slots.rt:50:1
 returns-2 : tie.Need-returns-2 Inv-loop μ-loop
 returns-2 c = (c .before .loop .inv, λ h. absurd (omega arith))
 

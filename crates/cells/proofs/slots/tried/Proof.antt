@@ -1,0 +1,31 @@
+use Rattle.cells.proofs.Signs.{read-back}
+use Rattle.cells.specs.Matching.{isFilled}
+use mathlib.Core.Path.{_≡_, sym, _∙_}
+use borrow.Author.Needs.{needs}
+use Rattle.cells.proofs.slots.tried.Statement.{statement}
+use Rattle.cells.proofs.slots.tried.Tie as tie
+use Rattle.cells.proofs.slots.tried.Reads as reads
+use Rattle.cells.proofs.slots.tried.Lts as lts
+use Rattle.distances.proofs.distance_of.Reads as distance-of-reads
+use Rattle.cells.proofs.slots.is_filled.Reads as is-filled-reads
+
+is-filled-requires : tie.Need-is-filled-requires
+is-filled-requires c κs = search needs
+
+returns : tie.Need-returns
+returns c =
+    let w = c .before in
+    let s = w .before .before .before in
+    rw (sym (read-back (λ z. w .is-filled .result ≡ isFilled z) (s .args .slot) (s .fits .slot) (w .is-filled .ensures)) ∙ c .if1 .taken)
+
+distance-of-requires : tie.Need-distance-of-requires
+distance-of-requires c κs = search needs
+
+returns-2 : tie.Need-returns-2
+returns-2 c =
+    let w = c .before .before in
+    let s = w .before .before .before in
+    rw (sym (read-back (λ z. w .is-filled .result ≡ isFilled z) (s .args .slot) (s .fits .slot) (w .is-filled .ensures)) ∙ c .before .if1 .left) (c .distance-of .ensures)
+
+pub tried-spec : {M : Type 1} → statement M
+tried-spec = tie.close (tie.spec is-filled-requires returns distance-of-requires returns-2)

@@ -1,0 +1,167 @@
+// The distance leaf of the matchers: whether a position and a slot are near, far, or their distance is no number.
+ghost use mathlib.Core.Path.{_≡_};
+ghost use Prim.Native.Nat.{_+_, _*_, _≤_};
+ghost use lib.Dec.{T};
+ghost use lib.ListN.{length};
+ghost use lib.Ieee.{binary64, mul};
+ghost use Rattle.common.specs.Root.{sqrt as rootOf};
+ghost use Rattle.distances.specs.Near.{wrapped as wrappedOf, dot as dotOf, squares, told, isNear, distance as distanceOf};
+ghost use Rattle.distances.specs.Reach.{plus, Rest, Early, EarlyOf, Reaches, Fit};
+
+// A crystal's cell: the lattice's nine numbers, row after row, and the tolerance. Component k of a difference is row k times the difference of the coordinates,
+// so the basis vectors stand in the columns.
+pub struct Cell {
+    pub lattice: [f64; 9],
+    pub symprec: f64,
+}
+
+// What a distance is to the tolerance: below it, not below it, or NaN.
+pub enum Distance {
+    Near,
+    Far,
+    NoNumber,
+}
+
+pub fn is_near(d: Distance) -> bool
+    ensures { λ r. ⌜ r ≡ isNear d ⌝ }
+{
+    match d {
+        Distance::Near => true,
+        Distance::Far => false,
+        Distance::NoNumber => false,
+    }
+}
+
+// An axis difference less its own rounding. Adding and taking away 1.5 · 2^52 takes a whole number off; where the sum is above 2^52 and less than a half is left,
+// it is the nearest one. Otherwise, at halves and for large differences, the rounding is worked out.
+fn wrapped(a: f64, b: f64) -> f64
+    ensures { λ r. ⌜ r ≡ wrappedOf a b ⌝ }
+{
+    let d = a - b;
+    let sum = d + 6755399441055744.0;
+    let x = d + (6755399441055744.0 - sum);
+    if sum > 4503599627370496.0 {
+        if x > -0.5 {
+            if x < 0.5 {
+                return x;
+            }
+        }
+    }
+    d - common::round(d)
+}
+
+// 0.0 + a x + b y + c z, in that order.
+fn dot(a: f64, b: f64, c: f64, x: f64, y: f64, z: f64) -> f64
+    ensures { λ r. ⌜ r ≡ dotOf a b c x y z ⌝ }
+{
+    0.0 + a * x + b * y + c * z
+}
+
+// What is worked out once from a cell: the tolerance's square, above which nothing is near; a square up to which everything is; and the square above which the
+// first component alone decides that the distance is far, and a number.
+pub struct Reach {
+    pub square: f64,
+    pub sure: f64,
+    pub early: f64,
+}
+
+// The tolerance's square where the second and the third row of the lattice hold finite numbers only, so that no component of a difference is NaN by them;
+// otherwise NaN, which nothing is above. An infinity or a NaN times 0.0 is NaN.
+fn early_of(square: f64, p: f64, q: f64, r: f64, s: f64, t: f64, u: f64) -> f64
+    ensures { λ e. ⌜ Early square e p q r s t u ⌝ }
+{
+    let zero = p * 0.0 + q * 0.0 + r * 0.0 + s * 0.0 + t * 0.0 + u * 0.0;
+    if zero == 0.0 {
+        return square;
+    }
+    0.0 / 0.0
+}
+
+// The squares of a tolerance, with `early`.
+fn with_sure(symprec: f64, square: f64, early: f64) -> Reach
+    requires { ⌜ square ≡ mul binary64 symprec symprec ⌝ }
+    ensures { λ r. ⌜ Reaches symprec (r .square) (r .sure) × (r .square ≡ square) × (r .early ≡ early) ⌝ }
+{
+    // a little less than the square; no matter how little, since its own root is tested
+    let sure = square * 0.9999999999999991;
+    if common::sqrt(sure) < symprec {
+        return Reach {
+            square,
+            sure,
+            early,
+        };
+    }
+    Reach {
+        square,
+        sure: 0.0 / 0.0,
+        early,
+    }
+}
+
+// What is worked out once from a cell.
+pub fn reach_of(cell: Cell) -> Reach
+    ensures { λ r. ⌜ Fit cell r ⌝ }
+{
+    let l = cell.lattice;
+    let square = cell.symprec * cell.symprec;
+    let early = early_of(square, l[3], l[4], l[5], l[6], l[7], l[8]);
+    with_sure(cell.symprec, square, early)
+}
+
+// What the root of d2 is to the tolerance. The root is worked out only where the two squares leave it open: above the tolerance's square nothing is near, and up
+// to `sure`, whose own root was found below the tolerance, everything is. Neither holds of NaN.
+fn below(d2: f64, symprec: f64, reach: Reach) -> Distance
+    requires { ⌜ T (plus d2) × Reaches symprec (reach .square) (reach .sure) ⌝ }
+    ensures { λ r. ⌜ r ≡ told (rootOf binary64 d2) symprec ⌝ }
+{
+    if d2 > reach.square {
+        return Distance::Far;
+    }
+    if d2 <= reach.sure {
+        return Distance::Near;
+    }
+    if d2 != d2 {
+        return Distance::NoNumber;
+    }
+    if common::sqrt(d2) < symprec {
+        return Distance::Near;
+    }
+    Distance::Far
+}
+
+// What the length of the difference (x, y, z) in the lattice l is to the tolerance: component k of it is row k times (x, y, z). The first component alone can be
+// too long, and in a lattice that is finite below its first row no other one makes the length NaN then.
+fn short(l: [f64; 9], symprec: f64, reach: Reach, x: f64, y: f64, z: f64) -> Distance
+    requires { ⌜ Reaches symprec (reach .square) (reach .sure) × EarlyOf l (reach .square) (reach .early) × (Rest x × Rest y × Rest z) ⌝ }
+    ensures { λ r. ⌜ r ≡ told (rootOf binary64 (squares l x y z)) symprec ⌝ }
+{
+    let a = dot(l[0], l[1], l[2], x, y, z);
+    let first = 0.0 + a * a;
+    if first > reach.early {
+        return Distance::Far;
+    }
+    let b = dot(l[3], l[4], l[5], x, y, z);
+    let c = dot(l[6], l[7], l[8], x, y, z);
+    below(first + b * b + c * c, symprec, reach)
+}
+
+// What the distance of position i of pos and position j of rot_pos is to the tolerance of the cell.
+pub fn distance_of(
+    cell: Cell,
+    reach: Reach,
+    pos: &[f64],
+    rot_pos: &[f64],
+    i: usize,
+    j: usize,
+) -> Distance
+    requires { ⌜ (i * 3 + 3 ≤ length (now pos)) × (j * 3 + 3 ≤ length (now «rot_pos»)) × Fit cell reach ⌝ }
+    ensures { λ r. ⌜ r ≡ distanceOf cell (now (pos .entry)) (now («rot_pos» .entry)) i j ⌝ }
+{
+    let a = i * 3;
+    let b = j * 3;
+    let x = wrapped(pos[a], rot_pos[b]);
+    let y = wrapped(pos[a + 1], rot_pos[b + 1]);
+    let z = wrapped(pos[a + 2], rot_pos[b + 2]);
+    let l = cell.lattice;
+    short(l, cell.symprec, reach, x, y, z)
+}
