@@ -16,8 +16,9 @@
  * ANSWERS
  *   Every call but gf_nint, gf_round and gf_sqrt takes every input and answers with a number. 0 says that its work is done. The six
  *   refusals, 1 to 6, are tried in the order of their numbers: all counts before any length, all lengths before any entry, and so on;
- *   the first that applies is answered. The calls on a roll have two more: 7 is looked at before all others, 8 after them. A refused
- *   call has written nothing: every slice is as it was. gf_is_roll answers with true or false.
+ *   the first that applies is answered. The calls on a roll have two more: 7 is looked at before all others, 8 after them; and
+ *   gf_replace_block_fc2 has 10, after 3. A refused call has written nothing: every slice is as it was. gf_is_roll answers with true or
+ *   false.
  *   Limits, beyond which a count is refused: 1,024 atoms at second order and in matching, 256 at third, 64 at fourth, and the same
  *   for n_patom, num_trans and num_first; level 1,000; the length of atom_list, num_rot, num_disp and num_site_sym 1,024. So more than
  *   1,024 operations (num_rot, num_site_sym) in one call are refused as more atoms are. 0 is within every limit; but the shift tables
@@ -77,12 +78,13 @@ enum gf_answer {
     GF_DONE = 0,               /* the work is done */
     GF_COUNT_ABOVE_LIMIT = 1,  /* a count is above its limit */
     GF_WRONG_LENGTH = 2,       /* a slice has a length other than the one stated for it */
-    GF_INDEX_OUT_OF_RANGE = 3, /* an index table holds a negative number, or one not below the count it points into, read or not */
+    GF_INDEX_OUT_OF_RANGE = 3, /* an index table holds a negative number, or one not below the count it points into, read or not; or i or j is not below n_satom */
     GF_BAD_SLAB = 4,           /* the source or the target slab is not below num_first, or the two are equal */
     GF_BAD_REPRESENTATIVE = 5, /* a listed atom's representative is not itself a listed atom that represents itself */
     GF_BAD_SHIFT_TABLES = 6,   /* the shift tables break a rule */
     GF_NOT_A_ROLL = 7,         /* the bytes are not a roll, the count passes the slice, nothing starts there, or the record breaks the rules */
     GF_NO_ROOM = 8,            /* the roll would pass 1,000 records, 65,536 bytes or the lent slice */
+    GF_OFF_GRID = 10,          /* gf_replace_block_fc2: a number of the old block or of the new one is off the grid */
     GF_NOT_MATCHED = 64,       /* gf_compute_permutation: some slot is left free */
     GF_DRIFT_STILL = 65,       /* gf_drift_report: all sums are zero */
     GF_DRIFT_WORST = 66,       /* gf_drift_report: the worst sum is named */
@@ -259,6 +261,32 @@ uint8_t gf_distribute_fc2(
     const int64_t *map_syms, size_t map_syms_len,
     int64_t *atom_list_reverse, size_t atom_list_reverse_len,
     size_t num_pos, size_t num_first, size_t num_rot);
+
+/*
+ * The row sums of a full set: for each atom and pair of directions the sum over the second atom, from 0.0 and rising. Sum k of atom i is
+ * sums[i * 9 + k], where k counts the directions as in a block. Any numbers.
+ *   sums  n_satom x 9, only written
+ *   fc    n_satom x n_satom x 9
+ * Refusals: 1 (n_satom above 1,024), 2.
+ */
+uint8_t gf_row_sums_fc2(double *sums, size_t sums_len, const double *fc, size_t fc_len, size_t n_satom);
+
+/*
+ * Replaces block (i, j) of a full set, and corrects the nine sums of atom i: from each the old number is subtracted, and then the new
+ * one is added. Nine zeros take a block out. All other blocks and sums are as they were. The time does not grow with n_satom.
+ * If every number of the set is on the grid, and the sums are those of gf_row_sums_fc2, then after any series of these calls they still
+ * are, bit for bit. On the grid is a whole multiple of 2^-20 of absolute value at most 2^20, -0.0 too.
+ *   fc     n_satom x n_satom x 9
+ *   sums   n_satom x 9; any numbers are followed
+ *   block  9
+ * Refusals: 1 (n_satom above 1,024), 2, 3 (i or j not below n_satom), then 10 (a number of the old block (i, j) or of the new one is off
+ * the grid; other blocks are not looked at).
+ */
+uint8_t gf_replace_block_fc2(
+    double *fc, size_t fc_len,
+    double *sums, size_t sums_len,
+    const double *block, size_t block_len,
+    size_t i, size_t j, size_t n_satom);
 
 /* ---- third order ---- */
 

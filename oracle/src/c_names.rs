@@ -94,6 +94,11 @@ extern "C" {
         nsym_list: *const i64, nsym_list_len: usize, perms: *const i64, perms_len: usize, done: *mut u8,
         done_len: usize, n_satom: usize, n_patom: usize, num_trans: usize, t_type: i64,
     ) -> u8;
+    pub fn gf_row_sums_fc2(sums: *mut f64, sums_len: usize, fc: *const f64, fc_len: usize, n_satom: usize) -> u8;
+    pub fn gf_replace_block_fc2(
+        fc: *mut f64, fc_len: usize, sums: *mut f64, sums_len: usize, block: *const f64, block_len: usize, i: usize, j: usize,
+        n_satom: usize,
+    ) -> u8;
     pub fn gf_is_roll(lent: *const u8, lent_len: usize, count: usize) -> bool;
     pub fn gf_read_roll(
         lent: *const u8, lent_len: usize, count: usize, at: usize, slots: *mut usize, slots_len: usize,

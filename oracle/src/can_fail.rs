@@ -11,7 +11,8 @@ use crate::shifts::{cyclic, tables};
 use crate::spoil::perhaps_spoilt;
 use crate::tally::Tally;
 use crate::compare_roll::{Asked, Name as Name3};
-use crate::{compare, compare_common, compare_roll};
+use crate::compare_row_sums::{Asked as Edit, Name as Name4};
+use crate::{compare, compare_common, compare_roll, compare_row_sums, row_sums};
 
 const REFUSALS: std::ops::RangeInclusive<u8> = 1..=6;
 
@@ -136,6 +137,47 @@ fn rolls() {
             assert_eq!(flipped(&|a| a.lent.last_mut().map_or(1, |b| { *b ^= 1 << bit; 0 })), 1);
             assert_eq!(flipped(&|a| a.slots.first_mut().map_or(1, |n| { *n ^= 1 << bit; 0 })), 1);
         }
+    }
+}
+
+/// One flipped bit of the set, of a sum, of the block or of the answer is seen in the calls on row sums.
+#[test]
+fn row_sums_calls() {
+    let mut r = Rng::new(31);
+    let flip = |v: &mut Vec<f64>, bit: usize| {
+        let Some(x) = v.last_mut().filter(|x| !x.is_nan()) else { return 1 };
+        *x = f64::from_bits(x.to_bits() ^ 1 << bit);
+        0
+    };
+    for name in [Name4::RowSums, Name4::ReplaceBlock] {
+        for _ in 0..300 {
+            let (asked, bit) = (compare_row_sums::make(&mut r, name, 4), r.below(8));
+            let flipped = |change: &dyn Fn(&mut Edit) -> u8| {
+                let mut tally = Tally::new("");
+                compare_row_sums::one(&mut tally, &asked, &|a: &mut Edit| {
+                    let number = a.model();
+                    number ^ change(a)
+                });
+                tally.differences
+            };
+            assert_eq!(flipped(&|_| 0), 0);
+            assert_eq!(flipped(&|_| 1 << bit), 1);
+            assert_eq!(flipped(&|a| flip(&mut a.set, bit)), 1);
+            assert_eq!(flipped(&|a| flip(&mut a.sums, bit)), 1);
+            assert_eq!(flipped(&|a| flip(&mut a.block, bit)), 1);
+        }
+    }
+}
+
+/// The model's grid at its ends.
+#[test]
+fn the_grid() {
+    let step = 1.0 / 1_048_576.0;
+    for x in [0.0, -0.0, step, -step, 1_048_576.0, -1_048_576.0, 1_048_576.0 - step, 0.5, 1.0] {
+        assert!(row_sums::on_grid(x), "{x}");
+    }
+    for x in [step / 2.0, 1_048_576.0 + step, -1_048_576.0 - step, f64::NAN, f64::INFINITY, f64::NEG_INFINITY, 5e-324, 1e16, 1.0 + step / 2.0] {
+        assert!(!row_sums::on_grid(x), "{x}");
     }
 }
 

@@ -4,10 +4,10 @@ use crate::call_compact::Name;
 use crate::compare_limits::limits;
 use crate::rng::Rng;
 use crate::tally::Tally;
-use crate::{compare_common, compare_lists, compare_roll, compare_true, makers, port};
+use crate::{compare_common, compare_lists, compare_roll, compare_row_sums, compare_true, makers, port};
 
-/// Every public call, the lists of transposes, the read-outs of the true ones and whole rolls, in the order in which they are compared.
-pub const CALLS: [&str; 30] = [
+/// Every public call, the lists of transposes, the read-outs of the true ones, whole rolls and series of edits, in the order in which they are compared.
+pub const CALLS: [&str; 33] = [
     "nint",
     "round",
     "sqrt",
@@ -38,6 +38,9 @@ pub const CALLS: [&str; 30] = [
     "read_roll",
     "append_roll",
     "whole rolls",
+    "row_sums_fc2",
+    "replace_block_fc2",
+    "series of edits",
 ];
 
 /// Of nint, round and sqrt so many patterns are tried for each call of the others.
@@ -76,6 +79,9 @@ fn run(tally: &mut Tally, r: &mut Rng, count: u64) {
         "read_roll" => compare_roll::run(tally, r, count, compare_roll::Name::ReadRoll),
         "append_roll" => compare_roll::run(tally, r, count, compare_roll::Name::AppendRoll),
         "whole rolls" => compare_roll::walks(tally, r, count),
+        "row_sums_fc2" => compare_row_sums::run(tally, r, count, compare_row_sums::Name::RowSums),
+        "replace_block_fc2" => compare_row_sums::run(tally, r, count, compare_row_sums::Name::ReplaceBlock),
+        "series of edits" => compare_row_sums::series(tally, r, count),
         _ => compare_lists::same_order(tally, r, count),
     }
 }
@@ -84,6 +90,7 @@ fn run(tally: &mut Tally, r: &mut Rng, count: u64) {
 fn present(name: &str) -> bool {
     port::has(match name {
         "whole rolls" => "append_roll",
+        "series of edits" => "replace_block_fc2",
         "true transposes read out" => "true_transpose_compact_fc4",
         _ if name.starts_with("lists") => "transpose_compact_fc3",
         _ => name,

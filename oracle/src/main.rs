@@ -26,6 +26,7 @@ mod compare_common;
 mod compare_limits;
 mod compare_lists;
 mod compare_roll;
+mod compare_row_sums;
 mod compare_true;
 mod edges;
 mod fc2_records;
@@ -41,6 +42,8 @@ mod record;
 mod rng;
 mod roll;
 mod roll_records;
+mod row_sums;
+mod row_sums_records;
 mod shift_records;
 mod shifts;
 mod slab_records;
@@ -53,7 +56,7 @@ mod wild;
 #[global_allocator]
 static HEAP: memory::Counting = memory::Counting;
 
-const USAGE: &str = "oracle record common|shifts|matching|second|compact|third|fourth|true|distribute|deltas|roll FOLDER
+const USAGE: &str = "oracle record common|shifts|matching|second|compact|third|fourth|true|distribute|deltas|roll|row_sums FOLDER
 oracle flip PROGRAM FOLDER COUNT
 oracle compare all|limits|CALL [SEED [COUNT]]
 oracle bench all|common|cells|fc2|fc3|fc4|tables|transposes|drift [SECONDS]";
@@ -75,6 +78,7 @@ fn record(name: &str, folder: &Path) -> Outcome {
         "distribute" => slab_records::distribute(),
         "deltas" => slab_records::deltas(),
         "roll" => roll_records::replay(),
+        "row_sums" => row_sums_records::replay(),
         _ => return None,
     };
     fs::write(folder.join("stdin"), record::pages(&replay.records)).expect("stdin can be written");
@@ -129,7 +133,7 @@ fn main() {
     let outcome = match words[..] {
         ["record", name, folder] => record(name, Path::new(folder)),
         ["flip", program, folder, count] => count.parse().ok().map(|count| flip::flip(program, Path::new(folder), count)),
-        ["compare", ..] | ["bench", ..] if !port::has("nint") && !port::has("is_roll") => {
+        ["compare", ..] | ["bench", ..] if !port::has("nint") && !port::has("is_roll") && !port::has("row_sums_fc2") => {
             eprintln!("compare and bench need libcapi.a: run `bindings/library` and build again");
             Some(false)
         }

@@ -178,6 +178,48 @@ static void drift(void) {
     CHECK(value[0] != value[0] && is_place(place, GF_ROWS, 0, 2, 1));
 }
 
+/* sums are those of a fresh pass, by their bits */
+static bool fresh(const double *sums, const double *fc) {
+    double again[18];
+    return gf_row_sums_fc2(S(again), fc, 36, 2) == GF_DONE && memcmp(sums, again, sizeof again) == 0;
+}
+
+static void edits(void) {
+    const double step = 1.0 / 1048576.0;
+    double fc[36], sums[18], before[36], kept[18], block[9], zeros[9] = {0};
+    count_up(S(fc));
+    CHECK(gf_row_sums_fc2(S(sums), S(fc), 1025) == GF_COUNT_ABOVE_LIMIT);
+    CHECK(gf_row_sums_fc2(S(sums), S(fc), 2) == GF_DONE);
+    CHECK(sums[0] == 1 + 10 && sums[9 + 8] == 27 + 36);
+    memcpy(kept, sums, sizeof sums);
+    CHECK(gf_row_sums_fc2(sums, 17, S(fc), 2) == GF_WRONG_LENGTH);
+    CHECK(gf_row_sums_fc2(S(sums), fc, 35, 2) == GF_WRONG_LENGTH);
+    for (size_t k = 0; k < 9; k++) {
+        block[k] = (double)k * step;
+    }
+    memcpy(before, fc, sizeof fc);
+    CHECK(gf_replace_block_fc2(S(fc), S(sums), block, 8, 2, 0, 1025) == GF_COUNT_ABOVE_LIMIT);
+    CHECK(gf_replace_block_fc2(S(fc), S(sums), block, 8, 2, 0, 2) == GF_WRONG_LENGTH);
+    CHECK(gf_replace_block_fc2(fc, 35, S(sums), S(block), 2, 0, 2) == GF_WRONG_LENGTH);
+    CHECK(gf_replace_block_fc2(S(fc), sums, 19, S(block), 2, 0, 2) == GF_WRONG_LENGTH);
+    block[8] = step / 2;
+    CHECK(gf_replace_block_fc2(S(fc), S(sums), S(block), 2, 0, 2) == GF_INDEX_OUT_OF_RANGE);
+    CHECK(gf_replace_block_fc2(S(fc), S(sums), S(block), 0, SIZE_MAX, 2) == GF_INDEX_OUT_OF_RANGE);
+    CHECK(gf_replace_block_fc2(S(fc), S(sums), S(block), 1, 0, 2) == GF_OFF_GRID);
+    block[8] = 1048576 + step;
+    CHECK(gf_replace_block_fc2(S(fc), S(sums), S(block), 1, 0, 2) == GF_OFF_GRID);
+    CHECK(memcmp(fc, before, sizeof fc) == 0 && memcmp(sums, kept, sizeof sums) == 0);
+    block[8] = -1048576; /* the grid's end */
+    CHECK(gf_replace_block_fc2(S(fc), S(sums), S(block), 1, 0, 2) == GF_DONE);
+    CHECK(memcmp(fc + 18, block, sizeof block) == 0 && memcmp(fc, before, 18 * sizeof *fc) == 0 && memcmp(fc + 27, before + 27, 9 * sizeof *fc) == 0);
+    CHECK(memcmp(sums, kept, 9 * sizeof *sums) == 0 && sums[9 + 8] == 36 - 1048576.0 && fresh(sums, fc));
+    CHECK(gf_replace_block_fc2(S(fc), S(sums), S(zeros), 1, 0, 2) == GF_DONE); /* taken out */
+    CHECK(sums[9 + 8] == 36 && fresh(sums, fc));
+    fc[35] = 0.1; /* an old number off the grid: in block (1, 1) only */
+    CHECK(gf_replace_block_fc2(S(fc), S(sums), S(zeros), 1, 1, 2) == GF_OFF_GRID);
+    CHECK(gf_replace_block_fc2(S(fc), S(sums), S(zeros), 1, 0, 2) == GF_DONE);
+}
+
 static void compact_second_order(void) {
     double one[9], three[27], before[27];
     uint8_t done1[] = {7}, done3[] = {7, 7, 7};
@@ -467,6 +509,7 @@ int main(void) {
     matching();
     full_second_order();
     drift();
+    edits();
     compact_second_order();
     distribute_second_order();
     symmetrize_third_order();

@@ -293,3 +293,32 @@ pub fn drift_report(fc: &[f64], n_satom: usize) -> Result<DriftReport, Refusal> 
     let along = if place[0] == 0 { Along::Rows } else { Along::Columns };
     Ok(DriftReport { drift, along, atom: place[1], directions: [place[2], place[3]] })
 }
+
+/// The row sums of a full set of n_satom² × 9 numbers: for each atom and pair of directions the sum over the second atom, from 0.0 and
+/// rising. Sum k of atom i is `sums[i * 9 + k]`. Not in phonors.
+pub fn row_sums_fc2(sums: &mut [f64], fc: &[f64], n_satom: usize) -> Result<(), Refusal> {
+    answer(call!(gf_row_sums_fc2(&mut sums, &fc, n_satom)))
+}
+
+/// Replaces block (i, j) of a full set of n_satom² × 9 numbers, and corrects the nine sums of atom i: from each the old number is
+/// subtracted, and then the new one is added. Nine zeros take a block out. Not in phonors.
+///
+/// If every number of the set is on the grid (whole multiples of 2^-20 of absolute value at most 2^20) and the sums are those of
+/// [`row_sums_fc2`], then after any series of these calls they still are, bit for bit. A number of the old block or of the new one that is
+/// off the grid is refused.
+///
+/// ```
+/// use gullyfork::{fc2, Refusal};
+///
+/// let (mut fc, mut sums, mut fresh) = ([0.25; 36], [0.0; 18], [0.0; 18]);
+/// fc2::row_sums_fc2(&mut sums, &fc, 2)?;
+/// fc2::replace_block_fc2(&mut fc, &mut sums, [1.5; 9], 1, 0, 2)?;
+/// assert_eq!((sums[0], sums[9]), (0.5, 1.75));
+/// fc2::row_sums_fc2(&mut fresh, &fc, 2)?;
+/// assert_eq!(sums, fresh);
+/// assert_eq!(fc2::replace_block_fc2(&mut fc, &mut sums, [0.1; 9], 1, 0, 2), Err(Refusal::OffGrid));
+/// # Ok::<(), Refusal>(())
+/// ```
+pub fn replace_block_fc2(fc: &mut [f64], sums: &mut [f64], block: [f64; 9], i: usize, j: usize, n_satom: usize) -> Result<(), Refusal> {
+    answer(call!(gf_replace_block_fc2(&mut fc, &mut sums, &block, i, j, n_satom)))
+}

@@ -300,6 +300,18 @@ extern "C" {
         num_site_sym: usize,
         num_disp: usize,
     ) -> u8;
+    pub fn gf_row_sums_fc2(sums: *mut f64, sums_len: usize, fc: *const f64, fc_len: usize, n_satom: usize) -> u8;
+    pub fn gf_replace_block_fc2(
+        fc: *mut f64,
+        fc_len: usize,
+        sums: *mut f64,
+        sums_len: usize,
+        block: *const f64,
+        block_len: usize,
+        i: usize,
+        j: usize,
+        n_satom: usize,
+    ) -> u8;
     pub fn gf_is_roll(lent: *const u8, lent_len: usize, count: usize) -> bool;
     pub fn gf_read_roll(lent: *const u8, lent_len: usize, count: usize, at: usize, slots: *mut usize, slots_len: usize) -> u8;
     pub fn gf_append_roll(

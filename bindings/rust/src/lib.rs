@@ -45,7 +45,8 @@ pub enum Refusal {
     CountAboveLimit = 1,
     /// A slice has a length other than the one stated for it.
     WrongLength = 2,
-    /// An index table holds a negative number, or one not below the count it points into, whether that entry is read or not.
+    /// An index table holds a negative number, or one not below the count it points into, whether that entry is read or not; or an index
+    /// that is given is not below its count.
     IndexOutOfRange = 3,
     /// The source or the target slab is not below num_first, or the two are equal.
     BadSlab = 4,
@@ -57,10 +58,12 @@ pub enum Refusal {
     NotARoll = 7,
     /// The roll would pass 1,000 records, 65,536 bytes or the lent slice.
     NoRoom = 8,
+    /// A number of the old block or of the new one is off the grid.
+    OffGrid = 10,
 }
 
 impl Refusal {
-    /// The number of the refusal, 1 to 8.
+    /// The number of the refusal, 1 to 8 or 10.
     pub fn number(self) -> u8 {
         self as u8
     }
@@ -71,12 +74,13 @@ impl fmt::Display for Refusal {
         let words = match self {
             Refusal::CountAboveLimit => "a count is above its limit",
             Refusal::WrongLength => "a slice has a length other than the one stated for it",
-            Refusal::IndexOutOfRange => "an index table holds a negative number, or one not below the count it points into",
+            Refusal::IndexOutOfRange => "an index, or an entry of an index table, is negative or not below the count it points into",
             Refusal::BadSlab => "the source or the target slab is not below num_first, or the two are equal",
             Refusal::BadRepresentative => "a listed atom's representative is not itself a listed atom that represents itself",
             Refusal::BadShiftTables => "the shift tables break a rule",
             Refusal::NotARoll => "the bytes are not a roll, nothing starts at the position, or the record breaks the rules",
             Refusal::NoRoom => "the roll would pass 1,000 records, 65,536 bytes or the lent slice",
+            Refusal::OffGrid => "a number of the old block or of the new one is off the grid",
         };
         f.write_str(words)
     }
@@ -96,7 +100,8 @@ fn answer(number: u8) -> Result<(), Refusal> {
         6 => Refusal::BadShiftTables,
         7 => Refusal::NotARoll,
         8 => Refusal::NoRoom,
-        _ => unreachable!("the library answers with 0 to 8 here, not with {number}"),
+        10 => Refusal::OffGrid,
+        _ => unreachable!("the library answers with 0, 1 to 8 or 10 here, not with {number}"),
     })
 }
 
@@ -118,17 +123,19 @@ fn rows(length: usize, row: usize) -> usize {
 mod tests {
     use super::*;
 
+    const NUMBERS: [u8; 9] = [1, 2, 3, 4, 5, 6, 7, 8, 10];
+
     #[test]
     fn numbers_come_back() {
         assert_eq!(answer(0), Ok(()));
-        for number in 1..=8 {
+        for number in NUMBERS {
             assert_eq!(answer(number).unwrap_err().number(), number);
         }
     }
 
     #[test]
     fn every_refusal_has_its_own_words() {
-        let words: Vec<String> = (1..=8).map(|n| answer(n).unwrap_err().to_string()).collect();
+        let words = NUMBERS.map(|n| answer(n).unwrap_err().to_string());
         for (i, w) in words.iter().enumerate() {
             assert!(!words[..i].contains(w));
         }

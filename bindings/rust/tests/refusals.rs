@@ -20,6 +20,8 @@ fn huge_counts_are_refused_before_memory_is_asked_for() {
     assert_eq!(fc2::set_index_permutation_symmetry_compact_fc(&mut set, &[], &[], &[], &[], HUGE, 2, true), above);
     assert_eq!(fc2::distribute_fc2(&mut set, &[], &[], &[], &[], &[], &[], HUGE), above);
     assert_eq!(fc2::drift_report(&set, HUGE), Err(Refusal::CountAboveLimit));
+    assert_eq!(fc2::row_sums_fc2(&mut set, &[], HUGE), above);
+    assert_eq!(fc2::replace_block_fc2(&mut set, &mut [], IDENTITY, 0, 0, HUGE), above);
     assert_eq!(fc3::set_permutation_symmetry_fc3(&mut set, HUGE), above);
     assert_eq!(fc3::set_permutation_symmetry_compact_fc3(&mut set, &[], &[], &[], &[], 257, 1), above);
     assert_eq!(fc3::transpose_compact_fc3(&mut set, &[], &[], &[], &[], 1, HUGE, 0), above);
@@ -103,6 +105,24 @@ fn drifts() {
     let none = fc2::DriftReport { drift: fc2::Drift::NoNumber, along: fc2::Along::Rows, atom: 0, directions: [2, 1] };
     assert_eq!(fc2::drift_report(&fc, 2), Ok(none));
     assert_eq!(fc2::drift_report(&fc, 3), Err(Refusal::WrongLength));
+}
+
+#[test]
+fn an_edit_that_is_refused_leaves_set_and_sums() {
+    let (mut fc, mut sums) = (counting(36), counting(18));
+    for (block, i, n, refusal) in [
+        ([0.1; 9], 2, 2, Refusal::IndexOutOfRange),
+        ([0.1; 9], 0, 3, Refusal::WrongLength),
+        ([0.1; 9], 0, 2, Refusal::OffGrid),
+        ([f64::NAN; 9], 0, 2, Refusal::OffGrid),
+        ([1_048_577.0; 9], 0, 2, Refusal::OffGrid),
+    ] {
+        assert_eq!(fc2::replace_block_fc2(&mut fc, &mut sums, block, i, 1, n), Err(refusal));
+    }
+    assert_eq!((fc.clone(), sums.clone()), (counting(36), counting(18)));
+    fc[9 + 4] = 0.1; // the old block (0, 1)
+    assert_eq!(fc2::replace_block_fc2(&mut fc, &mut sums, [0.0; 9], 0, 1, 2), Err(Refusal::OffGrid));
+    assert_eq!(fc2::replace_block_fc2(&mut fc, &mut sums, [0.0; 9], 0, 0, 2), Ok(()));
 }
 
 #[test]

@@ -24,6 +24,8 @@ pub enum Refusal {
     NotARoll,
     // 8: the result would pass a roll's limits or the lent length
     NoRoom,
+    // 10: an entry of the old block or of the incoming one is off the grid
+    OffGrid,
 }
 
 // What a call answers: done, or the first refusal that applies.
@@ -45,6 +47,7 @@ pub fn refusal_number(r: Refusal) -> u8
         Refusal::BadShiftTables => 6,
         Refusal::NotARoll => 7,
         Refusal::NoRoom => 8,
+        Refusal::OffGrid => 10,
     }
 }
 

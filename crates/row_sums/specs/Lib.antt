@@ -1,0 +1,4 @@
+pub mod RowSums
+pub mod Calls
+pub mod Rows
+pub mod Right
