@@ -67,7 +67,7 @@ fn entry<C: Call>(r: &mut Rng, call: &mut C) {
     if let Numbers::Integers(v) = &mut lent.numbers {
         if !v.is_empty() {
             let at = [0, v.len() - 1, r.below(v.len())][r.below(3)];
-            v[at] = [-1, i64::MIN, count, count - 1, i64::MAX, count.wrapping_add(1)][r.below(6)];
+            v[at] = [-1, i64::MIN, count, count.wrapping_sub(1), i64::MAX, count.wrapping_add(1)][r.below(6)];
         }
     }
 }
