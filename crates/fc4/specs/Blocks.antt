@@ -22,7 +22,7 @@ use Rattle.orbits.specs.Blockwise.{blockAtoms, storedAtoms, openedAtoms, atomsA
 use Rattle.orbits.specs.Transposed.{counterpart, counterpart-below, size-blocks}
 use Rattle.orbits.specs.AtBlocks.{whole-p2s, whole-block}
 use Rattle.orbits.specs.Groups.{groupBlocks}
-use Rattle.fc4_groups.specs.Positions.{permutationAt, in81, is-permutation}
+use Rattle.positions.specs.Positions.{permutationAt, in81, is-permutation}
 use Rattle.fc4_groups.specs.Mean.{Blocks24, count24}
 
 -- the six permutations that begin with atom w; f gives the block of a first atom and the three others

@@ -10,7 +10,7 @@ ghost use Rattle.places.specs.Whole.{whole};
 ghost use Rattle.places.specs.ReadOuts.{Tables, storedIn};
 ghost use Rattle.orbits.specs.Groups.{groupBlocks};
 ghost use Rattle.orbits.specs.Spread.{setAll};
-ghost use Rattle.fc4_groups.specs.Positions.{addressTable};
+ghost use Rattle.positions.specs.Positions.{addressTable};
 ghost use Rattle.fc4_groups.specs.Mean.{Blocks24};
 ghost use Rattle.fc4.specs.Blocks.{sixFrom, joinedOf};
 ghost use Rattle.fc4.specs.Loops.{Marks24, takenBlocks};

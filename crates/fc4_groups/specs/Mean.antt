@@ -13,12 +13,11 @@ use Rattle.lists.specs.Elements.{getD-map}
 use Rattle.blocks.specs.Block.{block, putBlock, getD-block, length-block, length-putBlock, put-inside, put-outside}
 use Rattle.places.specs.Permutations.{twentyFour}
 use Rattle.orbits.specs.Blockwise.{inBlock}
-use Rattle.orbits.specs.Transposed.{permuted-is-below}
 use Rattle.blocks.specs.Permuted.{permuted}
 use Rattle.orbits.specs.Groups.{spots, meanBlock}
 use Rattle.lists.specs.Floats.{sumFrom}
 use Rattle.fc4_groups.specs.Mean24.{mean24}
-use Rattle.fc4_groups.specs.Positions.{permutationAt, in81, is-permutation}
+use Rattle.positions.specs.Positions.{permutationAt, in81, permuted-in}
 
 -- 24 blocks of a set of n numbers
 pub record Blocks24 (n : ℕ) (bs : List ℕ) : Type 0 where
@@ -103,9 +102,6 @@ module _ (bs : List ℕ) (e : length bs ≡ 24) (k : ℕ) where
   spot-is s h = getD-spots 3 twentyFour bs k s (e ∙ sym count24) (rw count24 h) ∙ ap (λ c. getD bs s 0 * c + permuted 3 (getD twentyFour s []) k) in81
 
 -- ---- the means of a group
-
-pub permuted-in : (s k : ℕ) → s < 24 → k < 81 → permuted 3 (permutationAt s) k < 81
-permuted-in s k hs hk = rw in81 at (permuted-is-below 3 (permutationAt s) k (is-permutation s hs) (rw in81 hk))
 
 module _ (xs : List Float) (bs : List ℕ) (e : length bs ≡ 24) where
   -- each of the running sums by itself

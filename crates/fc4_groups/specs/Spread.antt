@@ -2,7 +2,7 @@
 -- the greatest position that is written there. That is what the stores position after position leave. Assumes nothing.
 use mathlib.Core.Path.{_≡_, refl, sym, ap, ap₂, _∙_}
 use mathlib.Core.Logic.{_⊎_, inl, inr}
-use mathlib.Core.Bool.{Bool, true, false, cond, _&&_}
+use mathlib.Core.Bool.{Bool, true, false, cond}
 use Prim.Native.Nat.{ℕ, zero, suc, _+_, _*_, _/_, _%_, _≤_, _<_, max}
 use native.Mathlib.Nat.{le-of-suc-le-suc, not-suc-le-zero, div-add-mod', mod-lt}
 use native.Mathlib.Decide.{ℕ-discrete, decLe}
@@ -13,27 +13,20 @@ use lib.ListN.{length, getD, replicate, length-replicate, getD-replicate}
 use lib.Seq.{ext-getD}
 use lib.Ieee.{Float, nan}
 use borrow.Author.Tests.{eqb-true, eq-eqb, ne-eqb}
-use Rattle.lists.specs.Tests.{every, every-at, some, some-at, some-of, and-fst, and-snd, split, not-both}
-use Rattle.lists.specs.Tab.{tab, tabFrom, length-tab, getD-tab, is-tab, times}
-use Rattle.lists.specs.Elements.{pick, straight, all-at}
+use Rattle.lists.specs.Tests.{some, some-at, some-of, split, not-both}
+use Rattle.lists.specs.Tab.{tab, length-tab, getD-tab, is-tab, times}
 use Rattle.lists.specs.Digits.{quotient, remainder}
-use Rattle.lists.specs.Members.{In, alike, alike-true}
+use Rattle.lists.specs.Members.{In}
 use Rattle.blocks.specs.Block.{putBlock, length-putBlock, put-inside, put-outside}
 use Rattle.blocks.specs.Permuted.{permuted, permutedBlock}
-use Rattle.places.specs.Permutations.{Permutation, twentyFour}
+use Rattle.places.specs.Permutations.{twentyFour}
 use Rattle.orbits.specs.Blockwise.{inBlock}
 use Rattle.orbits.specs.Spread.{setAll}
 use Rattle.orbits.specs.Groups.{spots, meanBlock, spreadBlock}
-use Rattle.orbits.proofs.Scatter.{permuted-permuted, permuted-straight, length-stores, stores-at, stores-out}
-use Rattle.fc4_groups.specs.Positions.{permutationAt, in81, is-permutation}
-use Rattle.fc4_groups.specs.Mean.{spots-count, spot-is, permuted-in}
-
--- the numbers of the permutations that undo the 24
-abbrev pub inverses : List ℕ
-inverses = 0 ∷ 1 ∷ 2 ∷ 4 ∷ 3 ∷ 5 ∷ 6 ∷ 7 ∷ 12 ∷ 18 ∷ 13 ∷ 19 ∷ 8 ∷ 10 ∷ 14 ∷ 20 ∷ 16 ∷ 22 ∷ 9 ∷ 11 ∷ 15 ∷ 21 ∷ 17 ∷ 23 ∷ []
-
-unfoldable pub inverseOf : ℕ → ℕ
-inverseOf s = getD inverses s 0
+use Rattle.orbits.proofs.Scatter.{length-stores, stores-at, stores-out}
+use Rattle.positions.specs.Positions.{permutationAt, in81, permuted-in}
+use Rattle.positions.specs.Inverses.{inverseOf, inverse-below, there, back}
+use Rattle.fc4_groups.specs.Mean.{spots-count, spot-is}
 
 -- place by place the later of the position in m and the one that permutation s gives
 unfoldable pub laterOf : ℕ → List ℕ → List ℕ
@@ -66,43 +59,6 @@ pub record NextBlock (bs : List ℕ) (s r : ℕ) : Type 0 where
   pub from : s ≤ r
   pub to : r ≤ 24
   pub passed : (j : ℕ) → s ≤ j → j < r → (i : ℕ) × (i < j) × (getD bs i 0 ≡ getD bs j 0)
-
--- ---- the inverses
-
-pub inverse-at : {l : List ℕ} → l ≡ inverses → (s : ℕ) → getD l s 0 ≡ inverseOf s
-unfolding inverseOf
-inverse-at e s = ap (λ l. getD l s 0) e
-
-pub inverse-below : (s : ℕ) → s < 24 → inverseOf s < 24
-unfolding inverseOf
-inverse-below s h = all-at (λ i. i < 24) inverses s 0 (omega arith) h
-
-isUndone : ℕ → Bool
-isUndone s = alike (pick 0 (permutationAt s) (permutationAt (inverseOf s))) (straight 4) && alike (pick 0 (permutationAt (inverseOf s)) (permutationAt s)) (straight 4)
-
-all-undone : every 24 isUndone ≡ true
-unfolding every isUndone alike pick permutationAt inverseOf straight tab tabFrom twentyFour
-all-undone = refl
-
-module _ (s k : ℕ) (hs : s < 24) (hk : k < 81) where
-  abbrev σ : List ℕ
-  σ = permutationAt s
-
-  abbrev τ : List ℕ
-  τ = permutationAt (inverseOf s)
-
-  undo : (ρ π : List ℕ) → pick 0 ρ π ≡ straight 4 → Permutation 3 ρ → Permutation 3 π → permuted 3 ρ (permuted 3 π k) ≡ k
-  undo ρ π e o p = permuted-permuted 3 ρ π k o p (rw in81 hk) ∙ ap (λ π. permuted 3 π k) e ∙ permuted-straight 3 k (rw in81 hk)
-
-  pub there : permuted 3 (permutationAt s) (permuted 3 (permutationAt (inverseOf s)) k) ≡ k
-  unfolding isUndone
-  there = undo σ τ (alike-true (pick 0 σ τ) (straight 4) (and-fst (alike (pick 0 σ τ) (straight 4)) (alike (pick 0 τ σ) (straight 4)) (every-at 24 isUndone all-undone s hs)))
-      (is-permutation s hs) (is-permutation (inverseOf s) (inverse-below s hs))
-
-  pub back : permuted 3 (permutationAt (inverseOf s)) (permuted 3 (permutationAt s) k) ≡ k
-  unfolding isUndone
-  back = undo τ σ (alike-true (pick 0 τ σ) (straight 4) (and-snd (alike (pick 0 σ τ) (straight 4)) (alike (pick 0 τ σ) (straight 4)) (every-at 24 isUndone all-undone s hs)))
-      (is-permutation (inverseOf s) (inverse-below s hs)) (is-permutation s hs)
 
 -- ---- members by their places
 

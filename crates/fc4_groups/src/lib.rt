@@ -4,11 +4,10 @@ ghost use lib.ListN.{length};
 ghost use Rattle.places.specs.Permutations.{twentyFour};
 ghost use Rattle.orbits.specs.Groups.{meanBlock, spreadBlock};
 ghost use Rattle.fc4_groups.specs.Mean24.{mean24};
-ghost use Rattle.fc4_groups.specs.Positions.{addressTable};
+ghost use Rattle.positions.specs.Positions.{addressTable};
 ghost use Rattle.fc4_groups.specs.Mean.{Blocks24};
 
 mod mean;
-pub mod positions;
 mod spread;
 
 use mean::group_means;

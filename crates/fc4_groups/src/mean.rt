@@ -6,10 +6,10 @@ ghost use lib.ListN.{length, getD};
 ghost use Rattle.places.specs.Permutations.{twentyFour};
 ghost use Rattle.orbits.specs.Groups.{meanBlock};
 ghost use Rattle.fc4_groups.specs.Mean24.{mean24};
-ghost use Rattle.fc4_groups.specs.Positions.{addressTable};
+ghost use Rattle.positions.specs.Positions.{addressTable};
 ghost use Rattle.fc4_groups.specs.Mean.{Blocks24, Group24, groupOf, addedNine, nineSums, divided as dividedOf};
-use crate::positions::entry;
 use places::with_leg;
+use positions::entry;
 
 // The 24 blocks of a group, as values.
 fn read_group(fc4: &[f64], bs: &[usize; 24]) -> [[f64; 81]; 24]

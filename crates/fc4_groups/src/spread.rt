@@ -5,10 +5,11 @@ ghost use Prim.Native.Nat.{_<_, _≤_, max};
 ghost use lib.ListN.{length, getD};
 ghost use Rattle.places.specs.Permutations.{twentyFour};
 ghost use Rattle.orbits.specs.Groups.{spreadBlock};
-ghost use Rattle.fc4_groups.specs.Positions.{addressTable};
+ghost use Rattle.positions.specs.Positions.{addressTable};
 ghost use Rattle.fc4_groups.specs.Mean.{Blocks24};
-ghost use Rattle.fc4_groups.specs.Spread.{inverses, laterOf, sourcesOf, NextBlock};
-use crate::positions::entry;
+ghost use Rattle.positions.specs.Inverses.{inverses};
+ghost use Rattle.fc4_groups.specs.Spread.{laterOf, sourcesOf, NextBlock};
+use positions::entry;
 
 // The permutations that undo the 24, by their numbers.
 const INVERSES: [usize; 24] = [

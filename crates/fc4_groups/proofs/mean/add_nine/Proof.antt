@@ -9,8 +9,8 @@ use borrow.Author.Count.{below-none}
 use borrow.Author.Needs.{needs}
 use Rattle.lists.specs.Tab.{fill-more, is-tab}
 use Rattle.blocks.specs.Permuted.{permuted}
-use Rattle.fc4_groups.specs.Positions.{permutationAt}
-use Rattle.fc4_groups.specs.Mean.{addedNine, permuted-in}
+use Rattle.positions.specs.Positions.{permutationAt, permuted-in}
+use Rattle.fc4_groups.specs.Mean.{addedNine}
 use Rattle.fc4_groups.proofs.mean.add_nine.Statement.{statement}
 use Rattle.fc4_groups.proofs.mean.add_nine.Tie as tie
 

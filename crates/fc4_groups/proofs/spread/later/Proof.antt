@@ -7,7 +7,7 @@ use borrow.Author.Count.{below-none}
 use borrow.Author.Needs.{needs}
 use Rattle.lists.specs.Tab.{fill-more, is-tab}
 use Rattle.blocks.specs.Permuted.{permuted}
-use Rattle.fc4_groups.specs.Positions.{permutationAt}
+use Rattle.positions.specs.Positions.{permutationAt}
 use Rattle.fc4_groups.specs.Spread.{laterOf}
 use Rattle.fc4_groups.proofs.spread.later.Statement.{statement}
 use Rattle.fc4_groups.proofs.spread.later.Tie as tie

@@ -6,7 +6,8 @@ use mathlib.Core.Logic.{⊎-elim}
 use lib.ListN.{replicate}
 use borrow.Author.Needs.{needs}
 use Rattle.lists.specs.Tab.{times, times-none, times-more}
-use Rattle.fc4_groups.specs.Spread.{laterIfShared, sourcesOf, inverse-at, inverse-below, not-shared, is-shared}
+use Rattle.positions.specs.Inverses.{inverse-at, inverse-below}
+use Rattle.fc4_groups.specs.Spread.{laterIfShared, sourcesOf, not-shared, is-shared}
 use Rattle.fc4_groups.proofs.spread.sources.Statement.{statement}
 use Rattle.fc4_groups.proofs.spread.sources.Tie as tie
 

@@ -1,12 +1,12 @@
--- The table of positions over the 24 permutations of four legs and the 81 positions of a block, and its rule. Assumes nothing.
-use mathlib.Core.Path.{_≡_, refl, sym, ap, ap₂, _∙_}
+-- The table of direction addresses over the 24 permutations of four legs and the 81 positions of a block, and its rule. Assumes nothing.
+use mathlib.Core.Path.{_≡_, refl, ap, ap₂, _∙_}
 use Prim.Native.Nat.{ℕ, zero, suc, _+_, _*_, _/_, _%_, _≤_, _<_}
 use native.Mathlib.Omega.{arith}
 use mathlib.Core.List.{List, [], _∷_}
 use lib.ListN.{length, getD}
-use Rattle.lists.specs.Tab.{tab, tabFrom, getD-tab}
-use Rattle.lists.specs.Elements.{pick, all-at}
-use Rattle.lists.specs.Digits.{horner, room, rest, digits, quotient, remainder}
+use Rattle.lists.specs.Tab.{tab, getD-tab}
+use Rattle.lists.specs.Elements.{all-at}
+use Rattle.lists.specs.Digits.{room, quotient, remainder}
 use Rattle.lists.specs.Members.{in-all}
 use Rattle.places.specs.Permutations.{Permutation, Group, twentyFour, twentyFour-group}
 use Rattle.orbits.specs.Blockwise.{inBlock}
@@ -38,6 +38,9 @@ is-permutation s h = all-at (Permutation 3) twentyFour s [] (in-all (Permutation
     count : length twentyFour ≡ 24
     count = unfold twentyFour in refl
 
+pub permuted-in : (s k : ℕ) → s < 24 → k < 81 → permuted 3 (permutationAt s) k < 81
+permuted-in s k hs hk = rw in81 at (permuted-is-below 3 (permutationAt s) k (is-permutation s hs) (rw in81 hk))
+
 -- the rule at each entry
 module _ (t : List ℕ) (e : t ≡ addressTable) (s k : ℕ) (hs : s < 24) (hk : k < 81) where
   pub at-entry : getD t (s * 81 + k) 0 ≡ permuted 3 (permutationAt s) k
@@ -45,6 +48,3 @@ module _ (t : List ℕ) (e : t ≡ addressTable) (s k : ℕ) (hs : s < 24) (hk :
   at-entry =
       ap (λ t. getD t (s * 81 + k) 0) e ∙ getD-tab 1944 entryOf (s * 81 + k) 0 (omega arith)
       ∙ ap₂ (λ s k. permuted 3 (permutationAt s) k) (quotient 81 s k hk) (remainder 81 s k hk)
-
-  pub below-entry : getD t (s * 81 + k) 0 < 81
-  below-entry = rw at-entry (rw in81 at (permuted-is-below 3 (permutationAt s) k (is-permutation s hs) (rw in81 hk)))

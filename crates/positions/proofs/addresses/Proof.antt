@@ -5,9 +5,9 @@ use Rattle.lists.specs.Elements.{pick}
 use Rattle.lists.specs.Digits.{horner, rest, digits}
 use Rattle.places.specs.Permutations.{twentyFour}
 use Rattle.blocks.specs.Permuted.{permuted}
-use Rattle.fc4_groups.specs.Positions.{permutationAt, entryOf, addressTable}
-use Rattle.fc4_groups.proofs.positions.addresses.Statement.{statement}
-use Rattle.fc4_groups.proofs.positions.addresses.Tie as tie
+use Rattle.positions.specs.Positions.{permutationAt, entryOf, addressTable}
+use Rattle.positions.proofs.addresses.Statement.{statement}
+use Rattle.positions.proofs.addresses.Tie as tie
 
 returns : tie.Need-returns
 unfolding addressTable entryOf permutationAt permuted horner pick rest digits twentyFour tab tabFrom

@@ -2,9 +2,9 @@
 use mathlib.Core.Path.{ap, _∙_}
 use lib.ListN.{getD}
 use borrow.Author.Needs.{needs}
-use Rattle.fc4_groups.specs.Positions.{at-entry}
-use Rattle.fc4_groups.proofs.positions.entry.Statement.{statement}
-use Rattle.fc4_groups.proofs.positions.entry.Tie as tie
+use Rattle.positions.specs.Positions.{at-entry}
+use Rattle.positions.proofs.entry.Statement.{statement}
+use Rattle.positions.proofs.entry.Tie as tie
 
 with-leg-requires : tie.Need-with-leg-requires
 with-leg-requires c κs = search needs
