@@ -1,18 +1,21 @@
 /*
  * The dispatch desk's roll: lists one, begins one, appends to one.
  *   roll list FILE
+ *   roll list FILE SET
  *   roll new FILE
  *   roll append FILE delivery SET [LABEL]
  *   roll append FILE replacement SET EARLIER [LABEL]
  *   roll append FILE retirement SET [LABEL]
  * A roll is replaced as a whole: the new bytes are written to a file beside it, which then takes its name, so that nobody ever finds
  * half a roll. A file that is not a roll is named and left alone. Two desks that append at the same time wait for each other.
- * Exit status: 0 done, 7 and 8 as the library refuses, 1 everything else.
+ * With a set number the list says which set stands now for it.
+ * Exit status: 0 done, 7, 8 and 9 as the library refuses, 1 everything else.
  */
 #include "gullyfork.h"
 
 #include <errno.h>
 #include <fcntl.h>
+#include <inttypes.h>
 #include <stdio.h>
 #include <stdlib.h>
 #include <string.h>
@@ -32,7 +35,7 @@ static void fail(const char *name, const char *what)
 
 static int usage(void)
 {
-    fputs("usage: roll list FILE\n"
+    fputs("usage: roll list FILE [SET]\n"
           "       roll new FILE\n"
           "       roll append FILE delivery SET [LABEL]\n"
           "       roll append FILE replacement SET EARLIER [LABEL]\n"
@@ -63,7 +66,24 @@ static size_t read_bytes(int fd, const char *path, uint8_t *bytes)
     return n;
 }
 
+static size_t read_file(const char *path, uint8_t *bytes)
+{
+    int fd = open(path, O_RDONLY);
+    if (fd < 0)
+        fail(path, strerror(errno));
+    size_t n = read_bytes(fd, path, bytes);
+    close(fd);
+    return n;
+}
+
 /* ---- listing */
+
+static int told(void)
+{
+    if (fflush(stdout) != 0)
+        fail("the list", strerror(errno));
+    return 0;
+}
 
 static void print_label(const uint8_t *label, size_t n)
 {
@@ -82,12 +102,7 @@ static void print_label(const uint8_t *label, size_t n)
 static int list(const char *path)
 {
     static uint8_t bytes[MOST + 1];
-    int fd = open(path, O_RDONLY);
-    if (fd < 0)
-        fail(path, strerror(errno));
-    size_t n = read_bytes(fd, path, bytes);
-    close(fd);
-    size_t at = 0, records = 0, slots[6];
+    size_t n = read_file(path, bytes), at = 0, records = 0, slots[6];
     uint8_t answer;
     while ((answer = gf_read_roll(bytes, sizeof bytes, n, at, slots, 6)) == GF_DONE) {
         printf("%s %zu", kinds[slots[0]], slots[1]);
@@ -102,9 +117,32 @@ static int list(const char *path)
     if (answer != GF_ROLL_END)
         return not_a_roll(path);
     printf("%zu record%s, %zu bytes\n", records, records == 1 ? "" : "s", n);
-    if (fflush(stdout) != 0)
-        fail("the list", strerror(errno));
-    return 0;
+    return told();
+}
+
+/* "41: replaced, use 57" */
+static int ask(const char *path, uint32_t set)
+{
+    static uint8_t bytes[MOST + 1];
+    size_t n = read_file(path, bytes), use_set[1];
+    uint8_t answer = gf_stands_now(bytes, sizeof bytes, n, set, use_set, 1);
+    if (answer == GF_NOT_A_ROLL)
+        return not_a_roll(path);
+    if (answer == GF_NOT_LAWFUL) {
+        fprintf(stderr, "roll: %s: the records do not agree (refusal 9): one delivers a set that was delivered before, replaces or retires a"
+                " set that was not, or replaces one a second time\n", path);
+        return answer;
+    }
+    printf("%" PRIu32 ": ", set);
+    if (answer == GF_SET_UNKNOWN)
+        puts("unknown");
+    else if (answer == GF_SET_RETIRED)
+        puts("retired");
+    else if (use_set[0] == set)
+        puts("current");
+    else
+        printf("replaced, use %zu\n", use_set[0]);
+    return told();
 }
 
 /* ---- writing */
@@ -204,6 +242,8 @@ int main(int argc, char **argv)
 {
     if (argc == 3 && strcmp(argv[1], "list") == 0)
         return list(argv[2]);
+    if (argc == 4 && strcmp(argv[1], "list") == 0)
+        return ask(argv[2], number(argv[3]));
     if (argc == 3 && strcmp(argv[1], "new") == 0)
         return begin(argv[2]);
     if (argc < 5 || strcmp(argv[1], "append") != 0)

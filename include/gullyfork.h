@@ -16,7 +16,7 @@
  * ANSWERS
  *   Every call but gf_nint, gf_round and gf_sqrt takes every input and answers with a number. 0 says that its work is done. The six
  *   refusals, 1 to 6, are tried in the order of their numbers: all counts before any length, all lengths before any entry, and so on;
- *   the first that applies is answered. The calls on a roll have two more: 7 is looked at before all others, 8 after them; and
+ *   the first that applies is answered. The calls on a roll have three more: 7 is looked at before all others, 8 and 9 after them; and
  *   gf_replace_block_fc2 has 10, after 3. A refused call has written nothing: every slice is as it was. gf_is_roll answers with true or
  *   false.
  *   Limits, beyond which a count is refused: 1,024 atoms at second order and in matching, 256 at third, 64 at fourth, and the same
@@ -84,13 +84,16 @@ enum gf_answer {
     GF_BAD_SHIFT_TABLES = 6,   /* the shift tables break a rule */
     GF_NOT_A_ROLL = 7,         /* the bytes are not a roll, the count passes the slice, nothing starts there, or the record breaks the rules */
     GF_NO_ROOM = 8,            /* the roll would pass 1,000 records, 65,536 bytes or the lent slice */
+    GF_NOT_LAWFUL = 9,         /* gf_stands_now: a record delivers a set again, names one not delivered before, or replaces one a second time */
     GF_OFF_GRID = 10,          /* gf_replace_block_fc2: a number of the old block or of the new one is off the grid */
     GF_NOT_MATCHED = 64,       /* gf_compute_permutation: some slot is left free */
     GF_DRIFT_STILL = 65,       /* gf_drift_report: all sums are zero */
     GF_DRIFT_WORST = 66,       /* gf_drift_report: the worst sum is named */
     GF_DRIFT_NO_NUMBER = 67,   /* gf_drift_report: a sum is NaN */
     GF_ROLL_END = 68,          /* gf_read_roll: the trailer begins there */
-    GF_MATCH_NO_NUMBER = 69    /* gf_compute_permutation: some slot is left free, and a distance was NaN */
+    GF_MATCH_NO_NUMBER = 69,   /* gf_compute_permutation: some slot is left free, and a distance was NaN */
+    GF_SET_UNKNOWN = 70,       /* gf_stands_now: the set was never delivered */
+    GF_SET_RETIRED = 71        /* gf_stands_now: the set was retired, or one of those that replaced it */
 };
 
 /* Which sums a drift report names. */
@@ -517,6 +520,17 @@ uint8_t gf_append_roll(
     size_t count, uint8_t kind, uint32_t set, uint32_t earlier,
     const uint8_t *label, size_t label_len,
     size_t *new_count, size_t new_count_len);
+
+/*
+ * Which set stands now for a set number. A delivery and a replacement deliver their own set number. A set that was never delivered is
+ * unknown; a retired one is retired; a replaced one answers as the set that replaced it; any other is current, and use_set[0] is the
+ * number to use. GF_DONE: current; GF_SET_UNKNOWN and GF_SET_RETIRED leave the slot.
+ *   lent     count or more
+ *   use_set  1
+ * Refusals: 7 (no roll), then 2 (use_set), then 9 (a record delivers a number already delivered, or replaces or retires a set not
+ * delivered by an earlier record, or replaces one already replaced, whichever set was asked for).
+ */
+uint8_t gf_stands_now(const uint8_t *lent, size_t lent_len, size_t count, uint32_t set, size_t *use_set, size_t use_set_len);
 
 #ifdef __cplusplus
 }

@@ -1,7 +1,8 @@
 /*
- * Times the calls on a delivery roll beside a plain C program that walks and judges the same bytes once.
+ * Times the calls on a delivery roll beside plain C programs: one that walks and judges the same bytes once, and one that judges, fills a
+ * register of the sets and answers for one.
  *   cc -std=c99 -D_POSIX_C_SOURCE=199309L -O2 -I include -o target/roll_bench oracle/roll_bench.c target/staticlib/libcapi.a
- * Prints the rows of the table in docs/PERFORMANCE.md: the least of many runs.
+ * Prints the rows of the tables in docs/PERFORMANCE.md: the least of many runs.
  */
 #include "gullyfork.h"
 
@@ -100,12 +101,88 @@ static double least(uint64_t (*call)(const uint8_t *, size_t), size_t n, int run
 }
 
 /* one record more, and how many bytes the roll has then */
-static size_t grow(size_t n, size_t i)
+static size_t grow(size_t n, uint32_t set, uint32_t earlier)
 {
     size_t count[1] = {0};
-    if (gf_append_roll(lent, MOST, n, 1, (uint32_t)i + 1, 0, (const uint8_t *)"label of one", 12, count, 1) != GF_DONE)
+    if (gf_append_roll(lent, MOST, n, earlier ? 2 : 1, set, earlier, (const uint8_t *)"label of one", 12, count, 1) != GF_DONE)
         exit(1);
     return count[0];
+}
+
+static void reading(size_t size)
+{
+    size_t n = 8;
+    memset(lent, 0, sizeof lent);
+    for (uint32_t i = 1; i < size; i++)
+        n = grow(n, i, 0);
+    memcpy(copy, lent, sizeof copy);
+    double add = least(append, n, 1000);
+    memcpy(lent, copy, sizeof copy);
+    n = grow(n, (uint32_t)size, 0);
+    memcpy(copy, lent, sizeof copy);
+    if (plain(lent, n) == 0 || plain(lent, n) != walk(lent, n))
+        exit(1);
+    double c = least(plain, n, 2000), is = least(judge, n, 2000), all = least(walk, n, 50);
+    printf("| %zu | %zu | %.2f | %.2f | %.1f | %.2f | %.2f |\n", size, n, c, is, all, all / (double)size, add);
+}
+
+/* ---- which set stands now */
+
+static uint32_t sets[1000], replaced_by[1000];
+static size_t noted;
+
+/* where a set stands in the register; `noted` if it does not */
+static size_t find(uint32_t set)
+{
+    size_t i = 0;
+    while (i < noted && sets[i] != set)
+        i++;
+    return i;
+}
+
+/* the set to use for set 1, by a register that is searched from the front; the rolls here have no retirements */
+static uint64_t plain_standing(const uint8_t *b, size_t n)
+{
+    if (plain(b, n) == 0)
+        return 0;
+    size_t count = four(b + n - 8), at = 0, k;
+    noted = 0;
+    for (size_t i = 0; i < count; i++, at += 10 + b[at + 9]) {
+        uint32_t set = four(b + at + 1);
+        if (find(set) < noted)
+            return 0;
+        if (b[at] == 2) {
+            if ((k = find(four(b + at + 5))) == noted || replaced_by[k])
+                return 0;
+            replaced_by[k] = set;
+        }
+        sets[noted] = set;
+        replaced_by[noted++] = 0;
+    }
+    uint32_t set = 1;
+    while (replaced_by[k = find(set)])
+        set = replaced_by[k];
+    return set;
+}
+
+static uint64_t stands(const uint8_t *b, size_t n)
+{
+    size_t use[1];
+    return gf_stands_now(b, MOST, n, 1, use, 1) == GF_DONE ? use[0] : 0;
+}
+
+/* the records in `chains` chains, one record of each in turn; set 1 begins the first */
+static void standing(size_t size, size_t chains, const char *how)
+{
+    size_t n = 8;
+    memset(lent, 0, sizeof lent);
+    for (size_t i = 0; i < size; i++)
+        n = grow(n, (uint32_t)i + 1, i < chains ? 0 : (uint32_t)(i + 1 - chains));
+    memcpy(copy, lent, sizeof copy);
+    if (plain_standing(lent, n) == 0 || plain_standing(lent, n) != stands(lent, n))
+        exit(1);
+    double c = least(plain_standing, n, 200), now = least(stands, n, 50);
+    printf("| %zu | %s | %.2f | %.2f | %.1f |\n", size, how, c, now, now / c);
 }
 
 int main(void)
@@ -113,20 +190,14 @@ int main(void)
     static const size_t sizes[] = {10, 100, 1000};
     puts("| records | bytes | plain C, one walk | gf_is_roll | whole walk | for each record | appending the last one |");
     puts("|---|---|---|---|---|---|---|");
+    for (int k = 0; k < 3; k++)
+        reading(sizes[k]);
+    puts("\n| records | chains | plain C, a register | gf_stands_now | ratio |");
+    puts("|---|---|---|---|---|");
     for (int k = 0; k < 3; k++) {
-        size_t n = 8;
-        memset(lent, 0, sizeof lent);
-        for (size_t i = 0; i < sizes[k] - 1; i++)
-            n = grow(n, i);
-        memcpy(copy, lent, sizeof copy);
-        double add = least(append, n, 1000);
-        memcpy(lent, copy, sizeof copy);
-        n = grow(n, sizes[k] - 1);
-        memcpy(copy, lent, sizeof copy);
-        if (plain(lent, n) == 0 || plain(lent, n) != walk(lent, n))
-            return 1;
-        double c = least(plain, n, 2000), is = least(judge, n, 2000), all = least(walk, n, 50);
-        printf("| %zu | %zu | %.2f | %.2f | %.1f | %.2f | %.2f |\n", sizes[k], n, c, is, all, all / (double)sizes[k], add);
+        standing(sizes[k], sizes[k], "none: deliveries alone");
+        standing(sizes[k], 5, "five");
+        standing(sizes[k], 1, "one");
     }
     return 0;
 }

@@ -107,4 +107,7 @@ extern "C" {
         lent: *mut u8, lent_len: usize, count: usize, kind: u8, set: u32, earlier: u32, label: *const u8,
         label_len: usize, new_count: *mut usize, new_count_len: usize,
     ) -> u8;
+    pub fn gf_stands_now(
+        lent: *const u8, lent_len: usize, count: usize, set: u32, use_set: *mut usize, use_set_len: usize,
+    ) -> u8;
 }

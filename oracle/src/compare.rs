@@ -7,7 +7,7 @@ use crate::tally::Tally;
 use crate::{compare_common, compare_lists, compare_roll, compare_row_sums, compare_true, makers, port};
 
 /// Every public call, the lists of transposes, the read-outs of the true ones, whole rolls and series of edits, in the order in which they are compared.
-pub const CALLS: [&str; 33] = [
+pub const CALLS: [&str; 34] = [
     "nint",
     "round",
     "sqrt",
@@ -41,6 +41,7 @@ pub const CALLS: [&str; 33] = [
     "row_sums_fc2",
     "replace_block_fc2",
     "series of edits",
+    "stands_now",
 ];
 
 /// Of nint, round and sqrt so many patterns are tried for each call of the others.
@@ -82,6 +83,7 @@ fn run(tally: &mut Tally, r: &mut Rng, count: u64) {
         "row_sums_fc2" => compare_row_sums::run(tally, r, count, compare_row_sums::Name::RowSums),
         "replace_block_fc2" => compare_row_sums::run(tally, r, count, compare_row_sums::Name::ReplaceBlock),
         "series of edits" => compare_row_sums::series(tally, r, count),
+        "stands_now" => compare_roll::run(tally, r, count, compare_roll::Name::StandsNow),
         _ => compare_lists::same_order(tally, r, count),
     }
 }

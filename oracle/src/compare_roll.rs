@@ -1,11 +1,13 @@
 //! The calls on a delivery roll, by their C names, beside the model in roll.rs. The slots and their order after 7 and before 8 are
 //! include/gullyfork.h's.
 use crate::rng::Rng;
-use crate::roll::{appended, held, roll_of, Record, NOT_A_ROLL};
+use crate::roll::{appended, held, roll_of, standing, Record, Standing, NOT_A_ROLL};
 use crate::tally::Tally;
 use crate::{c_names, values};
 
 pub const END: u8 = 68;
+pub const UNKNOWN: u8 = 70;
+pub const RETIRED: u8 = 71;
 const WRONG_LENGTH: u8 = 2;
 
 #[derive(Clone, Copy, Debug, PartialEq)]
@@ -13,9 +15,10 @@ pub enum Name {
     IsRoll,
     ReadRoll,
     AppendRoll,
+    StandsNow,
 }
 
-/// A call with all that it is lent. `at` is the position of a read, `kind` to `label` the record to add.
+/// A call with all that it is lent. `at` is the position of a read, `record` the record to add, its set number the set asked for.
 #[derive(Clone, Debug)]
 pub struct Asked {
     pub name: Name,
@@ -33,6 +36,23 @@ impl Asked {
             Name::IsRoll => held(&self.lent, self.count).map_or(NOT_A_ROLL, |_| 0),
             Name::ReadRoll => self.model_read(),
             Name::AppendRoll => self.model_append(),
+            Name::StandsNow => self.model_standing(),
+        }
+    }
+
+    fn model_standing(&mut self) -> u8 {
+        let answer = standing(&self.lent, self.count, self.record.set);
+        if self.slots.len() != 1 && answer != Err(NOT_A_ROLL) {
+            return WRONG_LENGTH;
+        }
+        match answer {
+            Err(number) => number,
+            Ok(Standing::Unknown) => UNKNOWN,
+            Ok(Standing::Retired) => RETIRED,
+            Ok(Standing::Current(set)) => {
+                self.slots[0] = set as usize;
+                0
+            }
         }
     }
 
@@ -79,6 +99,7 @@ impl Asked {
                     lent.as_mut_ptr(), lent.len(), *count, *kind, *set, *earlier, label.as_ptr(), label.len(),
                     slots.as_mut_ptr(), slots.len(),
                 ),
+                Name::StandsNow => c_names::gf_stands_now(lent.as_ptr(), lent.len(), *count, *set, slots.as_mut_ptr(), slots.len()),
             }
         }
     }
@@ -176,15 +197,60 @@ fn damage(r: &mut Rng, bytes: &mut Vec<u8>) {
     }
 }
 
+/// Records that keep to 9 in three histories of four: each set is delivered once, and replaced once at most or retired after that. Some
+/// have set numbers of four bytes or in no order, and one in 200 is as long as a roll may be, or one record longer.
+fn history(r: &mut Rng) -> Vec<Record> {
+    let mixed = [0, r.below(16) as u32, r.bits() as u32][r.below(3)];
+    let number = |k: usize| (k as u32 ^ mixed).max(1);
+    let many = if r.below(200) == 0 { 999 + r.below(3) } else { r.below(14) };
+    let spoiled = if r.below(4) == 0 { 1 + r.below(many + 1) } else { 0 };
+    let (mut records, mut known, mut heads) = (vec![], vec![], vec![]);
+    for k in 1..=many {
+        let kind = if known.is_empty() { 1 } else { [1, 2, 2, 3][r.below(4)] };
+        let mut record = Record { kind, set: number(k), earlier: 0, label: vec![] };
+        if kind == 3 {
+            record.set = known[r.below(known.len())];
+        }
+        if kind == 2 {
+            record.earlier = heads.swap_remove(r.below(heads.len()));
+        }
+        if k == spoiled && r.below(2) == 0 {
+            record.set = number(r.below(many + 2));
+        } else if k == spoiled && kind == 2 {
+            record.earlier = number(r.below(many + 2));
+        }
+        if kind != 3 {
+            known.push(record.set);
+            heads.push(record.set);
+        }
+        records.push(record);
+    }
+    records
+}
+
+/// The set asked for: most often one of the history.
+fn asked_for(r: &mut Rng, story: &[Record]) -> u32 {
+    match story.len() {
+        n if n > 0 && r.below(8) > 0 => story[r.below(n)].set,
+        _ => r.below(11) as u32,
+    }
+}
+
 pub fn make(r: &mut Rng, name: Name) -> Asked {
+    let story = if name == Name::StandsNow { history(r) } else { vec![] };
     let mut bytes = if r.below(400) == 0 {
         at_a_limit(r)
+    } else if !story.is_empty() {
+        roll(r, &story)
     } else {
         let records: Vec<Record> = (0..r.below(6)).map(|_| good(r)).collect();
         roll(r, &records)
     };
     (0..[0, 0, 0, 1, 2][r.below(5)]).for_each(|_| if !bytes.is_empty() { damage(r, &mut bytes) });
-    let record = any(r);
+    let mut record = any(r);
+    if name == Name::StandsNow {
+        record.set = asked_for(r, &story);
+    }
     let (n, needs) = (bytes.len(), 14 + record.label.len());
     let spare = [needs, needs, needs + r.below(30), needs.saturating_sub(1), r.below(needs + 1), 0][r.below(6)];
     bytes.extend((0..spare).map(|_| r.bits() as u8));
@@ -193,7 +259,7 @@ pub fn make(r: &mut Rng, name: Name) -> Asked {
         1 => [n.saturating_sub(1), n + 1, usize::MAX, 0][r.below(4)],
         _ => n,
     };
-    let fit = if name == Name::AppendRoll { 1 } else { 6 };
+    let fit = if name == Name::AppendRoll || name == Name::StandsNow { 1 } else { 6 };
     let slots = vec![9; if r.below(16) == 0 { r.below(8) } else { fit }];
     let at = position(r, &bytes, count);
     Asked { name, lent: bytes, count, at, record, slots }

@@ -1,4 +1,5 @@
-//! A delivery roll by the sentences of document 02, A.7, as plain Rust: nothing here is taken from the port.
+//! A delivery roll by the sentences of document 02, A.7 and A.8, as plain Rust: nothing here is taken from the port.
+use std::collections::HashMap;
 
 /// A record: kind 1 delivery, 2 replacement, 3 retirement.
 #[derive(Clone, Debug, PartialEq)]
@@ -19,6 +20,7 @@ pub const MOST_RECORDS: usize = 1000;
 pub const MOST_BYTES: usize = 65536;
 pub const NOT_A_ROLL: u8 = 7;
 pub const NO_ROOM: u8 = 8;
+pub const NOT_LAWFUL: u8 = 9;
 
 impl Record {
     /// Set numbers start at 1; the earlier number is zero except for kind 2, where it is not; the label's length is one byte.
@@ -105,6 +107,57 @@ pub fn appended(lent: &[u8], count: usize, record: Record) -> Result<Vec<u8>, u8
     Ok(bytes)
 }
 
+/// What a roll answers for a set.
+#[derive(Debug, PartialEq)]
+pub enum Standing {
+    Unknown,
+    Retired,
+    Current(u32),
+}
+
+/// What the register notes of a set that was delivered.
+#[derive(Default)]
+struct Noted {
+    retired: bool,
+    replaced_by: Option<u32>,
+}
+
+/// The plain register of the records, by set; None where a record delivers a number already delivered, or replaces or retires a set
+/// not delivered by an earlier record, or replaces one already replaced.
+fn register(records: &[Record]) -> Option<HashMap<u32, Noted>> {
+    let mut register: HashMap<u32, Noted> = HashMap::new();
+    for record in records {
+        if record.kind == 3 {
+            register.get_mut(&record.set)?.retired = true;
+            continue;
+        }
+        if record.kind == 2 && register.get_mut(&record.earlier)?.replaced_by.replace(record.set).is_some() {
+            return None;
+        }
+        if register.insert(record.set, Noted::default()).is_some() {
+            return None;
+        }
+    }
+    Some(register)
+}
+
+/// Retirement is looked at first; a replaced set answers as the set that replaced it.
+fn ask(register: &HashMap<u32, Noted>, set: u32) -> Standing {
+    match register.get(&set) {
+        None => Standing::Unknown,
+        Some(Noted { retired: true, .. }) => Standing::Retired,
+        Some(Noted { replaced_by: Some(next), .. }) => ask(register, *next),
+        Some(_) => Standing::Current(set),
+    }
+}
+
+/// Which set stands now, or the number of the refusal: 7, then 9.
+pub fn standing(lent: &[u8], count: usize, set: u32) -> Result<Standing, u8> {
+    let roll = held(lent, count).ok_or(NOT_A_ROLL)?;
+    let records: Vec<Record> = roll.records.into_iter().map(|(_, record)| record).collect();
+    register(&records).map(|register| ask(&register, set)).ok_or(NOT_LAWFUL)
+}
+
 #[cfg(test)]
 mod tests {
     use super::*;
@@ -122,6 +175,25 @@ mod tests {
         assert!(read_roll(&roll_of(&[delivery(2), delivery(0)], &[0, 0])).is_none());
         assert_eq!(appended(&two, two.len(), delivery(0)), Err(NO_ROOM));
         assert_eq!(appended(&two, two.len(), delivery(256)), Err(NOT_A_ROLL));
+    }
+
+    #[test]
+    fn standings() {
+        let record = |kind, set, earlier| Record { kind, set, earlier, label: vec![] };
+        let says = |records: &[Record], set| {
+            let bytes = roll_of(records, &(0..records.len()).collect::<Vec<_>>());
+            standing(&bytes, bytes.len(), set)
+        };
+        let chain = [record(1, 1, 0), record(2, 5, 1), record(2, 3, 5), record(1, 9, 0)];
+        assert_eq!([1, 5, 3, 9].map(|set| says(&chain, set)), [3, 3, 3, 9].map(|set| Ok(Standing::Current(set))));
+        assert_eq!([0, 2].map(|set| says(&chain, set)), [Ok(Standing::Unknown), Ok(Standing::Unknown)]);
+        let retired = [&chain[..], &[record(3, 5, 0), record(3, 5, 0)]].concat();
+        assert_eq!([1, 5].map(|set| says(&retired, set)), [Ok(Standing::Retired), Ok(Standing::Retired)]);
+        assert_eq!(says(&retired, 3), Ok(Standing::Current(3)));
+        for last in [record(1, 5, 0), record(2, 5, 3), record(2, 4, 4), record(2, 4, 7), record(2, 4, 1), record(3, 4, 0)] {
+            assert_eq!(says(&[&chain[..], &[last]].concat(), 9), Err(NOT_LAWFUL));
+        }
+        assert_eq!(standing(&[0; 7], 7, 1), Err(NOT_A_ROLL));
     }
 
     #[test]

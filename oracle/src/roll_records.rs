@@ -1,5 +1,5 @@
 //! Records for the replay program of a delivery roll: calls on small rolls, good, damaged and refused, and at the limits.
-use crate::compare_roll::{make, Asked, Name, END};
+use crate::compare_roll::{make, Asked, Name, END, RETIRED, UNKNOWN};
 use crate::record::{checksum, counted, Record, Replay};
 use crate::rng::Rng;
 use crate::roll::{self, roll_of};
@@ -19,7 +19,7 @@ fn based(name: Name, base: usize, label: usize, lent: usize, record: roll::Recor
     let mut bytes = roll_of(&records, &(0..base).collect::<Vec<_>>());
     let count = bytes.len();
     bytes.resize(lent, 0);
-    let slots = vec![9; if name == Name::AppendRoll { 1 } else { 6 }];
+    let slots = vec![9; if name == Name::ReadRoll || name == Name::IsRoll { 6 } else { 1 }];
     Based { asked: Asked { name, lent: bytes, count, at: 0, record, slots }, base, label }
 }
 
@@ -63,22 +63,26 @@ fn limits() -> Vec<Based> {
         call.asked.at = at;
         calls.push(call);
     }
+    for set in [1, 1000, 1001] {
+        calls.push(based(Name::StandsNow, 1000, 0, 65600, roll::Record { set, ..record(0) }));
+    }
     calls
 }
 
 pub fn replay() -> Replay {
     let mut r = Rng::new(77);
     let mut calls = limits();
-    for name in [Name::IsRoll, Name::ReadRoll, Name::AppendRoll] {
+    for name in [Name::IsRoll, Name::ReadRoll, Name::AppendRoll, Name::StandsNow] {
         let small: Vec<Based> = (0..400).map(|_| make(&mut r, name)).filter(|a| a.lent.len() < 400).take(300).map(drawn).collect();
         calls.extend(small);
     }
     let records: Vec<Record> = calls.iter().map(record).collect();
     let number = |k: u8| records.iter().filter(|r| r[1] == k as u64).count();
     let mut stdout = format!("delivery rolls: {} compared, 0 differ\nended well: {}\n", records.len(), number(0));
-    for k in [2, 7, 8] {
+    for k in [2, 7, 8, 9] {
         stdout += &format!("refused, {k}: {}\n", number(k));
     }
-    stdout += &format!("end: {}\nchecksum {}\n", number(END), checksum(&records));
-    Replay::new(records, stdout, 4)
+    stdout += &format!("end: {}\nunknown: {}\nretired: {}\n", number(END), number(UNKNOWN), number(RETIRED));
+    stdout += &format!("checksum {}\n", checksum(&records));
+    Replay::new(records, stdout, 6)
 }

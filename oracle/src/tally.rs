@@ -122,6 +122,8 @@ fn words(answer: u8) -> String {
         67 => "no number".into(),
         68 => "end".into(),
         69 => "not matched, no number".into(),
+        70 => "unknown".into(),
+        71 => "retired".into(),
         k => format!("refused by {k}:"),
     }
 }

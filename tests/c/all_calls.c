@@ -503,6 +503,29 @@ static void read_roll(void) {
     CHECK(!gf_is_roll(S(lent), sizeof lent) && gf_read_roll(S(lent), sizeof lent, 12, S(slots)) == GF_NOT_A_ROLL);
 }
 
+static void stands_now(void) {
+    uint8_t lent[200] = {0};
+    size_t count[] = {8}, set[] = {9};
+    const uint8_t *label = lent;
+    CHECK(gf_stands_now(S(lent), count[0], 7, S(set)) == GF_SET_UNKNOWN && set[0] == 9);
+    CHECK(gf_append_roll(S(lent), count[0], 1, 7, 0, label, 0, S(count)) == GF_DONE);
+    CHECK(gf_append_roll(S(lent), count[0], 2, 41, 7, label, 0, S(count)) == GF_DONE);
+    CHECK(gf_append_roll(S(lent), count[0], 2, 57, 41, label, 0, S(count)) == GF_DONE);
+    CHECK(gf_stands_now(S(lent), count[0], 7, S(set)) == GF_DONE && set[0] == 57);
+    CHECK(gf_stands_now(S(lent), count[0], 57, S(set)) == GF_DONE && set[0] == 57);
+    set[0] = 9;
+    CHECK(gf_stands_now(S(lent), count[0], 8, S(set)) == GF_SET_UNKNOWN);
+    CHECK(gf_stands_now(S(lent), count[0] - 1, 7, S(set)) == GF_NOT_A_ROLL);
+    CHECK(gf_stands_now(S(lent), count[0] - 1, 7, set, 0) == GF_NOT_A_ROLL);    /* 7 before 2 */
+    CHECK(gf_stands_now(S(lent), count[0], 7, set, 0) == GF_WRONG_LENGTH);
+    CHECK(gf_append_roll(S(lent), count[0], 3, 41, 0, label, 0, S(count)) == GF_DONE);
+    CHECK(gf_stands_now(S(lent), count[0], 7, S(set)) == GF_SET_RETIRED && set[0] == 9);   /* on the way to 57 */
+    CHECK(gf_stands_now(S(lent), count[0], 57, S(set)) == GF_DONE && set[0] == 57);
+    CHECK(gf_append_roll(S(lent), count[0], 2, 58, 41, label, 0, S(count)) == GF_DONE);    /* a second time */
+    CHECK(gf_stands_now(S(lent), count[0], 57, S(set)) == GF_NOT_LAWFUL);
+    CHECK(gf_stands_now(S(lent), count[0], 57, set, 2) == GF_WRONG_LENGTH);     /* 2 before 9 */
+}
+
 int main(void) {
     rounding();
     shift_tables();
@@ -520,6 +543,7 @@ int main(void) {
     fourth_order();
     append_roll();
     read_roll();
+    stands_now();
     printf("%d of %d hold\n", checks - failures, checks);
     return failures != 0;
 }

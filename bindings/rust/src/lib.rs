@@ -58,12 +58,14 @@ pub enum Refusal {
     NotARoll = 7,
     /// The roll would pass 1,000 records, 65,536 bytes or the lent slice.
     NoRoom = 8,
+    /// A record of the roll delivers a set again, names one not delivered before it, or replaces one a second time.
+    NotLawful = 9,
     /// A number of the old block or of the new one is off the grid.
     OffGrid = 10,
 }
 
 impl Refusal {
-    /// The number of the refusal, 1 to 8 or 10.
+    /// The number of the refusal, 1 to 10.
     pub fn number(self) -> u8 {
         self as u8
     }
@@ -80,6 +82,7 @@ impl fmt::Display for Refusal {
             Refusal::BadShiftTables => "the shift tables break a rule",
             Refusal::NotARoll => "the bytes are not a roll, nothing starts at the position, or the record breaks the rules",
             Refusal::NoRoom => "the roll would pass 1,000 records, 65,536 bytes or the lent slice",
+            Refusal::NotLawful => "a record delivers a set again, names one not delivered before it, or replaces one a second time",
             Refusal::OffGrid => "a number of the old block or of the new one is off the grid",
         };
         f.write_str(words)
@@ -100,8 +103,9 @@ fn answer(number: u8) -> Result<(), Refusal> {
         6 => Refusal::BadShiftTables,
         7 => Refusal::NotARoll,
         8 => Refusal::NoRoom,
+        9 => Refusal::NotLawful,
         10 => Refusal::OffGrid,
-        _ => unreachable!("the library answers with 0, 1 to 8 or 10 here, not with {number}"),
+        _ => unreachable!("the library answers with 0 to 10 here, not with {number}"),
     })
 }
 
@@ -123,7 +127,7 @@ fn rows(length: usize, row: usize) -> usize {
 mod tests {
     use super::*;
 
-    const NUMBERS: [u8; 9] = [1, 2, 3, 4, 5, 6, 7, 8, 10];
+    const NUMBERS: [u8; 10] = [1, 2, 3, 4, 5, 6, 7, 8, 9, 10];
 
     #[test]
     fn numbers_come_back() {

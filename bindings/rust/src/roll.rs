@@ -9,6 +9,7 @@
 //! count = roll::append(&mut file, count, roll::REPLACEMENT, 8, 7, b"")?;
 //! assert_eq!(roll::append(&mut file, count, roll::DELIVERY, 9, 7, b""), Err(Refusal::NotARoll));
 //! let records: Result<Vec<roll::Record>, Refusal> = roll::records(&file, count).collect();
+//! assert_eq!(roll::stands_now(&file, count, 7)?, roll::Standing::Current(8));
 //! assert_eq!(records?.iter().map(|r| (r.set, r.label)).collect::<Vec<_>>(), [(7, &b"spring"[..]), (8, b"")]);
 //! # Ok::<(), Refusal>(())
 //! ```
@@ -71,4 +72,25 @@ pub fn append(lent: &mut [u8], count: usize, kind: u8, set: u32, earlier: u32, l
     answer(number)?;
     let [long] = new_count;
     Ok(long)
+}
+
+/// What a roll answers for a set.
+#[derive(Clone, Copy, Debug, PartialEq, Eq)]
+pub enum Standing {
+    Unknown,
+    Retired,
+    /// The number to use.
+    Current(u32),
+}
+
+/// Which set stands now for `set`, by the roll in the first `count` bytes.
+pub fn stands_now(lent: &[u8], count: usize, set: u32) -> Result<Standing, Refusal> {
+    const UNKNOWN: u8 = 70;
+    const RETIRED: u8 = 71;
+    let mut use_set = [0];
+    match call!(gf_stands_now(&lent, count, set, &mut use_set)) {
+        UNKNOWN => Ok(Standing::Unknown),
+        RETIRED => Ok(Standing::Retired),
+        number => answer(number).map(|()| Standing::Current(use_set[0] as u32)),
+    }
 }

@@ -142,3 +142,23 @@ fn a_roll_that_is_none_is_left_alone() {
     assert_eq!(roll::read(&file, 40, 10), Err(Refusal::NotARoll));
     assert_eq!(roll::records(&file, 39).collect::<Vec<_>>(), [Err(Refusal::NotARoll)]);
 }
+
+#[test]
+fn which_set_stands_now() {
+    let mut file = vec![0u8; 200];
+    let mut count = roll::EMPTY.len();
+    let mut add = |file: &mut [u8], kind, set, earlier| {
+        count = roll::append(file, count, kind, set, earlier, b"").unwrap();
+        count
+    };
+    add(&mut file, roll::DELIVERY, 7, 0);
+    add(&mut file, roll::REPLACEMENT, 41, 7);
+    let chain = add(&mut file, roll::REPLACEMENT, 57, 41);
+    assert_eq!(roll::stands_now(&file, chain, 7), Ok(roll::Standing::Current(57)));
+    assert_eq!(roll::stands_now(&file, chain, 8), Ok(roll::Standing::Unknown));
+    assert_eq!(roll::stands_now(&file, chain - 1, 7), Err(Refusal::NotARoll));
+    let retired = add(&mut file, roll::RETIREMENT, 57, 0);
+    assert_eq!(roll::stands_now(&file, retired, 7), Ok(roll::Standing::Retired));
+    let twice = add(&mut file, roll::DELIVERY, 7, 0);
+    assert_eq!(roll::stands_now(&file, twice, 57), Err(Refusal::NotLawful));
+}

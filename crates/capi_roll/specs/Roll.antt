@@ -1,5 +1,5 @@
--- What the C names of a delivery roll answer and leave (document 02, A.7), on every input. A slot of a wrong length is refusal 2, which
--- comes after 7 and before 8. Assumes nothing.
+-- What the C names of a delivery roll answer and leave (document 02, A.7 and A.8), on every input. A slot of a wrong length is refusal 2,
+-- which comes after 7 and before 8 and 9. Assumes nothing.
 use mathlib.Core.Bool.{Bool, cond}
 use mathlib.Core.List.{List, [], _∷_}
 use Prim.Native.Nat.{ℕ, _+_}
@@ -14,6 +14,9 @@ use Rattle.roll_read.specs.declared.Item.the-variants.{Record, End, Refused}
 use Rattle.roll_append.specs.Calls.{numberOfAppended, judgedAppend, appended}
 use Rattle.roll_append.specs.declared.Appended.{Appended}
 use Rattle.roll_append.specs.declared.Appended.the-variants.{Count, Refused as RefusedBy}
+use Rattle.standing.specs.Register.{standingNumber, standsNow}
+use Rattle.standing.specs.declared.Standing.{Standing}
+use Rattle.standing.specs.declared.Standing.the-variants.{Unknown, Retired, Current, Refused as NotSaid}
 
 -- the answer where a slot has a wrong length, from the number that the call would give
 unfoldable pub sevenOrTwo : ℕ → ℕ
@@ -48,3 +51,15 @@ appendRoll s count r slot =
     let (a, left) = appended s count r in
     let (number, new) = reported a slot in
     cond (eqb (length slot) 1) (number, left, new) (sevenOrTwo (numberOfAppended (judgedAppend s count r)), s, slot)
+
+-- the answer for a set as C gets it: its number; the set to use goes to the slot, every other answer leaves it
+unfoldable pub named : Standing → List ℕ → ℕ × List ℕ
+named (Current n) slot = (0, n ∷ [])
+named Unknown slot = (70, slot)
+named Retired slot = (71, slot)
+named (NotSaid r) slot = (refusalNumber r, slot)
+
+unfoldable pub setNow : List ℕ → ℕ → ℕ → List ℕ → ℕ × List ℕ
+setNow s count x slot =
+    let a = standsNow (rollBytes s count) x in
+    cond (eqb (length slot) 1) (named a slot) (sevenOrTwo (standingNumber a), slot)

@@ -20,7 +20,10 @@ use Rattle.roll_read.specs.declared.Item.the-variants.{Record, End, Refused}
 use Rattle.roll_append.specs.Calls.{numberOfAppended, judgedAppend, appended}
 use Rattle.roll_append.specs.declared.Appended.{Appended}
 use Rattle.roll_append.specs.declared.Appended.the-variants.{Count, Refused as RefusedBy}
-use Rattle.capi_roll.specs.Roll.{sevenOrTwo, slotsOf, told, readRoll, reported, appendRoll}
+use Rattle.standing.specs.Register.{standingNumber, standsNow}
+use Rattle.standing.specs.declared.Standing.{Standing}
+use Rattle.standing.specs.declared.Standing.the-variants.{Unknown, Retired, Current, Refused as NotSaid}
+use Rattle.capi_roll.specs.Roll.{sevenOrTwo, slotsOf, told, readRoll, reported, appendRoll, named, setNow}
 
 pub is-seven : {n : ℕ} → n ≡ 7 → 7 ≡ sevenOrTwo n
 unfolding sevenOrTwo
@@ -114,3 +117,31 @@ module _ (s : List ℕ) (count : ℕ) (r : Entry) (slot : List ℕ) where
   pub append-slot : {n m : ℕ} {a : Appended} → (length slot ≡ 1 → ⊥) → a ≡ judgedAppend s count r → m ≡ numberOfAppended a → n ≡ sevenOrTwo m → (n, s, slot) ≡ appendRoll s count r slot
   unfolding appendRoll
   append-slot l p h k = rw (ne-eqb (length slot) 1 l) (ap (λ x. (x, s, slot)) (k ∙ ap sevenOrTwo (h ∙ ap numberOfAppended p)))
+
+-- ---- which set stands now
+
+module _ (slot : List ℕ) {a : Standing} where
+  pub named-current : {n : ℕ} → length slot ≡ 1 → a ≡ Current n → (0, set slot 0 n) ≡ named a slot
+  unfolding named
+  named-current {n} l q = ap (λ (x : List ℕ). (0, x)) (one-slot slot n l) ∙ ap (λ (x : Standing). named x slot) (sym q)
+
+  pub named-unknown : a ≡ Unknown → (70, slot) ≡ named a slot
+  unfolding named
+  named-unknown q = ap (λ (x : Standing). named x slot) (sym q)
+
+  pub named-retired : a ≡ Retired → (71, slot) ≡ named a slot
+  unfolding named
+  named-retired q = ap (λ (x : Standing). named x slot) (sym q)
+
+  pub named-refused : {r : Refusal} {n : ℕ} → a ≡ NotSaid r → n ≡ refusalNumber r → (n, slot) ≡ named a slot
+  unfolding named
+  named-refused q h = ap (λ (x : ℕ). (x, slot)) h ∙ ap (λ (x : Standing). named x slot) (sym q)
+
+module _ (s : List ℕ) (count x : ℕ) (slot : List ℕ) {a : Standing} (e : a ≡ standsNow (rollBytes s count) x) where
+  pub set-told : {n : ℕ} {z : List ℕ} → length slot ≡ 1 → (n, z) ≡ named a slot → (n, z) ≡ setNow s count x slot
+  unfolding setNow
+  set-told l h = rw (eq-eqb (length slot) 1 l) (h ∙ ap (λ (y : Standing). named y slot) e)
+
+  pub set-slot : {n m : ℕ} → (length slot ≡ 1 → ⊥) → m ≡ standingNumber a → n ≡ sevenOrTwo m → (n, slot) ≡ setNow s count x slot
+  unfolding setNow
+  set-slot l h k = rw (ne-eqb (length slot) 1 l) (ap (λ (y : ℕ). (y, slot)) (k ∙ ap sevenOrTwo (h ∙ ap standingNumber e)))

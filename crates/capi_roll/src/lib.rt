@@ -1,4 +1,4 @@
-// C names over the crates roll, roll_read and roll_append. A slice is passed as a pointer and its length; include/gullyfork.h says the rest.
+// C names over the crates roll, roll_read, roll_append and standing. A slice is passed as a pointer and its length; include/gullyfork.h says the rest.
 ghost use mathlib.Core.Path.{_≡_};
 ghost use mathlib.Core.Bool.{cond};
 ghost use mathlib.Core.List.{[], _∷_};
@@ -7,10 +7,11 @@ ghost use lib.ListN.{length};
 ghost use Rattle.roll.specs.Format.{entry};
 ghost use Rattle.roll.specs.Reading.{holdsRoll};
 ghost use Rattle.roll_read.specs.Calls.{readAt};
-ghost use Rattle.capi_roll.specs.Roll.{sevenOrTwo, told, reported, readRoll, appendRoll};
+ghost use Rattle.capi_roll.specs.Roll.{sevenOrTwo, told, reported, named, readRoll, appendRoll, setNow};
 use roll::numbers::wide;
 use roll_append::Appended;
 use roll_read::Item;
+use standing::Standing;
 
 // Whether the first count bytes of the lent slice are there and are a roll.
 #[no_mangle]
@@ -124,4 +125,33 @@ pub extern "C" fn gf_append_roll(
     }
     let a = roll_append::judge_append(lent, count, kind, set as usize, earlier as usize, label);
     seven_or_two(roll_append::number_of_appended(a))
+}
+
+// Puts the set to use into the slot. Every other answer leaves it.
+fn name_set(a: Standing, slot: &mut [usize]) -> u8
+    requires { ⌜ length (now slot) ≡ 1 ⌝ }
+    ensures { λ r. ⌜ (r, now (slot .exit)) ≡ named a (now (slot .entry)) ⌝ }
+{
+    match a {
+        Standing::Unknown => 70,
+        Standing::Retired => 71,
+        Standing::Current(set) => {
+            slot[0] = set as usize;
+            0
+        }
+        Standing::Refused(r) => tables::refusal_number(r),
+    }
+}
+
+// Which set stands now for a set, by the roll in the first count bytes of the lent slice: 0 with the set to use in the slot, 70 unknown,
+// 71 retired, 7 or 9.
+#[no_mangle]
+pub extern "C" fn gf_stands_now(lent: &[u8], count: usize, set: u32, slot: &mut [usize]) -> u8
+    ensures { λ r. ⌜ (r, now (slot .exit)) ≡ setNow (now (lent .entry)) count set (now (slot .entry)) ⌝ }
+{
+    let a = standing::stands_now(lent, count, set);
+    if slot.len() == 1 {
+        return name_set(a, slot);
+    }
+    seven_or_two(standing::standing_number(a))
 }

@@ -7,6 +7,7 @@ ghost use Prim.Native.Nat.{_≤_};
 use capi_roll::gf_append_roll;
 use capi_roll::gf_is_roll;
 use capi_roll::gf_read_roll;
+use capi_roll::gf_stands_now;
 use records::steps::after;
 use records::steps::count_of;
 use records::steps::first;
@@ -18,12 +19,20 @@ use records::values::mix_bytes;
 use records::wide;
 use replays::Tally;
 
-// What was compared so far, and how many answers were 7, 8 and the end.
-struct Counts {
-    all: Tally,
+// How many answers were 7, 8, 9, the end, unknown and retired.
+struct Numbers {
     not_a_roll: u64,
     no_room: u64,
+    not_lawful: u64,
     end: u64,
+    unknown: u64,
+    retired: u64,
+}
+
+// What was compared so far.
+struct Counts {
+    all: Tally,
+    of: Numbers,
 }
 
 // Byte number k of the record, 0 past its end.
@@ -96,7 +105,15 @@ fn answer(r: &[u8], lent: &mut [u8], slots: &mut [usize], label: &[u8]) -> u64 {
     if call == 1 {
         return wide(gf_read_roll(lent, count_of(r, 5), count_of(r, 6), slots));
     }
-    append(r, lent, slots, label)
+    if call == 2 {
+        return append(r, lent, slots, label);
+    }
+    wide(gf_stands_now(
+        lent,
+        count_of(r, 5),
+        set_number(records::word_of(r, 7)),
+        slots,
+    ))
 }
 
 // The checksum over the slots.
@@ -110,16 +127,27 @@ fn mix_slots(slots: &[usize]) -> u64 {
     g
 }
 
+// The numbers with one answer more.
+fn counted(n: Numbers, a: u64) -> Numbers {
+    Numbers {
+        not_a_roll: plus(n.not_a_roll, is(a, 7)),
+        no_room: plus(n.no_room, is(a, 8)),
+        not_lawful: plus(n.not_lawful, is(a, 9)),
+        end: plus(n.end, is(a, 68)),
+        unknown: plus(n.unknown, is(a, 70)),
+        retired: plus(n.retired, is(a, 71)),
+    }
+}
+
 // The record r, whose slices are filled.
 fn compare(t: Counts, r: &[u8], lent: &mut [u8], slots: &mut [usize], label: &[u8]) -> Counts {
     let a = answer(r, lent, slots, label);
     let got = [a, mix_bytes(lent, 0), mix_slots(slots)];
     let before = t.all;
+    let of = t.of;
     Counts {
         all: replays::compared(before, r, a, &got),
-        not_a_roll: plus(t.not_a_roll, is(a, 7)),
-        no_room: plus(t.no_room, is(a, 8)),
-        end: plus(t.end, is(a, 68)),
+        of: counted(of, a),
     }
 }
 
@@ -171,6 +199,7 @@ fn read_page(so_far: Counts) -> Counts {
 
 fn report(t: Counts) {
     let all = t.all;
+    let of = t.of;
     let answers = all.answers;
     io::write_all(1, b"delivery rolls: ");
     io::print_decimal(1, all.seen);
@@ -179,22 +208,33 @@ fn report(t: Counts) {
     io::write_all(1, b" differ\n");
     replays::line(b"ended well: ", answers[0]);
     replays::line(b"refused, 2: ", answers[2]);
-    replays::line(b"refused, 7: ", t.not_a_roll);
-    replays::line(b"refused, 8: ", t.no_room);
-    replays::line(b"end: ", t.end);
+    replays::line(b"refused, 7: ", of.not_a_roll);
+    replays::line(b"refused, 8: ", of.no_room);
+    replays::line(b"refused, 9: ", of.not_lawful);
+    replays::line(b"end: ", of.end);
+    replays::line(b"unknown: ", of.unknown);
+    replays::line(b"retired: ", of.retired);
     replays::line(b"checksum ", all.sum);
 }
 
-// No file has more than four pages: the report would not have the records of a fifth.
+// No file has more than six pages: the report would not have the records of a seventh.
 fn main() {
-    let none = Counts {
-        all: replays::none(),
+    let of = Numbers {
         not_a_roll: 0,
         no_room: 0,
+        not_lawful: 0,
         end: 0,
+        unknown: 0,
+        retired: 0,
+    };
+    let none = Counts {
+        all: replays::none(),
+        of,
     };
     let a = read_page(none);
     let b = read_page(a);
     let c = read_page(b);
-    report(read_page(c));
+    let d = read_page(c);
+    let e = read_page(d);
+    report(read_page(e));
 }

@@ -24,6 +24,9 @@ pub enum Refusal {
     NotARoll,
     // 8: the result would pass a roll's limits or the lent length
     NoRoom,
+    // 9: a record delivers a number already delivered, or replaces or retires a set not delivered by an earlier record, or replaces one
+    // already replaced
+    NotLawful,
     // 10: an entry of the old block or of the incoming one is off the grid
     OffGrid,
 }
@@ -47,6 +50,7 @@ pub fn refusal_number(r: Refusal) -> u8
         Refusal::BadShiftTables => 6,
         Refusal::NotARoll => 7,
         Refusal::NoRoom => 8,
+        Refusal::NotLawful => 9,
         Refusal::OffGrid => 10,
     }
 }

@@ -27,7 +27,7 @@ add-if2-2 : tie.Need-add-if2-2
 add-if2-2 c = search needs
 
 returns-2 : tie.Need-returns-2
-returns-2 c = let a = c .before .before .before .before .before .args in label-cut (a .b .now) (a .at) (a .t) _ (c .before .wide .ensures .0) (c .if2 .taken)
+returns-2 c = let a = c .before .before .before .before .before .args in label-cut (a .b .now) (a .at) (a .t) (c .before .wide .result) (c .before .wide .ensures .0) (omega arith)
 
 shared-slice-read-wide-2 : tie.Need-shared-slice-read-wide-2
 shared-slice-read-wide-2 c = search needs
@@ -53,8 +53,9 @@ is-ruled-requires c κs = search needs
 returns-3 : tie.Need-returns-3
 returns-3 c =
     let a = c .before .before .before .before .before .before .before .before .before .before .args in
-    not-cut (a .b .now) (a .at) (a .t) _ _ _ _ _
-    (c .before .before .before .before .before .before .wide .ensures .0) (c .before .before .before .before .before .if2 .left)
+    let w = c .before .before .before .before .before .before .wide in
+    not-cut (a .b .now) (a .at) (a .t) (w .result) _ _ _ _
+    (w .ensures .0) (omega arith)
     (c .before .before .before .wide2 .ensures .0) (c .before .before .four .ensures .0) (c .before .four2 .ensures .0) (c .is-ruled .ensures)
 
 pub fits-spec : {M : Type 1} → statement M

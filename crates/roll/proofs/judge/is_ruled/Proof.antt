@@ -1,4 +1,5 @@
 -- `roll::judge::is_ruled` meets its contract. Assumes nothing.
+use native.Mathlib.Omega.{arith}
 use borrow.Author.Tests.{le-leb, lt-leb, eq-eqb, ne-eqb}
 use Rattle.roll.specs.Format.{ruled}
 use borrow.Author.Needs.{needs}
@@ -7,23 +8,31 @@ use Rattle.roll.proofs.judge.is_ruled.Tie as tie
 
 returns : tie.Need-returns
 unfolding ruled
-returns c = simp (lt-leb _ _ (c .if1 .taken))
+returns c = simp (lt-leb 1 (c .before .args .kind) (omega arith))
 
 returns-2 : tie.Need-returns-2
 unfolding ruled
-returns-2 c = simp (le-leb _ _ (c .before .if1 .left), lt-leb _ _ (c .if2 .taken))
+returns-2 c =
+    let a = c .before .before .args in
+    simp (le-leb 1 (a .kind) (omega arith), lt-leb (a .kind) 3 (omega arith))
 
 returns-3 : tie.Need-returns-3
 unfolding ruled
-returns-3 c = simp (le-leb _ _ (c .before .before .if1 .left), le-leb _ _ (c .before .if2 .left), lt-leb _ _ (c .if3 .taken))
+returns-3 c =
+    let a = c .before .before .before .args in
+    simp (le-leb 1 (a .kind) (omega arith), le-leb (a .kind) 3 (omega arith), lt-leb 1 (a .number) (omega arith))
 
 returns-4 : tie.Need-returns-4
 unfolding ruled
-returns-4 c = simp (le-leb _ _ (c .before .before .before .if1 .left), le-leb _ _ (c .before .before .if2 .left), le-leb _ _ (c .before .if3 .left), eq-eqb _ _ (c .if4 .taken))
+returns-4 c =
+    let a = c .before .before .before .before .args in
+    simp (le-leb 1 (a .kind) (omega arith), le-leb (a .kind) 3 (omega arith), le-leb 1 (a .number) (omega arith), eq-eqb (a .kind) 2 (omega arith))
 
 returns-5 : tie.Need-returns-5
 unfolding ruled
-returns-5 c = simp (le-leb _ _ (c .before .before .before .if1 .left), le-leb _ _ (c .before .before .if2 .left), le-leb _ _ (c .before .if3 .left), ne-eqb _ _ (c .if4 .left))
+returns-5 c =
+    let a = c .before .before .before .before .args in
+    simp (le-leb 1 (a .kind) (omega arith), le-leb (a .kind) 3 (omega arith), le-leb 1 (a .number) (omega arith), ne-eqb (a .kind) 2 (c .if4 .left))
 
 pub is-ruled-spec : {M : Type 1} → statement M
 is-ruled-spec = tie.close (tie.spec returns returns-2 returns-3 returns-4 returns-5)

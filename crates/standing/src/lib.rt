@@ -1,0 +1,199 @@
+// Which set stands now (document 02, A.8): the rules over a plain register, each entry of it read off the roll by a walk.
+ghost use mathlib.Core.Path.{_≡_};
+ghost use mathlib.Core.Bool.{true, _||_, cond};
+ghost use Prim.Native.Nat.{_+_, _≤_, _<_};
+ghost use lib.ListN.{length};
+ghost use Rattle.roll.specs.Reading.{start, entryAt, countOf, isRoll, rollBytes};
+ghost use Rattle.standing.specs.Register.{standingNumber, delivers, retires, replaces, allowed, answer, standsNow};
+ghost use Rattle.standing.specs.Walk.{recordOf, after, lawfulTo, Notes};
+use roll::judge::is_whole_roll;
+use roll::numbers::four;
+use roll::numbers::wide;
+use tables::Refusal;
+
+// What a roll answers for a set.
+pub enum Standing {
+    Unknown,
+    Retired,
+    // the number to use
+    Current(u32),
+    // 7: the bytes are not a roll; 9: a record delivers a number already delivered, or replaces or retires a set not delivered by an
+    // earlier record, or replaces one already replaced
+    Refused(Refusal),
+}
+
+// The number of an answer; 0 is a set to use.
+pub fn standing_number(a: Standing) -> u8
+    ensures { λ r. ⌜ r ≡ standingNumber a ⌝ }
+{
+    match a {
+        Standing::Unknown => 70,
+        Standing::Retired => 71,
+        Standing::Current(_) => 0,
+        Standing::Refused(r) => tables::refusal_number(r),
+    }
+}
+
+// What the register notes of one set.
+struct Found {
+    delivered: bool,
+    retired: bool,
+    by: usize,
+}
+
+// Whether the record at `at` delivers x: deliveries and replacements do.
+fn delivers_at(b: &[u8], at: usize, x: usize) -> bool
+    requires { ⌜ at + 10 ≤ length (now b) ⌝ }
+    ensures { λ r. ⌜ r ≡ delivers (entryAt (now (b .entry)) at) x ⌝ }
+{
+    if wide(b[at]) == 3 {
+        return false;
+    }
+    four(b, at + 1) == x
+}
+
+// Whether it retires x.
+fn retires_at(b: &[u8], at: usize, x: usize) -> bool
+    requires { ⌜ at + 10 ≤ length (now b) ⌝ }
+    ensures { λ r. ⌜ r ≡ retires (entryAt (now (b .entry)) at) x ⌝ }
+{
+    if wide(b[at]) != 3 {
+        return false;
+    }
+    four(b, at + 1) == x
+}
+
+// Whether it replaces x.
+fn replaces_at(b: &[u8], at: usize, x: usize) -> bool
+    requires { ⌜ at + 10 ≤ length (now b) ⌝ }
+    ensures { λ r. ⌜ r ≡ replaces (entryAt (now (b .entry)) at) x ⌝ }
+{
+    if wide(b[at]) != 2 {
+        return false;
+    }
+    four(b, at + 5) == x
+}
+
+fn either(x: bool, y: bool) -> bool
+    ensures { λ r. ⌜ r ≡ (x || y) ⌝ }
+{
+    if x {
+        return true;
+    }
+    y
+}
+
+// What replaced x when the record at `at` is noted too.
+fn replacer(b: &[u8], at: usize, x: usize, by: usize) -> usize
+    requires { ⌜ (at + 10 ≤ length (now b)) × (by < 4294967296) ⌝ }
+    ensures { λ r. ⌜ (r ≡ cond (replaces (entryAt (now (b .entry)) at) x) (entryAt (now (b .entry)) at .number) by) × (r < 4294967296) ⌝ }
+{
+    if replaces_at(b, at, x) {
+        return four(b, at + 1);
+    }
+    by
+}
+
+// What the register of the first n records of the roll b notes of x.
+fn look_up(b: &[u8], n: usize, x: usize) -> Found
+    requires { ⌜ (isRoll (now b) ≡ true) × (n ≤ countOf (now b)) ⌝ }
+    ensures { λ r. ⌜ Notes (after (recordOf (now (b .entry))) n) x (r .delivered) (r .retired) (r .by) ⌝ }
+{
+    let mut delivered = false;
+    let mut retired = false;
+    let mut by = 0;
+    let mut p = 0;
+    let mut i = 0;
+    while i < n {
+        delivered = either(delivered, delivers_at(b, p, x));
+        retired = either(retired, retires_at(b, p, x));
+        by = replacer(b, p, x, by);
+        p += 10 + wide(b[p + 9]);
+        i += 1;
+    }
+    Found {
+        delivered,
+        retired,
+        by,
+    }
+}
+
+// Whether 9 does not apply to record n, which starts at `at`.
+fn is_allowed(b: &[u8], n: usize, at: usize) -> bool
+    requires { ⌜ (isRoll (now b) ≡ true) × (n < countOf (now b)) × (at ≡ start (now b) n) ⌝ }
+    ensures { λ r. ⌜ r ≡ allowed (after (recordOf (now (b .entry))) n) (recordOf (now (b .entry)) n) ⌝ }
+{
+    let kind = wide(b[at]);
+    let own = look_up(b, n, four(b, at + 1));
+    if kind == 3 {
+        return own.delivered;
+    }
+    if own.delivered {
+        return false;
+    }
+    if kind != 2 {
+        return true;
+    }
+    let old = look_up(b, n, four(b, at + 5));
+    if !old.delivered {
+        return false;
+    }
+    old.by == 0
+}
+
+// Whether 9 applies to none of the n records.
+fn is_lawful(b: &[u8], n: usize) -> bool
+    requires { ⌜ (isRoll (now b) ≡ true) × (n ≡ countOf (now b)) ⌝ }
+    ensures { λ r. ⌜ r ≡ lawfulTo (recordOf (now (b .entry))) n ⌝ }
+{
+    let mut p = 0;
+    let mut i = 0;
+    while i < n {
+        if !is_allowed(b, i, p) {
+            return false;
+        }
+        p += 10 + wide(b[p + 9]);
+        i += 1;
+    }
+    true
+}
+
+// The rules, followed from set to set.
+fn follow(b: &[u8], n: usize, x: usize) -> Standing
+    requires { ⌜ (isRoll (now b) ≡ true) × (n ≡ countOf (now b)) × (x < 4294967296) ⌝ }
+    ensures { λ r. ⌜ r ≡ answer (n + 1) (after (recordOf (now (b .entry))) n) x ⌝ }
+{
+    let most = n + 1;
+    let mut y = x;
+    let mut k = 0;
+    while k < most {
+        let f = look_up(b, n, y);
+        if !f.delivered {
+            return Standing::Unknown;
+        }
+        if f.retired {
+            return Standing::Retired;
+        }
+        if f.by == 0 {
+            return Standing::Current(y as u32);
+        }
+        y = f.by;
+        k += 1;
+    }
+    Standing::Unknown
+}
+
+// Which set stands now for a set, by the roll in the first count bytes of the lent slice.
+pub fn stands_now(lent: &[u8], count: usize, set: u32) -> Standing
+    ensures { λ r. ⌜ r ≡ standsNow (rollBytes (now (lent .entry)) count) set ⌝ }
+{
+    let b = roll::roll_bytes(lent, count);
+    if !is_whole_roll(b) {
+        return Standing::Refused(Refusal::NotARoll);
+    }
+    let n = four(b, b.len() - 8);
+    if !is_lawful(b, n) {
+        return Standing::Refused(Refusal::NotLawful);
+    }
+    follow(b, n, set as usize)
+}
