@@ -7,7 +7,7 @@
 
 struct delivery {
     size_t n_satom, n_patom, num_trans;
-    double lattice[9];
+    double lattice[9];                      /* the vectors in the columns, as matching takes them */
     double *pos;                            /* n_satom * 3 */
     int64_t *p2s, *s2pp, *nsym_list, *perms; /* n_patom, n_satom, n_satom, num_trans * n_satom */
     double *fc2;                            /* n_satom * n_satom * 9 */
@@ -18,6 +18,11 @@ struct delivery {
 void *room(size_t count, size_t size);
 
 void read_delivery(const char *folder, struct delivery *d);
+
+/* whether both are names of one folder */
+int same_folder(const char *folder, const char *out);
+
+/* both sets or none; a set is replaced as a whole */
 void write_delivery(const char *folder, const struct delivery *d);
 void free_delivery(struct delivery *d);
 

@@ -5,12 +5,15 @@
  * fc3.f64 (compact set of third order); samples/README.md says what is in them. Prints the drift before and after,
  * how many orders of legs read out alike before and after, how many blocks each kind of transpose moves, what becomes of
  * damaged copies, and the time taken.
- * With OUT, writes the symmetrized sets to OUT/fc2.f64 and OUT/fc3.f64. Exit status 0 only if all went well.
+ * With OUT, another folder, writes the symmetrized sets to OUT/fc2.f64 and OUT/fc3.f64. Exit status 0 only if all went well: a
+ * number that is not finite or of no possible size, positions that the tables do not fit, drift that is left, orders that differ are
+ * each a fault in words, and with a fault nothing is written.
  */
 #include "gullyfork.h"
 #include "delivery.h"
 
 #include <math.h>
+#include <stdarg.h>
 #include <stdio.h>
 #include <stdlib.h>
 #include <string.h>
@@ -23,25 +26,24 @@ static double seconds(void)
     return (double)t.tv_sec + 1e-9 * (double)t.tv_nsec;
 }
 
-static const char *reason(uint8_t answer)
+static size_t faults;
+
+static void fault(const char *what, ...)
 {
-    switch (answer) {
-    case GF_DONE: return "done";
-    case GF_COUNT_ABOVE_LIMIT: return "a count is above its limit";
-    case GF_WRONG_LENGTH: return "a slice has another length than the counts ask for";
-    case GF_INDEX_OUT_OF_RANGE: return "an index table holds a negative number, or one that is not below its count";
-    case GF_BAD_SLAB: return "the two slabs are equal, or one is not there";
-    case GF_BAD_REPRESENTATIVE: return "a listed atom's representative does not represent itself, or is not listed";
-    case GF_BAD_SHIFT_TABLES: return "the shift tables break a rule";
-    default: return "not a refusal";
-    }
+    va_list args;
+    va_start(args, what);
+    fputs("FAULT: ", stdout);
+    vprintf(what, args);
+    putchar('\n');
+    va_end(args);
+    faults++;
 }
 
 /* a refusal ends the program; nothing has been written then */
 static void must(uint8_t answer, const char *what)
 {
     if (answer != GF_DONE) {
-        fprintf(stderr, "symmetrize: %s refused, %d: %s\n", what, answer, reason(answer));
+        fprintf(stderr, "symmetrize: %s refused, %d: %s\n", what, answer, gf_words(answer));
         exit(1);
     }
 }
@@ -52,6 +54,66 @@ static uint8_t symmetrize_third(const struct delivery *d, const int64_t *nsym_li
     return gf_set_permutation_symmetry_compact_fc3(
         fc3, len, d->p2s, d->n_patom, d->s2pp, d->n_satom, nsym_list, d->n_satom, d->perms,
         d->num_trans * d->n_satom, done, blocks, d->n_satom, d->n_patom, d->num_trans);
+}
+
+/* ---- the numbers as delivered */
+
+/* Force constants in any unit in use lie far within these; numbers whose bytes stand in the wrong order do not. */
+#define LARGEST 1e30
+#define SMALLEST 1e-290
+
+static double swapped(double x)
+{
+    unsigned char b[sizeof x];
+    memcpy(b, &x, sizeof x);
+    for (size_t i = 0; i < sizeof x / 2; i++) {
+        unsigned char c = b[i];
+        b[i] = b[sizeof x - 1 - i];
+        b[sizeof x - 1 - i] = c;
+    }
+    memcpy(&x, b, sizeof x);
+    return x;
+}
+
+/* whether the set, with the bytes of each number in the other order if asked, has a possible largest number; *first: one that it has not */
+static int possible(const double *set, size_t n, int swap, size_t *first)
+{
+    double largest = 0.0;
+    for (size_t q = 0; q < n; q++) {
+        double x = fabs(swap ? swapped(set[q]) : set[q]);
+        if (!(x <= largest)) {
+            largest = x;
+            *first = q;
+        }
+        if (!(x <= LARGEST))
+            return 0;
+    }
+    return largest == 0.0 || largest >= SMALLEST;
+}
+
+/* names the number by its atoms and directions; a set of the order 2 or 3 */
+static void impossible(const char *name, const double *set, size_t n_satom, size_t order, size_t q)
+{
+    size_t block = order == 2 ? 9 : 27, k = q % block, b = q / block;
+    if (order == 2)
+        fault("%s: the number of atoms %zu %zu, directions %zu %zu is %g", name, b / n_satom, b % n_satom, k / 3, k % 3, set[q]);
+    else
+        fault("%s: the number of atoms %zu (of the primitive cell) %zu %zu, directions %zu %zu %zu is %g", name, b / n_satom / n_satom,
+              b / n_satom % n_satom, b % n_satom, k / 9, k / 3 % 3, k % 3, set[q]);
+}
+
+static void judge_numbers(const char *name, const double *set, size_t n, size_t n_satom, size_t order)
+{
+    size_t first = 0, other = 0;
+    if (possible(set, n, 0, &first))
+        return;
+    impossible(name, set, n_satom, order, first);
+    if (isfinite(set[first]) && fabs(set[first]) > LARGEST)
+        printf("  no force constant is larger than %g\n", LARGEST);
+    else if (isfinite(set[first]))
+        printf("  it is the largest of the set, and no force constants are all that small\n");
+    if (possible(set, n, 1, &other))
+        printf("  with the bytes of each number in the other order all are possible: the file has the highest byte first, not the lowest\n");
 }
 
 /* ---- shift tables, and the same rows found by matching the positions */
@@ -87,13 +149,16 @@ static void match_rows(const struct delivery *d)
     for (size_t t = 0; t < d->num_trans; t++)
         same += (size_t)row_matches(d, t, shifted, row);
     printf("matching: %zu of %zu shifts send the positions as their row says\n", same, d->num_trans);
+    if (same != d->num_trans)
+        fault("cell.txt and tables.txt are not of one cell: %zu shifts send positions elsewhere than their row says", d->num_trans - same);
     free(shifted);
     free(row);
 }
 
 /* ---- second order */
 
-static void print_drift(const char *when, const double *fc2, size_t n)
+/* the worst drift: 0.0 if there is none, NaN if a sum is no number */
+static double print_drift(const char *when, const double *fc2, size_t n)
 {
     double value = 0.0;
     size_t place[4] = {0, 0, 0, 0};
@@ -107,17 +172,26 @@ static void print_drift(const char *when, const double *fc2, size_t n)
         printf("  %s: drift not a number along %s, atom %zu, directions %zu %zu\n", when, along, place[1], place[2], place[3]);
     else
         must(answer, "drift report");
+    return value;
 }
+
+/* what rounding leaves of the drift, as a part of the largest number */
+#define DRIFT_LEFT 1e-9
 
 static void second_order(struct delivery *d)
 {
     size_t n = d->n_satom;
+    double largest = 0.0;
+    for (size_t q = 0; q < n * n * 9; q++)
+        largest = fmax(largest, fabs(d->fc2[q]));
     printf("second order: full set of %zu numbers\n", n * n * 9);
     print_drift("before", d->fc2, n);
     double start = seconds();
     must(gf_perm_trans_symmetrize_fc(d->fc2, n * n * 9, n, 3), "perm_trans_symmetrize_fc");
     double taken = seconds() - start;
-    print_drift("after", d->fc2, n);
+    double left = print_drift("after", d->fc2, n);
+    if (!(left <= DRIFT_LEFT * largest))
+        fault("fc2.f64: the drift after symmetrizing is %g, the largest number %g", left, largest);
     printf("  symmetrized at level 3 in %.1f microseconds\n", 1e6 * taken);
 }
 
@@ -145,7 +219,9 @@ static int alike(const struct delivery *d, size_t x, size_t y, size_t z, double 
     int same = 1;
     for (int i = 1; i < 6; i++) {
         same &= same_bits(v[0], v[i]);
-        *widest = fmax(*widest, fabs(v[0] - v[i]));
+        double wide = fabs(v[0] - v[i]);
+        if (!(wide <= *widest)) /* a NaN too, and it stays */
+            *widest = wide;
     }
     return same;
 }
@@ -163,7 +239,7 @@ static size_t print_alike(const struct delivery *d, const char *when)
     return all - same;
 }
 
-static size_t third_order(struct delivery *d)
+static void third_order(struct delivery *d)
 {
     size_t blocks = d->n_patom * d->n_satom * d->n_satom;
     uint8_t *done = room(blocks, 1);
@@ -174,8 +250,9 @@ static size_t third_order(struct delivery *d)
     double taken = seconds() - start;
     size_t unlike = print_alike(d, "after");
     printf("  symmetrized in %.1f microseconds, the check of its shift tables among them\n", 1e6 * taken);
+    if (unlike != 0)
+        fault("fc3.f64: %zu triples read out differing bits after symmetrizing", unlike);
     free(done);
-    return unlike;
 }
 
 /* ---- transposes: the Rust's leave the blocks that a half shift exchanges, the true ones move every block */
@@ -203,7 +280,7 @@ static size_t moved(const struct delivery *old, const struct delivery *new)
 }
 
 /* one transpose of each kind, and a list of true ones followed by its inverse, each on a copy of the set as delivered */
-static int transposes(const struct delivery *d)
+static void transposes(const struct delivery *d)
 {
     static const int64_t list[] = {0, 1, 2, 2, 1, 0};
     size_t n = d->n_satom, numbers = d->n_patom * n * n * 27, legs = n * 3, all = legs * legs * legs;
@@ -223,14 +300,15 @@ static int transposes(const struct delivery *d)
     printf("transposes of type 0, as delivered: of %zu read-out entries %zu are right after the Rust's, %zu after the true one\n", all, by_old,
            by_true);
     printf("  true transposes 0, 1, 2, then 2, 1, 0: the bits are %s\n", back ? "as they were" : "NOT as they were");
+    if (by_true != all || !back)
+        fault("fc3.f64: the true transposes did not move every number");
     free(copy.fc3);
     free(done);
-    return by_true == all && back;
 }
 
 /* ---- damaged copies: each is refused with its reason, and the set that was lent is as it was */
 
-static int refuse(const struct delivery *d, const char *damage, const int64_t *nsym_list, size_t len)
+static void refuse(const struct delivery *d, const char *damage, const int64_t *nsym_list, size_t len)
 {
     size_t blocks = d->n_patom * d->n_satom * d->n_satom;
     double *set = room(blocks * 27, sizeof *set);
@@ -238,27 +316,26 @@ static int refuse(const struct delivery *d, const char *damage, const int64_t *n
     memcpy(set, d->fc3, blocks * 27 * sizeof *set);
     uint8_t answer = symmetrize_third(d, nsym_list, set, len, done);
     int kept = memcmp(set, d->fc3, blocks * 27 * sizeof *set) == 0;
-    printf("  %s: refusal %d, %s; the set is %s\n", damage, answer, reason(answer), kept ? "as it was" : "CHANGED");
+    printf("  %s: refusal %d, %s; the set is %s\n", damage, answer, gf_words(answer), kept ? "as it was" : "CHANGED");
+    if (answer == GF_DONE || !kept)
+        fault("a damaged copy was not refused, or was changed");
     free(set);
     free(done);
-    return answer != GF_DONE && kept;
 }
 
-static int damaged_copies(const struct delivery *d)
+static void damaged_copies(const struct delivery *d)
 {
     size_t n = d->n_satom, len = d->n_patom * n * n * 27;
     int64_t *list = room(n, sizeof *list);
-    int fine = 1;
     printf("damaged copies\n");
-    fine &= refuse(d, "one number short", d->nsym_list, len - 1);
+    refuse(d, "one number short", d->nsym_list, len - 1);
     memcpy(list, d->nsym_list, n * sizeof *list);
     list[n - 1] = -1;
-    fine &= refuse(d, "last entry of nsym_list -1", list, len);
+    refuse(d, "last entry of nsym_list -1", list, len);
     list[n - 1] = (d->nsym_list[n - 1] + 1) % (int64_t)d->num_trans;
     if (d->num_trans > 1)
-        fine &= refuse(d, "last entry of nsym_list another row", list, len);
+        refuse(d, "last entry of nsym_list another row", list, len);
     free(list);
-    return fine;
 }
 
 int main(int argc, char **argv)
@@ -267,17 +344,27 @@ int main(int argc, char **argv)
         fprintf(stderr, "usage: symmetrize FOLDER [OUT]\n");
         return 2;
     }
+    if (argc == 3 && same_folder(argv[1], argv[2])) {
+        fprintf(stderr, "symmetrize: %s is the folder that is read: name another one to write to\n", argv[2]);
+        return 1;
+    }
     struct delivery d;
     read_delivery(argv[1], &d);
     printf("%zu atoms, %zu of them in the primitive cell, %zu shifts\n", d.n_satom, d.n_patom, d.num_trans);
     check_tables(&d);
     match_rows(&d);
-    int moves = transposes(&d);
-    second_order(&d);
-    size_t unlike = third_order(&d);
-    int refused = damaged_copies(&d);
-    if (argc == 3)
+    judge_numbers("fc2.f64", d.fc2, d.n_satom * d.n_satom * 9, d.n_satom, 2);
+    judge_numbers("fc3.f64", d.fc3, d.n_patom * d.n_satom * d.n_satom * 27, d.n_satom, 3);
+    if (faults == 0) {
+        transposes(&d);
+        second_order(&d);
+        third_order(&d);
+        damaged_copies(&d);
+    }
+    if (faults == 0 && argc == 3)
         write_delivery(argv[2], &d);
+    if (faults != 0)
+        printf("%zu fault%s; nothing was written\n", faults, faults == 1 ? "" : "s");
     free_delivery(&d);
-    return unlike == 0 && moves && refused ? 0 : 1;
+    return faults == 0 && fflush(stdout) == 0 ? 0 : 1;
 }

@@ -1,7 +1,8 @@
 /*
  * Gullyfork: force constants of second, third and fourth order, the matching of atoms, and the roll that lists what was delivered.
  *
- * Link with target/staticlib/libcapi.a, which bindings/library writes (x86-64 Linux). C99 or later, and C++.
+ * Link with -lgullyfork after `make install`, or with target/staticlib/libcapi.a, which bindings/library writes (x86-64 Linux). C99 or
+ * later, and C++.
  *
  * SLICES
  *   A slice is two arguments: a pointer, and the number of elements that it points to. The pointer is aligned for its type and never
@@ -73,34 +74,48 @@
 extern "C" {
 #endif
 
-/* What a call answers. */
-enum gf_answer {
-    GF_DONE = 0,               /* the work is done */
-    GF_COUNT_ABOVE_LIMIT = 1,  /* a count is above its limit */
-    GF_WRONG_LENGTH = 2,       /* a slice has a length other than the one stated for it */
-    GF_INDEX_OUT_OF_RANGE = 3, /* an index table holds a negative number, or one not below the count it points into, read or not; or i or j is not below n_satom */
-    GF_BAD_SLAB = 4,           /* the source or the target slab is not below num_first, or the two are equal */
-    GF_BAD_REPRESENTATIVE = 5, /* a listed atom's representative is not itself a listed atom that represents itself */
-    GF_BAD_SHIFT_TABLES = 6,   /* the shift tables break a rule */
-    GF_NOT_A_ROLL = 7,         /* the bytes are not a roll, the count passes the slice, nothing starts there, or the record breaks the rules */
-    GF_NO_ROOM = 8,            /* the roll would pass 1,000 records, 65,536 bytes or the lent slice */
-    GF_NOT_LAWFUL = 9,         /* gf_stands_now: a record delivers a set again, names one not delivered before, or replaces one a second time */
-    GF_OFF_GRID = 10,          /* gf_replace_block_fc2: a number of the old block or of the new one is off the grid */
-    GF_NOT_MATCHED = 64,       /* gf_compute_permutation: some slot is left free */
-    GF_DRIFT_STILL = 65,       /* gf_drift_report: all sums are zero */
-    GF_DRIFT_WORST = 66,       /* gf_drift_report: the worst sum is named */
-    GF_DRIFT_NO_NUMBER = 67,   /* gf_drift_report: a sum is NaN */
-    GF_ROLL_END = 68,          /* gf_read_roll: the trailer begins there */
-    GF_MATCH_NO_NUMBER = 69,   /* gf_compute_permutation: some slot is left free, and a distance was NaN */
-    GF_SET_UNKNOWN = 70,       /* gf_stands_now: the set was never delivered */
-    GF_SET_RETIRED = 71        /* gf_stands_now: the set was retired, or one of those that replaced it */
-};
+/* The version of this header; gf_version gives that of the library. */
+#define GF_VERSION "0.1.0"
+
+/* What a call answers: each answer's name, number and words. gf_words gives the words of a number. */
+#define GF_ANSWERS(ANSWER) \
+    ANSWER(GF_DONE, 0, "the work is done") \
+    ANSWER(GF_COUNT_ABOVE_LIMIT, 1, "a count is above its limit") \
+    ANSWER(GF_WRONG_LENGTH, 2, "a slice has a length other than the one stated for it") \
+    ANSWER(GF_INDEX_OUT_OF_RANGE, 3, "an index, or an entry of an index table, read or not, is negative or not below its count") \
+    ANSWER(GF_BAD_SLAB, 4, "the source or the target slab is not below num_first, or the two are equal") \
+    ANSWER(GF_BAD_REPRESENTATIVE, 5, "a listed atom's representative is not itself a listed atom that represents itself") \
+    ANSWER(GF_BAD_SHIFT_TABLES, 6, "the shift tables break a rule") \
+    ANSWER(GF_NOT_A_ROLL, 7, "the bytes are not a roll, the count passes the slice, nothing starts there, or the record breaks the rules") \
+    ANSWER(GF_NO_ROOM, 8, "the roll would pass 1,000 records, 65,536 bytes or the lent slice") \
+    ANSWER(GF_NOT_LAWFUL, 9, "a record delivers a set again, names one not delivered before it, or replaces one a second time") \
+    ANSWER(GF_OFF_GRID, 10, "a number of the old block or of the new one is off the grid") \
+    ANSWER(GF_NOT_MATCHED, 64, "some slot is left free") \
+    ANSWER(GF_DRIFT_STILL, 65, "all sums are zero") \
+    ANSWER(GF_DRIFT_WORST, 66, "the worst sum is named") \
+    ANSWER(GF_DRIFT_NO_NUMBER, 67, "a sum is NaN") \
+    ANSWER(GF_ROLL_END, 68, "the roll's trailer begins there") \
+    ANSWER(GF_MATCH_NO_NUMBER, 69, "some slot is left free, and a distance was NaN") \
+    ANSWER(GF_SET_UNKNOWN, 70, "the set was never delivered") \
+    ANSWER(GF_SET_RETIRED, 71, "the set was retired, or one of those that replaced it")
+
+#define GF_ANSWER_NUMBER(name, number, words) name = number,
+enum gf_answer { GF_ANSWERS(GF_ANSWER_NUMBER) };
+#undef GF_ANSWER_NUMBER
 
 /* Which sums a drift report names. */
 enum gf_along {
     GF_ROWS = 0,   /* of a row, over the second atom */
     GF_COLUMNS = 1 /* of a column, over the first atom */
 };
+
+/* ---- the library itself ---- */
+
+/* The version of the library, as GF_VERSION of the header that it was built with: three numbers with points between. */
+const char *gf_version(void);
+
+/* What an answer means, in words without a capital and a full stop; other numbers give "not an answer of this library". Never NULL. */
+const char *gf_words(uint8_t answer);
 
 /* ---- rounding and the root: never refused ---- */
 

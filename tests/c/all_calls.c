@@ -75,6 +75,22 @@ static const int64_t beyond[] = {7};
 static const double mirror[] = {0, 1, 0, 1, 0, 0, 0, 0, 1};
 static const size_t mirrored[] = {1, 0, 2};
 
+/* every answer has words of its own */
+#define NUMBER(name, number, words) name,
+static const uint8_t answers[] = {GF_ANSWERS(NUMBER)};
+
+static void about(void) {
+    CHECK(strcmp(gf_version(), GF_VERSION) == 0);
+    CHECK(strcmp(gf_words(GF_COUNT_ABOVE_LIMIT), "a count is above its limit") == 0);
+    CHECK(strcmp(gf_words(255), "not an answer of this library") == 0);
+    for (size_t i = 0; i < sizeof answers; i++) {
+        for (size_t j = 0; j < i; j++) {
+            CHECK(answers[i] != answers[j] && strcmp(gf_words(answers[i]), gf_words(answers[j])) != 0);
+        }
+        CHECK(strcmp(gf_words(answers[i]), gf_words(255)) != 0);
+    }
+}
+
 static void rounding(void) {
     CHECK(gf_nint(2.5) == 3); /* sheet 1 */
     CHECK(gf_nint(-0.5) == -1);
@@ -527,6 +543,7 @@ static void stands_now(void) {
 }
 
 int main(void) {
+    about();
     rounding();
     shift_tables();
     matching();

@@ -20,6 +20,8 @@ macro_rules! call {
 pub(crate) use call;
 
 extern "C" {
+    pub fn gf_version() -> *const std::ffi::c_char;
+    pub fn gf_words(answer: u8) -> *const std::ffi::c_char;
     pub fn gf_nint(x: f64) -> i64;
     pub fn gf_round(x: f64) -> f64;
     pub fn gf_sqrt(x: f64) -> f64;

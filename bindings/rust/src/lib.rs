@@ -35,6 +35,8 @@ pub mod tables;
 
 mod ffi;
 
+use ffi::call;
+use std::ffi::{c_char, CStr};
 use std::{error, fmt};
 
 /// Why a call was turned down: the first of these that applies. Every slice is as it was.
@@ -73,23 +75,26 @@ impl Refusal {
 
 impl fmt::Display for Refusal {
     fn fmt(&self, f: &mut fmt::Formatter) -> fmt::Result {
-        let words = match self {
-            Refusal::CountAboveLimit => "a count is above its limit",
-            Refusal::WrongLength => "a slice has a length other than the one stated for it",
-            Refusal::IndexOutOfRange => "an index, or an entry of an index table, is negative or not below the count it points into",
-            Refusal::BadSlab => "the source or the target slab is not below num_first, or the two are equal",
-            Refusal::BadRepresentative => "a listed atom's representative is not itself a listed atom that represents itself",
-            Refusal::BadShiftTables => "the shift tables break a rule",
-            Refusal::NotARoll => "the bytes are not a roll, nothing starts at the position, or the record breaks the rules",
-            Refusal::NoRoom => "the roll would pass 1,000 records, 65,536 bytes or the lent slice",
-            Refusal::NotLawful => "a record delivers a set again, names one not delivered before it, or replaces one a second time",
-            Refusal::OffGrid => "a number of the old block or of the new one is off the grid",
-        };
-        f.write_str(words)
+        f.write_str(words(self.number()))
     }
 }
 
 impl error::Error for Refusal {}
+
+/// The version of the library that is linked, three numbers with points between: that of this crate.
+pub fn version() -> &'static str {
+    text(call!(gf_version()))
+}
+
+/// What an answer means. The words stand once, in include/gullyfork.h.
+fn words(answer: u8) -> &'static str {
+    text(call!(gf_words(answer)))
+}
+
+/// A text of the library, which is never null and stays.
+fn text(pointer: *const c_char) -> &'static str {
+    unsafe { CStr::from_ptr(pointer) }.to_str().expect("the library's texts are UTF-8")
+}
 
 /// The numbers of include/gullyfork.h: 0, and the refusals.
 fn answer(number: u8) -> Result<(), Refusal> {
@@ -143,6 +148,12 @@ mod tests {
         for (i, w) in words.iter().enumerate() {
             assert!(!words[..i].contains(w));
         }
+    }
+
+    #[test]
+    fn the_library_is_of_this_version() {
+        assert_eq!(version(), env!("CARGO_PKG_VERSION"));
+        assert_eq!(words(255), "not an answer of this library");
     }
 
     #[test]

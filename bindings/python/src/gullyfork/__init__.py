@@ -1,0 +1,50 @@
+"""Force constants of second, third and fourth order, the matching of atoms, and delivery rolls: the proved library Gullyfork on numpy.
+
+Every call takes every input: it does its work, or raises and leaves every array as it was. A set is an array of doubles, (n, m, 3, 3) at
+second order and so on, the last atom and the last direction fastest, as in phonopy; a full set has all atoms of the supercell in every
+place, in a compact set the first atom is one of the primitive cell. What a call changes is changed in place and never copied: float64 of
+this machine's byte order, C-contiguous, aligned, writeable, and apart from every other argument; otherwise TypeError or ValueError. What
+it only reads is copied where it has to be. Counts come from the shapes. Work memory is made inside; `work=` lends it.
+
+>>> import numpy as np, gullyfork
+>>> fc = np.random.default_rng(1).standard_normal((4, 4, 3, 3))
+>>> gullyfork.perm_trans_symmetrize_fc(fc, level=3)
+>>> gullyfork.drift_report(fc).value < 1e-14
+True
+>>> gullyfork.perm_trans_symmetrize_fc(fc, level=1001)
+Traceback (most recent call last):
+    ...
+gullyfork.Refused: perm_trans_symmetrize_fc: refusal 1, a count is above its limit (level: 1001, limit 1000)
+
+The calls stand in the modules `common`, `tables`, `cells`, `fc2`, `fc3`, `fc4` and `roll`, with the names of the C names without gf_, and
+here. `gullyfork.files` reads and writes sets, `gullyfork.phonopy` puts the library under phonopy, `python -m gullyfork check` judges a
+file. The library has no state, and a call gives the interpreter's lock up: threads may work on disjoint arrays at the same time.
+"""
+from __future__ import annotations
+
+from . import cells, common, fc2, fc3, fc4, roll, tables
+from ._library import version, words
+from ._refused import Refused
+from .cells import Match, compute_permutation
+from .common import nint, round, sqrt
+from .fc2 import (
+    Along, Drift, DriftKind, distribute_fc2, drift_report, perm_trans_symmetrize_compact_fc, perm_trans_symmetrize_fc, replace_block_fc2,
+    row_sums_fc2, set_index_permutation_symmetry_compact_fc, true_transpose_compact_fc2,
+)
+from .fc3 import (
+    distribute_fc3, rotate_delta_fc2s, set_permutation_symmetry_compact_fc3, set_permutation_symmetry_fc3, transpose_compact_fc3,
+    true_transpose_compact_fc3,
+)
+from .fc4 import (
+    distribute_fc4, rotate_delta_fc3s, set_permutation_symmetry_compact_fc4, set_permutation_symmetry_fc4, transpose_compact_fc4,
+    true_transpose_compact_fc4,
+)
+from .roll import append_roll, is_roll, read_roll, stands_now
+from .tables import Tables, check_shift_tables
+
+__version__ = version()
+__all__ = [
+    "Along", "Drift", "DriftKind", "Match", "Refused", "Tables", "version", "words",
+    *common.__all__[0:1], "sqrt", *(n for m in (cells, fc2, fc3, fc4) for n in m.__all__ if n[0].islower()),
+    "append_roll", "check_shift_tables", "is_roll", "read_roll", "stands_now",
+]

@@ -1,0 +1,189 @@
+"""Refusals as exceptions. The number is the library's; which argument is to blame is worked out afterwards, for the message only."""
+from __future__ import annotations
+
+from typing import TYPE_CHECKING, Any, Dict, NamedTuple, Optional, Tuple
+
+import numpy as np
+
+from ._library import words
+
+if TYPE_CHECKING:
+    from .tables import Tables
+
+LIMITS = {2: 1024, 3: 256, 4: 64}  # atoms, by the order of the set
+_LIMITS = {"level": 1000, "num_rot": 1024, "num_disp": 1024, "num_site_sym": 1024}
+_ATOMS = ("n_satom", "n_patom", "num_trans", "num_atom", "num_pos", "num_first")
+GRID, GRID_MOST = 2.0**-20, 2.0**20
+
+Blame = Tuple[Optional[str], Optional[str]]
+_NOBODY: Blame = (None, None)
+
+
+class Refused(ValueError):
+    """A call was refused: every array is as it was.
+
+    number: the refusal, as the library answered it; words: what it means; call: the call's name; argument and detail: what is to
+    blame, or None where that could not be worked out.
+    """
+
+    def __init__(self, number: int, call: str, argument: Optional[str] = None, detail: Optional[str] = None) -> None:
+        self.number, self.words, self.call, self.argument, self.detail = number, words(number), call, argument, detail
+        text = f"{call}: refusal {number}, {self.words}"
+        if argument:
+            text += f" ({argument}: {detail})" if detail else f" ({argument})"
+        super().__init__(text)
+
+    def again(self) -> "Refused":
+        """The same refusal, to be raised anew."""
+        return Refused(self.number, self.call, self.argument, self.detail)
+
+    def __reduce__(self) -> Any:
+        return Refused, (self.number, self.call, self.argument, self.detail)
+
+
+Refused.__module__ = "gullyfork"  # where users find it, and what a traceback shows
+
+
+class _Call(NamedTuple):
+    """A call that was refused. given: the caller's arrays, each with the shape that was asked for, and an index table with the name of
+    the count that its entries are below."""
+
+    order: int
+    given: Dict[str, tuple]
+    values: Dict[str, Any]
+    tables: Optional["Tables"]
+
+
+def explain(answer: int, call: str, order: int, given: Dict[str, tuple], values: Dict[str, Any], tables: Optional["Tables"],
+            names: Dict[str, str]) -> Refused:
+    """The exception for a refusal. names: of arrays that the caller knows by another name."""
+    try:
+        argument, detail = _BLAME.get(answer, lambda _: _NOBODY)(_Call(order, given, values, tables))
+    except Exception:  # a message that cannot be worked out must not hide the refusal
+        argument, detail = _NOBODY
+    return Refused(answer, call, names.get(argument, argument) if argument else None, detail)
+
+
+def _above(c: _Call) -> Blame:
+    counts = {} if c.tables is None else dict(zip(("n_satom", "n_patom", "num_trans"), c.tables.counts))
+    for name, value in {**counts, **c.values}.items():
+        limit = LIMITS[c.order] if name in _ATOMS else _LIMITS.get(name)
+        if limit is not None and value > limit:
+            return name, f"{value}, limit {limit}"
+    if "atom_list" in c.given and c.given["atom_list"][0].size > 1024:
+        return "atom_list", f"{c.given['atom_list'][0].size} entries, limit 1024"
+    return _NOBODY
+
+
+def _length(c: _Call) -> Blame:
+    t = c.tables
+    if t is not None and t.nsym_list.size != t.n_satom:
+        return "nsym_list", f"{t.nsym_list.size} entries, s2pp has {t.n_satom}"
+    if t is not None and t.perms.shape[1] != t.n_satom:
+        return "perms", f"rows of {t.perms.shape[1]} entries, s2pp has {t.n_satom}"
+    for name, (a, shape, *_) in c.given.items():
+        if a.shape != shape:
+            return name, f"shape {a.shape}, asked for {shape}"
+    return _NOBODY
+
+
+def _beyond(name: str, a: np.ndarray, count: int) -> Optional[Blame]:
+    bad = np.argwhere((a < 0) | (a >= count))
+    if not len(bad):
+        return None
+    place = tuple(int(i) for i in bad[0])
+    return name, f"entry {place if len(place) > 1 else place[0]} is {int(a[place])}, count {count}"
+
+
+def _entry(c: _Call) -> Blame:
+    t, found = c.tables, None
+    if t is not None:
+        found = (_beyond("p2s", t.p2s, t.n_satom) or _beyond("s2pp", t.s2pp, t.n_patom) or _beyond("nsym_list", t.nsym_list, t.num_trans)
+                 or _beyond("perms", t.perms, t.n_satom))
+    for name, (a, _, *below) in c.given.items():
+        if below and below[0] in c.values:
+            found = found or _beyond(name, a, c.values[below[0]])
+    for name in ("i", "j"):
+        if not found and name in c.values and c.values[name] >= c.values["n_satom"]:
+            found = name, f"{c.values[name]}, n_satom {c.values['n_satom']}"
+    return found or _NOBODY
+
+
+def _slab(c: _Call) -> Blame:
+    for name in ("target", "source"):
+        if c.values[name] >= c.values["num_first"]:
+            return name, f"{c.values[name]}, num_first {c.values['num_first']}"
+    return "target", f"{c.values['target']}, and the source is the same"
+
+
+def _representative(c: _Call) -> Blame:
+    listed, map_atoms = c.given["atom_list"][0], c.given["map_atoms"][0]
+    for a in listed:
+        r = map_atoms[a]
+        if r not in listed:
+            return "atom_list", f"atom {a} is represented by atom {r}, which is not listed"
+        if map_atoms[r] != r:
+            return "map_atoms", f"atom {a} is represented by atom {r}, which is represented by atom {map_atoms[r]}"
+    return _NOBODY
+
+
+def _grid(c: _Call) -> Blame:
+    i, j = c.values["i"], c.values["j"]
+    for name, block, before in (("fc", c.given["fc"][0][i, j], (i, j)), ("block", c.given["block"][0], ())):
+        with np.errstate(all="ignore"):
+            off = np.argwhere(~((np.abs(block) <= GRID_MOST) & (block / GRID == np.rint(block / GRID))))
+        if len(off):
+            place = tuple(int(k) for k in off[0])
+            return name, f"entry {before + place} is {float(block[place])!r}, no whole multiple of 2^-20 of absolute value at most 2^20"
+    return _NOBODY
+
+
+def _rule(c: _Call) -> Blame:
+    return broken_rule(c.tables) if c.tables is not None else _NOBODY
+
+
+def broken_rule(t: "Tables") -> Blame:
+    """The first rule of shift tables that is broken, in the order in which it is worth looking; entries are in range."""
+    if t.n_satom != t.n_patom * t.num_trans:
+        return "perms", f"{t.num_trans} rows: n_satom {t.n_satom} is not n_patom {t.n_patom} x num_trans {t.num_trans}"
+    atoms = np.arange(t.n_satom)
+    if not (t.perms == atoms).all(axis=1).any():
+        return "perms", "no row sends each atom to itself (the null shift)"
+    for row, images in enumerate(np.sort(t.perms, axis=1)):
+        if (images != atoms).any():
+            return "perms", f"row {row} sends two atoms to the same place"
+    for a in range(t.n_satom):
+        rows = np.argsort(t.perms[:, a], kind="stable")
+        same = np.flatnonzero(np.diff(t.perms[rows, a]) == 0)
+        if same.size:
+            return "perms", f"rows {rows[same[0]]} and {rows[same[0] + 1]} both send atom {a} to atom {t.perms[rows[same[0]], a]}"
+    return _not_closed(t) or _wrong_maps(t)
+
+
+def _not_closed(t: "Tables") -> Optional[Blame]:
+    known = {row.tobytes() for row in t.perms}
+    for first in range(t.num_trans):
+        for second, both in enumerate(t.perms[:, t.perms[first]]):
+            if both.tobytes() not in known:
+                return "perms", f"row {first} and then row {second} is no row: a shift is missing"
+    return None
+
+
+def _wrong_maps(t: "Tables") -> Blame:
+    for p, a in enumerate(t.p2s):
+        if t.s2pp[a] != p:
+            return "s2pp", f"entry {a} is {t.s2pp[a]}, and p2s[{p}] is {a}"
+    moved = np.argwhere(t.s2pp[t.perms] != t.s2pp)
+    if len(moved):
+        row, a = (int(k) for k in moved[0])
+        return "s2pp", f"it is {t.s2pp[a]} for atom {a} and {t.s2pp[t.perms[row, a]]} for atom {t.perms[row, a]}, where row {row} sends it"
+    atoms = np.arange(t.n_satom)
+    wrong = np.flatnonzero(t.perms[t.nsym_list, atoms] != t.p2s[t.s2pp])
+    if wrong.size:
+        a = int(wrong[0])
+        row = t.nsym_list[a]
+        return "nsym_list", f"entry {a} is {row}, which sends atom {a} to {t.perms[row, a]}, not to {t.p2s[t.s2pp[a]]}"
+    return _NOBODY
+
+
+_BLAME = {1: _above, 2: _length, 3: _entry, 4: _slab, 5: _representative, 6: _rule, 10: _grid}

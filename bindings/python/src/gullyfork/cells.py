@@ -1,0 +1,56 @@
+"""The matching of atoms."""
+from __future__ import annotations
+
+from typing import Any, NamedTuple, Optional, Tuple
+
+import numpy as np
+
+from . import _arrays
+from ._run import run
+
+__all__ = ["Match", "compute_permutation"]
+_NO_NUMBER = 69
+
+
+class Match(NamedTuple):
+    """found: whether every slot is filled. slots: slot j holds the position that rotated position j comes from, or -1.
+    pair: where a match fails and a distance was NaN, the first pair of position and slot for which it was."""
+
+    found: bool
+    slots: np.ndarray
+    pair: Optional[Tuple[int, int]]
+
+    @property
+    def words(self) -> str:
+        """What became of the match."""
+        if self.pair:
+            return f"position {self.pair[0]} against slot {self.pair[1]}: the distance is not a number"
+        return "every slot is filled" if self.found else f"{int((self.slots < 0).sum())} slots are left free"
+
+
+def compute_permutation(lattice: Any, symprec: float, pos: Any, rot_pos: Any) -> Match:
+    """Which position each rotated position comes from.
+
+    The basis vectors stand in the COLUMNS of lattice (3, 3), as in phonopy's `cell.T`; pos and rot_pos are (n, 3), in these vectors.
+
+    >>> import numpy as np
+    >>> match = compute_permutation(np.eye(3), 1e-5, [[0, 0, 0], [0.5, 0, 0]], [[0.5, 0, 0], [1, 0, 0]])
+    >>> match.found, match.slots.tolist()
+    (True, [1, 0])
+    >>> compute_permutation(np.eye(3), 1e-5, [[np.nan, 0, 0]], [[0, 0, 0]]).words
+    'position 0 against slot 0: the distance is not a number'
+    """
+    pos = _positions(pos, "pos")
+    rot_pos = _positions(rot_pos, "rot_pos")
+    n = pos.shape[0]
+    slots, pair = np.empty(n, np.int64), np.empty(2, np.uintp)
+    answer = run("compute_permutation", 2, read={"lattice": (lattice, (3, 3)), "pos": (pos, (n, 3)), "rot_pos": (rot_pos, (n, 3))},
+                 made={"rot_atom": slots, "pair": pair}, values={"symprec": symprec, "num_pos": n})
+    return Match(answer == 0, slots, (int(pair[0]), int(pair[1])) if answer == _NO_NUMBER else None)
+
+
+def _positions(a: Any, name: str) -> np.ndarray:
+    a = _arrays.numbers(a, name)
+    if a.ndim != 2 or a.shape[1] != 3:
+        raise ValueError(f"{name} has the shape {a.shape}, positions have (n, 3)")
+    return a

@@ -1,0 +1,90 @@
+"""Third order: sets of shape (n, m, m, 3, 3, 3), of doubles, changed in place."""
+from __future__ import annotations
+
+from typing import Any, Optional
+
+import numpy as np
+
+from . import _arrays
+from ._compact import compact
+from ._deltas import distribute, rotate
+from ._run import run
+
+__all__ = ["distribute_fc3", "rotate_delta_fc2s", "set_permutation_symmetry_compact_fc3", "set_permutation_symmetry_fc3",
+           "transpose_compact_fc3", "true_transpose_compact_fc3"]
+
+
+def set_permutation_symmetry_fc3(fc3: np.ndarray) -> None:
+    """Symmetrizes a full set in place: the six permutations of any three (atom, direction) pairs get their mean.
+
+    >>> fc3 = np.zeros((1, 1, 1, 3, 3, 3))
+    >>> fc3[0, 0, 0, 0, 1, 2] = 6.0
+    >>> set_permutation_symmetry_fc3(fc3)
+    >>> float(fc3[0, 0, 0, 2, 1, 0])
+    1.0
+    """
+    n = _arrays.full(fc3, "fc3", 3)
+    run("set_permutation_symmetry_fc3", 3, changed={"fc3": (fc3, (n, n, n, 3, 3, 3))}, values={"num_atom": n})
+
+
+def set_permutation_symmetry_compact_fc3(fc3: np.ndarray, tables: Any, *, work: Optional[np.ndarray] = None) -> None:
+    """Symmetrizes a compact set in place: read out to all atoms, the six permutations of any three (atom, direction) pairs then hold the
+    same bits. work: n_patom x n_satom x n_satom bytes.
+
+    >>> fc3 = np.zeros((1, 1, 1, 3, 3, 3))
+    >>> fc3[0, 0, 0, 0, 1, 2] = 6.0
+    >>> set_permutation_symmetry_compact_fc3(fc3, ([0], [0], [0], [[0]]))
+    >>> float(fc3[0, 0, 0, 2, 1, 0])
+    1.0
+    """
+    compact("set_permutation_symmetry_compact_fc3", fc3, 3, tables, 3, work)
+
+
+def transpose_compact_fc3(fc3: np.ndarray, tables: Any, t_type: int, *, work: Optional[np.ndarray] = None) -> None:
+    """Exchanges two of the three (atom, direction) pairs of every number of a compact set, in place: t_type 0 the first two, 1 the
+    first and the third, 2 the last two; any other changes nothing. With 0 and 1, blocks that a half shift exchanges stay as they are.
+    work: n_patom x n_satom bytes.
+
+    >>> fc3 = np.arange(27.0).reshape(1, 1, 1, 3, 3, 3)
+    >>> transpose_compact_fc3(fc3, ([0], [0], [0], [[0]]), 2)
+    >>> fc3[0, 0, 0, 0, 0].tolist()
+    [0.0, 3.0, 6.0]
+    """
+    compact("transpose_compact_fc3", fc3, 3, tables, 2, work, t_type=t_type)
+
+
+def true_transpose_compact_fc3(fc3: np.ndarray, tables: Any, t_type: int, *, work: Optional[np.ndarray] = None) -> None:
+    """As transpose_compact_fc3, and every number moves, also where a half shift exchanges the blocks.
+
+    >>> fc3 = np.arange(108.0).reshape(1, 2, 2, 3, 3, 3)
+    >>> true_transpose_compact_fc3(fc3, ([0], [0, 0], [0, 1], [[0, 1], [1, 0]]), 0)
+    >>> float(fc3[0, 1, 0, 0, 1, 0])
+    90.0
+    """
+    compact("true_transpose_compact_fc3", fc3, 3, tables, 2, work, t_type=t_type)
+
+
+def distribute_fc3(fc3: np.ndarray, target: int, source: int, atom_mapping: Any, rot_cart: Any) -> None:
+    """Fills slab `target` from slab `source`, in place: block (i, j) of the target is block (atom_mapping[i], atom_mapping[j]) of the
+    source, rotated by rot_cart (3, 3) on each leg.
+
+    >>> fc3 = np.zeros((2, 1, 1, 3, 3, 3))
+    >>> fc3[0] = 1.0
+    >>> distribute_fc3(fc3, 1, 0, [0], np.eye(3))
+    >>> bool(fc3[1].all())
+    True
+    """
+    distribute("distribute_fc3", fc3, 3, target, source, atom_mapping, rot_cart)
+
+
+def rotate_delta_fc2s(delta_fc2s: Any, inv_u: Any, site_sym_cart: Any, rot_map_syms: Any, *, out: Optional[np.ndarray] = None,
+                      work: Optional[np.ndarray] = None) -> np.ndarray:
+    """The blocks (n, n, 3, 3, 3) of third order of one displaced atom with all pairs of atoms.
+
+    delta_fc2s (num_disp, n, n, 3, 3): the changes that the displacements make to a set of second order; inv_u (3, num_disp x
+    num_site_sym); site_sym_cart (num_site_sym, 3, 3); rot_map_syms (num_site_sym, n). work: num_disp x num_site_sym x 9 doubles.
+
+    >>> rotate_delta_fc2s(np.ones((1, 1, 1, 3, 3)), [[2.0], [0.0], [0.0]], [np.eye(3)], [[0]])[0, 0, :, 0, 0].tolist()
+    [2.0, 0.0, 0.0]
+    """
+    return rotate("rotate_delta_fc2s", "fc3", "delta_fc2s", 3, delta_fc2s, inv_u, site_sym_cart, rot_map_syms, out, work)
