@@ -145,16 +145,15 @@ impl Bench {
         println!("| {name} | {size} | {} |", columns.join(" | "));
     }
 
-    /// Least times, in seconds, of the library's call done in `count` ways, alternating, on the same slices: `way` turns it into way k.
-    pub fn ways<C: Call + Send>(&self, call: &mut C, count: usize, way: impl Fn(&mut C, usize) + Sync) -> Vec<f64> {
+    /// Least times, in seconds, of work done in `count` ways on the slices of a call, alternating, the slices restored just before: `work` does way k.
+    pub fn ways<C: Call + Send>(&self, call: &mut C, count: usize, work: impl Fn(&mut C, usize) + Sync) -> Vec<f64> {
         let (mut lent, mut least) = (call.clone(), vec![f64::MAX; count]);
         let start = Instant::now();
         while start.elapsed().as_secs_f64() < self.patience {
             self.one.install(|| {
                 for k in (0..RUNS * count).map(|k| k % count) {
-                    way(&mut lent, k);
                     restore(&mut lent, call);
-                    least[k] = least[k].min(clock(|| assert_eq!(black_box(&mut lent).port(), 0)));
+                    least[k] = least[k].min(clock(|| work(black_box(&mut lent), k)));
                 }
             });
         }

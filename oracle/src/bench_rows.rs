@@ -169,18 +169,46 @@ pub fn fourth(b: &Bench) {
     deltas(b, "rotate_delta_fc3s", 4, 16);
 }
 
-/// A true transpose beside the transpose that is the Rust's, both the library's, on one set.
+/// The least that it takes to move every block of a set: neighbours change places, each block read once and written once, and nothing is permuted.
+fn neighbours(set: &mut [f64], width: usize) {
+    for pair in set.chunks_exact_mut(2 * width) {
+        let (one, other) = pair.split_at_mut(width);
+        one.swap_with_slice(other);
+    }
+}
+
+/// Every block copied to a buffer and back to its own place.
+fn in_place(set: &mut [f64], width: usize) {
+    let mut buffer = [0.0; 81];
+    for block in set.chunks_exact_mut(width) {
+        buffer[..width].copy_from_slice(block);
+        block.copy_from_slice(&std::hint::black_box(&mut buffer)[..width]);
+    }
+}
+
+/// A true transpose beside the transpose that is the Rust's, both the library's, on one set, and beside the least work on all its blocks.
 fn both_ways(b: &Bench, call: &str, names: [Name; 2], sizes: [usize; 2], t_type: i64) {
     let mut c = Compact { t_type, ..Compact::new(names[0], shifts(sizes[0], sizes[1])) };
     c.set = plain(&mut Rng::new(28), c.stated());
     let halves = if half_shift(&c.tables) { "yes" } else { "no" };
-    let [old, new] = b.ways(&mut fitted(c), 2, |c, k| c.name = names[k])[..] else { unreachable!("two ways") };
-    println!("| {call} | {} × {} | {halves} | {:.1} | {:.1} | {:.2} |", sizes[0], sizes[1], old * 1e6, new * 1e6, old / new);
+    let width = 3usize.pow(names[0].order() as u32);
+    let work = |c: &mut Compact, k: usize| match k {
+        0 | 1 => {
+            c.name = names[k];
+            assert_eq!(c.port(), 0);
+        }
+        2 => neighbours(&mut c.set, width),
+        _ => in_place(&mut c.set, width),
+    };
+    let [old, new, moved, copied] = b.ways(&mut fitted(c), 4, work)[..] else { unreachable!("four ways") };
+    let us = |t: f64| format!("{:.1}", t * 1e6);
+    println!("| {call} | {} × {} | {halves} | {} | {} | {:.2} | {} | {} |", sizes[0], sizes[1], us(old), us(new), old / new, us(moved), us(copied));
 }
 
 /// The true transposes beside the others, with half shifts among the tables, whose blocks only they move, and without.
 pub fn transposes(b: &Bench) {
-    println!("| call | size | half shifts | the other transpose, us | the true one, us | ratio |\n|---|---|---|---|---|---|");
+    println!("| call | size | half shifts | the other transpose, us | the true one, us | ratio | neighbours exchanged, us | copied in place, us |");
+    println!("|---|---|---|---|---|---|---|---|");
     for sizes in [[4, 512], [64, 256], [4, 500], [64, 192]] {
         both_ways(b, "true_transpose_compact_fc2", [Name::Exchange2, Name::True2], sizes, 1);
     }

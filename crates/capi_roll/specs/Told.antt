@@ -27,7 +27,7 @@ use Rattle.capi_roll.specs.Roll.{sevenOrTwo, slotsOf, told, readRoll, re
 
 pub is-seven : {n : ℕ} → n ≡ 7 → 7 ≡ sevenOrTwo n
 unfolding sevenOrTwo
-is-seven {n} e = rw (eq-eqb n 7 e) refl
+is-seven e = sym (ap sevenOrTwo e)
 
 pub is-two : {n : ℕ} → (n ≡ 7 → ⊥) → 2 ≡ sevenOrTwo n
 unfolding sevenOrTwo

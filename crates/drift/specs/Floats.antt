@@ -2,10 +2,10 @@
 use mathlib.Core.Path.{_≡_, refl, sym, ap, _∙_}
 use mathlib.Core.Bool.{Bool, true, false, not, _&&_, true≢false, false≢true}
 use Prim.Native.Nat.{ℕ, zero, suc, _+_, _*_, _^_, _<_, _≤_}
-use native.Mathlib.Nat.{mul-pos, zero-lt-suc, two-pow-succ, mul-lt-mul-of-pos-right, mul-le-mul-right, lt-of-mul-lt-mul-right}
+use native.Mathlib.Nat.{add-comm, mul-pos, zero-lt-suc, two-pow-succ, mul-lt-mul-of-pos-right, mul-le-mul-right, lt-of-mul-lt-mul-right}
 use native.Mathlib.Omega.{arith}
 use lib.IntN.{ℤ, pos, negsuc}
-use lib.Dec.{T, eqb, eqb·suc-zero, eqb→eq}
+use lib.Dec.{T, eqb, ltb, eqb·suc-zero, eqb→eq}
 use lib.Ieee.{Float, nan, inf, fin, binary64, neg, lt, eq, ne, fits, isNan, ofBits, up, down}
 use lib.Pow.{pow-pos}
 use lib.Ieee.Fits.{up-pos, down-pos}
@@ -90,6 +90,26 @@ not-above-zero (fin false m e) (fin false (suc n) d) q z p h =
     let g = ltb-false (m * up e * down d) (suc n * up d * down e) h in
     let k = scaled-pos n d e in
     absurd (omega arith)
+
+-- x is a number, and neither above w nor below -w
+abbrev pub Within : Float → Float → Type 0
+Within w x = (lt w x ≡ false) × (lt x (neg w) ≡ false) × (ne x x ≡ false)
+
+-- then its absolute value is not above w
+pub within-absolute : (w x : Float) → Within w x → lt w (absolute x) ≡ false
+unfolding lt absolute neg ne eq
+within-absolute w nan h = absurd (true≢false (h .2))
+within-absolute w (inf false) h = h .0
+within-absolute nan (inf true) h = refl
+within-absolute (inf true) (inf true) h = absurd (true≢false (h .1))
+within-absolute (inf false) (inf true) h = refl
+within-absolute (fin s n d) (inf true) h = absurd (true≢false (h .1))
+within-absolute w (fin false m e) h = h .0
+within-absolute nan (fin true m e) h = refl
+within-absolute (inf true) (fin true m e) h = absurd (true≢false (h .1))
+within-absolute (inf false) (fin true m e) h = refl
+within-absolute (fin false n d) (fin true m e) h = h .1
+within-absolute (fin true n d) (fin true m e) h = ap (λ k. ltb 0 k) (add-comm (n * up d * down e) (m * up e * down d)) ∙ h .1
 
 -- of three fractions: W / C below M / E, and M / E not above N / D
 through : (W M N C E D : ℕ) → 0 < E → 0 < D → W * E < M * C → M * D ≤ N * E → W * D < N * C

@@ -3,7 +3,7 @@ use mathlib.Core.Path.{_≡_, refl, sym, ap, ap₂, _∙_, subst}
 use mathlib.Core.Bool.{Bool, true, false, cond, _&&_, _||_, true≢false, false≢true}
 use mathlib.Core.Logic.{_⊎_, inl, inr, ⊎-elim}
 use mathlib.Core.List.{List}
-use Prim.Native.Nat.{ℕ, zero, suc, _<_}
+use Prim.Native.Nat.{ℕ, zero, suc, _+_, _*_, _<_}
 use native.Mathlib.Nat.{not-suc-le-zero}
 use native.Mathlib.Omega.{arith}
 use lib.Ieee.{Float, lt, eq, ne, isNan, ofBits}
@@ -11,13 +11,13 @@ use Rattle.lists.specs.Tab.{times}
 use Rattle.lists.specs.Tests.{every, some, split, refuted, some-at, some-of, not-both, or-none, and-false}
 use Rattle.lists.specs.Cases.{eq-or-ne}
 use Rattle.tables.specs.Conditions.{or-false}
-use Rattle.lines.specs.Nine.{plusZero}
+use Rattle.lines.specs.Nine.{Sums, plusZero, sumIn}
 use Rattle.drift.specs.declared.Drift.the-variants.{Still, Worst, NoNumber}
 use Rattle.drift.specs.declared.DriftReport.{DriftReport}
 use Rattle.drift.specs.declared.seen.Seen.{Seen}
 use Rattle.drift.specs.Drift.{absolute, isZero, larger, sumAt, sums, firstOf, worst, driftOf, reportAt, stillReport, placed}
-use Rattle.drift.specs.Loops.{look, start, concluded}
-use Rattle.drift.specs.Floats.{differs, below-nan, plus, plus-absolute, zero-absolute, above-plus, not-above-zero, above-above, above-equal, below-itself, equals-itself, nan-equals, equals-zero}
+use Rattle.drift.specs.Loops.{look, lookLine, start, concluded}
+use Rattle.drift.specs.Floats.{differs, below-nan, Within, within-absolute, plus, plus-absolute, zero-absolute, above-plus, not-above-zero, above-above, above-equal, below-itself, equals-itself, nan-equals, equals-zero}
 
 -- ---- the first that passes: it does, and none before it
 
@@ -382,3 +382,18 @@ module _ (r : ℕ) (v : Float) (c : Seen) where
   look-kept m e h g =
       sym (ap (λ b. cond b (cond (c .none) c withNone) (cond (lt (c .worst) (absolute v)) (withWorst (absolute v)) c)) h
       ∙ ap (λ b. cond b (withWorst (absolute v)) c) (ap (lt (c .worst)) (sym e) ∙ g))
+
+-- ---- a line that brings nothing new
+
+-- steps that leave x as it is
+still-times : {A : Type 0} (n : ℕ) (f : ℕ → A → A) (x : A) → ((k : ℕ) → k < n → f k x ≡ x) → times n f x ≡ x
+unfolding times
+still-times zero f x h = refl
+still-times (suc n) f x h = ap (f n) (still-times n f x (λ k l. h k (omega arith))) ∙ h n (omega arith)
+
+look-within : (r : ℕ) (x : Float) (c : Seen) → Within (c .worst) x → look r x c ≡ c
+look-within r x c h = rw (h .2, within-absolute (c .worst) x h) refl
+
+pub line-calm : (q : ℕ) (s : Sums) (c : Seen) → ((p : ℕ) → p < 9 → Within (c .worst) (sumIn s p)) → c ≡ lookLine q s c
+unfolding lookLine
+line-calm q s c h = sym (still-times 9 (λ p. look (q * 9 + p) (sumIn s p)) c (λ p l. look-within (q * 9 + p) (sumIn s p) c (h p l)))

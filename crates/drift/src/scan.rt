@@ -1,6 +1,8 @@
 // All sums of a set, the rows' and then the columns'. A small set is read line by line. Of a large one a column alone would be read from all over the
-// memory: it is read once, row by row, and each block is added to the sums of its row and to those of its column.
+// memory: it is read once, row by row, and each block is added to the sums of its row and to those of its column. Most lines bring nothing new, and
+// nothing is done for them but the test whether they do.
 use crate::seen::Seen;
+use crate::seen::calm;
 use crate::seen::look_line;
 use crate::seen::start;
 use lines::line_sums;
@@ -17,7 +19,7 @@ ghost use Rattle.drift.specs.Loops as loops;
 ghost use Rattle.drift.specs.Loops.{Summed};
 
 // From this count on the sums of all columns are kept while the rows are read.
-const LARGE: usize = 96;
+const LARGE: usize = 72;
 
 // Looks at n lines of n blocks: line i begins with block i * apart, and its blocks stand step apart.
 fn look_lines(fc: &[f64], first: usize, apart: usize, step: usize, n: usize, c: Seen) -> Seen
@@ -27,8 +29,10 @@ fn look_lines(fc: &[f64], first: usize, apart: usize, step: usize, n: usize, c: 
     let mut seen = c;
     for i in 0..n {
         let s = line_sums(fc, [[0.0f64; 3]; 3], with_leg(i, apart, 0), step, n);
-        let more = look_line(first + i, s, seen);
-        seen = more;
+        if !calm(s, seen.worst) {
+            let more = look_line(first + i, s, seen);
+            seen = more;
+        }
     }
     seen
 }
@@ -57,8 +61,10 @@ fn look_rows(fc: &[f64], columns: &mut [[[f64; 3]; 3]], n: usize, c: Seen) -> Se
     let mut seen = c;
     for i in 0..n {
         let s = add_row(fc, columns, n, i);
-        let more = look_line(i, s, seen);
-        seen = more;
+        if !calm(s, seen.worst) {
+            let more = look_line(i, s, seen);
+            seen = more;
+        }
     }
     seen
 }
@@ -69,8 +75,11 @@ fn look_columns(columns: &[[[f64; 3]; 3]], n: usize, c: Seen) -> Seen
 {
     let mut seen = c;
     for j in 0..n {
-        let more = look_line(n + j, columns[j], seen);
-        seen = more;
+        let s = columns[j];
+        if !calm(s, seen.worst) {
+            let more = look_line(n + j, s, seen);
+            seen = more;
+        }
     }
     seen
 }

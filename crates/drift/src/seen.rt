@@ -3,8 +3,11 @@ use places::last_leg;
 use places::legs_before;
 use places::with_leg;
 ghost use mathlib.Core.Path.{_≡_};
-ghost use Prim.Native.Nat.{_<_};
+ghost use mathlib.Core.Bool.{true};
+ghost use Prim.Native.Nat.{ℕ, _<_};
+ghost use Rattle.lines.specs.Nine.{sumIn};
 ghost use Rattle.drift.specs.Drift.{absolute};
+ghost use Rattle.drift.specs.Floats.{Within};
 ghost use Rattle.drift.specs.Loops as loops;
 
 // Whether one is NaN, and the first of those; the worst absolute value, and where it stands first.
@@ -65,6 +68,32 @@ fn look(r: usize, x: f64, c: Seen) -> Seen
         };
     }
     c
+}
+
+// Whether x is a number and not above the worst in size, whatever its sign: told without its absolute value, so that no branch hangs on signs.
+fn within(x: f64, worst: f64) -> bool
+    ensures { λ r. ⌜ (r ≡ true → Within worst x) ⌝ }
+{
+    if worst < x {
+        return false;
+    }
+    if x < -worst {
+        return false;
+    }
+    x == x
+}
+
+// Whether the nine sums of a line are all within the worst: then there is nothing new in it.
+pub fn calm(s: [[f64; 3]; 3], worst: f64) -> bool
+    ensures { λ r. ⌜ (r ≡ true → (p : ℕ) → p < 9 → Within worst (sumIn s p)) ⌝ }
+{
+    for p in 0..9usize {
+        let x = s[legs_before(p, 3)][last_leg(p, 3)];
+        if !within(x, worst) {
+            return false;
+        }
+    }
+    true
 }
 
 // Looks at the nine sums of line q.

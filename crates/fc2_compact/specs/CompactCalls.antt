@@ -14,8 +14,9 @@ use Rattle.tables.specs.declared.Refusal.the-variants.{CountAboveLimit}
 use Rattle.tables.specs.Answers.{isRefusal, after, is-done, after-refusal, after-done, passed}
 use Rattle.tables.specs.Limits.{limit2, limitLevel}
 use Rattle.tables.specs.Compact.{ShiftTables, shiftsOf, done-compact}
-use Rattle.fc2_compact.specs.Compact.{judged2, judgedLevels, transposed, averaged, symmetrized, setIndexPermutationSymmetryCompactFc, permTransSymmetrizeCompactFc}
-use Rattle.fc2_compact.specs.CompactCode.{Ready}
+use Rattle.fc2_passes.specs.Passes.{transposed, averaged}
+use Rattle.fc2_compact.specs.Compact.{judged2, judgedLevels, symmetrized, setIndexPermutationSymmetryCompactFc, permTransSymmetrizeCompactFc}
+use Rattle.fc2_passes.specs.Code.{Ready}
 
 -- a call that is not refused has what its work asks
 pub ready-of : (l : List Float) (T : ShiftTables) (w : List ℕ) → judged2 l T w ≡ Done → Ready T (length l)

@@ -12,7 +12,8 @@ use Rattle.tables.specs.Shifts.{Shifts, row, p2sAt, s2ppAt, nsymAt, isNull}
 use Rattle.places.specs.Places.{shift, stored, opened, address, size, legsOf, place, fill, at}
 use Rattle.places.specs.Moves.{source, stays, traded, transposed2}
 use Rattle.places.specs.Values.{pair, three}
-use Rattle.fc2_compact.specs.Compact.{symmetrized, onSite, offSiteSum}
+use Rattle.fc2_passes.specs.Passes.{onSite, offSiteSum}
+use Rattle.fc2_compact.specs.Compact.{symmetrized}
 
 -- two atoms, rows 0 1 / 1 0: block (0, 0) is transposed, the half-shift block (0, 1) stays
 half-shift : transposed2 0 pair (tab 18 (λ k. k))

@@ -31,6 +31,7 @@ use Rattle.orbits.specs.Symmetric.{symmetrized}
 use Rattle.orbits.specs.GroupLoop.{worked, firstVisit, isFirst, visit-first, visit-later, lowest-leaves}
 use Rattle.orbits.proofs.AnyOrder.{visits-commute}
 use Rattle.fc3_groups.specs.Mean.{mean6, Blocks6}
+use Rattle.fc3_groups.specs.Repeated.{FirstTwo, LastTwo}
 use Rattle.fc3.specs.Loops.{plain3, six-same}
 use Rattle.fc3.specs.Symmetrize.{judgedFull3, setPermutationSymmetryFc3}
 
@@ -268,6 +269,9 @@ pub record Found (n a b c b0 b1 b2 b3 b4 b5 : ℕ) : Type 0 where
   pub cab : b4 ≡ horner n c (a ∷ b ∷ [])
   pub cba : b5 ≡ horner n c (b ∷ a ∷ [])
 
+subst3 : {x y z u v w : ℕ} → x ≡ u → y ≡ v → z ≡ w → Distinct (x ∷ y ∷ z ∷ []) → Distinct (u ∷ v ∷ w ∷ [])
+subst3 e f g d = rw (← e, ← f, ← g) d
+
 module _ {n a b c : ℕ} (s : Sorted n a b c) {b0 b1 b2 b3 b4 b5 : ℕ} (F : Found n a b c b0 b1 b2 b3 b4 b5) where
   found-six : b0 ∷ b1 ∷ b2 ∷ b3 ∷ b4 ∷ b5 ∷ [] ≡ sixOf n a b c
   found-six =
@@ -292,6 +296,33 @@ module _ {n a b c : ℕ} (s : Sorted n a b c) {b0 b1 b2 b3 b4 b5 : ℕ} (F : Fou
 
       at : (q : ℕ) {k : ℕ} → q ≡ k → k < room n 2 n → q * 27 + 27 ≤ lenSet
       at q {k} e h = rw (R .set-length, size-whole n 2) (in-set q (rw e h))
+
+  -- three blocks in rising order
+  rise : (x y z : ℕ) → x < y → y < z → Distinct (x ∷ y ∷ z ∷ [])
+  rise x y z h k = (((λ e. omega arith), ((λ e. omega arith), tt)), (((λ e. omega arith), tt), (tt, tt)))
+
+  -- where two are, three blocks are left, which differ
+  pub found-first : a ≡ b → b < c → FirstTwo b0 b1 b2 b3 b4 b5
+  found-first e l =
+      let hb = lt-b n a b c s in
+      let u = last-lt n b c a (s .last) l in
+      let v = lead-lt n a c b c a b (omega arith) (s .last) hb in (
+        F .bac ∙ ap₂ (λ x y. horner n x (y ∷ c ∷ [])) (sym e) e ∙ sym (F .abc),
+        F .bca ∙ ap₂ (λ x y. horner n x (c ∷ y ∷ [])) (sym e) e ∙ sym (F .acb),
+        F .cba ∙ ap₂ (λ x y. horner n c (x ∷ y ∷ [])) (sym e) e ∙ sym (F .cab),
+        subst3 (sym (F .abc ∙ plain3 n a b c)) (sym (F .acb ∙ plain3 n a c b)) (sym (F .cab ∙ plain3 n c a b)) (rise (full3At n a b c) (full3At n a c b) (full3At n c a b) u v),
+      )
+
+  pub found-last : b ≡ c → a < b → LastTwo b0 b1 b2 b3 b4 b5
+  found-last e l =
+      let hb = lt-b n a b c s in
+      let u = lead-lt n a b c b a c l hb (s .last) in
+      let v = last-lt n a c b (s .last) (omega arith) in (
+        F .acb ∙ ap₂ (λ x y. horner n a (x ∷ y ∷ [])) (sym e) e ∙ sym (F .abc),
+        F .cab ∙ ap₂ (λ x y. horner n x (a ∷ y ∷ [])) (sym e) e ∙ sym (F .bac),
+        F .cba ∙ ap₂ (λ x y. horner n x (y ∷ a ∷ [])) (sym e) e ∙ sym (F .bca),
+        subst3 (sym (F .abc ∙ plain3 n a b c)) (sym (F .bac ∙ plain3 n b a c)) (sym (F .bca ∙ plain3 n b c a)) (rise (full3At n a b c) (full3At n b a c) (full3At n b c a) u v),
+      )
 
   -- where no two atoms are the same, they differ
   pub found-distinct : a < b → b < c → Distinct (b0 ∷ b1 ∷ b2 ∷ b3 ∷ b4 ∷ b5 ∷ [])

@@ -24,7 +24,27 @@ fn rising(a: SuperAtom, b: SuperAtom, c: SuperAtom) -> bool
     false
 }
 
-// The group of atoms a <= b <= c: all six permutations of them. Three different atoms have six different blocks.
+// Whether the first two of three atoms are the same and the last one is higher.
+fn same_first(a: SuperAtom, b: SuperAtom, c: SuperAtom) -> bool
+    ensures { λ r. ⌜ (r ≡ true → (a .0 ≡ b .0) × (b .0 < c .0)) ⌝ }
+{
+    if a.0 == b.0 {
+        return b.0 < c.0;
+    }
+    false
+}
+
+// Whether the last two of three atoms are the same and the first one is lower.
+fn same_last(a: SuperAtom, b: SuperAtom, c: SuperAtom) -> bool
+    ensures { λ r. ⌜ (r ≡ true → (b .0 ≡ c .0) × (a .0 < b .0)) ⌝ }
+{
+    if b.0 == c.0 {
+        return a.0 < b.0;
+    }
+    false
+}
+
+// The group of atoms a <= b <= c: all six permutations of them. Three different atoms have six different blocks, two have three.
 fn full_group(fc3: &mut [f64], num_atom: usize, a: SuperAtom, b: SuperAtom, c: SuperAtom)
     requires { ⌜ FullReady (length (now fc3)) «num_atom» × Sorted «num_atom» (a .0) (b .0) (c .0) ⌝ }
     ensures { λ _. ⌜ now (fc3 .exit) ≡ groupAt «num_atom» (a .0) (b .0) (c .0) (now (fc3 .entry)) ⌝ }
@@ -36,7 +56,20 @@ fn full_group(fc3: &mut [f64], num_atom: usize, a: SuperAtom, b: SuperAtom, c: S
     let cab = full3(c, a, b, num_atom);
     let cba = full3(c, b, a, num_atom);
     let differ = rising(a, b, c);
-    work_known(fc3, abc, acb, bac, bca, cab, cba, differ);
+    let first_two = same_first(a, b, c);
+    let last_two = same_last(a, b, c);
+    work_known(
+        fc3,
+        abc,
+        acb,
+        bac,
+        bca,
+        cab,
+        cba,
+        differ,
+        first_two,
+        last_two,
+    );
 }
 
 // The groups of b and c with the atoms from, .., to - 1. Their blocks (b, c, a) and (c, b, a) lie side by side.

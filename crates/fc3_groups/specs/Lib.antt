@@ -1,3 +1,4 @@
 pub mod Mean
 pub mod Spread
 pub mod Coinciding
+pub mod Repeated

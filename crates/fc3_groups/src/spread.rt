@@ -5,11 +5,13 @@ ghost use mathlib.Core.List.{[], _∷_};
 ghost use Prim.Native.Nat.{_+_, _*_, _<_, _≤_};
 ghost use lib.ListN.{length, set};
 ghost use Rattle.places.specs.Permutations.{six};
+ghost use Rattle.blocks.specs.Permuted.{gathered};
 ghost use Rattle.orbits.specs.Groups.{spots, meanBlock, spreadBlock, Apart, Distinct};
 ghost use Rattle.orbits.specs.Spread.{setAll};
 ghost use Rattle.fc3_groups.specs.Mean.{mean6, Blocks6};
 ghost use Rattle.fc3_groups.specs.Spread.{putSix, lineAt, planeAt};
 ghost use Rattle.fc3_groups.specs.Coinciding.{firstAt, copySix, Six, flat};
+ghost use Rattle.fc3_groups.specs.Repeated.{laterMln, laterLnm, FirstTwo, LastTwo};
 use crate::mean::group_means;
 use blocks::permute;
 use places::dir3;
@@ -212,6 +214,98 @@ fn put_blocks(
     blocks::write27(fc3, b5, permute::permute_nml(v));
 }
 
+// Of the positions (l, m, n) and (m, l, n) the number of the later one: what blocks hold whose first two legs have the same atom.
+fn later_mln(v: [f64; 27]) -> [f64; 27]
+    ensures { λ r. ⌜ r ≡ gathered v laterMln ⌝ }
+{
+    [
+        v[0],
+        v[1],
+        v[2],
+        v[9],
+        v[10],
+        v[11],
+        v[18],
+        v[19],
+        v[20],
+        v[9],
+        v[10],
+        v[11],
+        v[12],
+        v[13],
+        v[14],
+        v[21],
+        v[22],
+        v[23],
+        v[18],
+        v[19],
+        v[20],
+        v[21],
+        v[22],
+        v[23],
+        v[24],
+        v[25],
+        v[26],
+    ]
+}
+
+// The same of the positions (l, m, n) and (l, n, m).
+fn later_lnm(v: [f64; 27]) -> [f64; 27]
+    ensures { λ r. ⌜ r ≡ gathered v laterLnm ⌝ }
+{
+    [
+        v[0],
+        v[3],
+        v[6],
+        v[3],
+        v[4],
+        v[7],
+        v[6],
+        v[7],
+        v[8],
+        v[9],
+        v[12],
+        v[15],
+        v[12],
+        v[13],
+        v[16],
+        v[15],
+        v[16],
+        v[17],
+        v[18],
+        v[21],
+        v[24],
+        v[21],
+        v[22],
+        v[25],
+        v[24],
+        v[25],
+        v[26],
+    ]
+}
+
+// The three blocks aac, aca and caa of a group whose first two atoms are the same.
+fn put_first_two(fc3: &mut [f64], aac: usize, aca: usize, caa: usize, v: [f64; 27])
+    requires { ⌜ Blocks6 (length (now fc3)) aac aca aac aca caa caa × Distinct (aac ∷ aca ∷ caa ∷ []) ⌝ }
+    ensures { λ _. ⌜ now (fc3 .exit) ≡ spreadBlock 2 six (aac ∷ aca ∷ aac ∷ aca ∷ caa ∷ caa ∷ []) v (now (fc3 .entry)) ⌝ }
+{
+    let w = later_mln(v);
+    blocks::write27(fc3, aac, w);
+    blocks::write27(fc3, aca, permute::permute_lnm(w));
+    blocks::write27(fc3, caa, permute::permute_mnl(w));
+}
+
+// The three blocks abb, bab and bba of a group whose last two atoms are the same.
+fn put_last_two(fc3: &mut [f64], abb: usize, bab: usize, bba: usize, v: [f64; 27])
+    requires { ⌜ Blocks6 (length (now fc3)) abb abb bab bba bab bba × Distinct (abb ∷ bab ∷ bba ∷ []) ⌝ }
+    ensures { λ _. ⌜ now (fc3 .exit) ≡ spreadBlock 2 six (abb ∷ abb ∷ bab ∷ bba ∷ bab ∷ bba ∷ []) v (now (fc3 .entry)) ⌝ }
+{
+    let w = later_lnm(v);
+    blocks::write27(fc3, abb, w);
+    blocks::write27(fc3, bab, permute::permute_mln(w));
+    blocks::write27(fc3, bba, permute::permute_nlm(w));
+}
+
 // Whether a differs from each of five numbers.
 fn apart(a: usize, b: usize, c: usize, d: usize, e: usize, f: usize) -> bool
     ensures { λ r. ⌜ (r ≡ true → Apart a (b ∷ c ∷ d ∷ e ∷ f ∷ [])) ⌝ }
@@ -247,8 +341,8 @@ fn distinct(b0: usize, b1: usize, b2: usize, b3: usize, b4: usize, b5: usize) ->
     false
 }
 
-// A group worked out and written: all six places of each mean are read, and the mean is written to all six.
-// Blocks that are known to differ are written whole.
+// A group worked out and written: all six places of each mean are read, and the mean is written to all six. Blocks that are known to differ, and those
+// of atoms of which the first two, or the last two, are known to be the same, are written whole and once.
 pub fn work_known(
     fc3: &mut [f64],
     b0: usize,
@@ -258,17 +352,26 @@ pub fn work_known(
     b4: usize,
     b5: usize,
     differ: bool,
+    first_two: bool,
+    last_two: bool,
 )
-    requires { ⌜ Blocks6 (length (now fc3)) b0 b1 b2 b3 b4 b5 ⌝ }
-    requires { ⌜ (differ ≡ true → Distinct (b0 ∷ b1 ∷ b2 ∷ b3 ∷ b4 ∷ b5 ∷ [])) ⌝ }
+    requires { ⌜ Blocks6 (length (now fc3)) b0 b1 b2 b3 b4 b5 × (differ ≡ true → Distinct (b0 ∷ b1 ∷ b2 ∷ b3 ∷ b4 ∷ b5 ∷ [])) × («first_two» ≡ true → FirstTwo b0 b1 b2 b3 b4 b5) × («last_two» ≡ true → LastTwo b0 b1 b2 b3 b4 b5) ⌝ }
     ensures { λ _. ⌜ now (fc3 .exit) ≡ spreadBlock 2 six (b0 ∷ b1 ∷ b2 ∷ b3 ∷ b4 ∷ b5 ∷ []) (meanBlock mean6 2 six (b0 ∷ b1 ∷ b2 ∷ b3 ∷ b4 ∷ b5 ∷ []) (now (fc3 .entry))) (now (fc3 .entry)) ⌝ }
 {
     let mean = group_means(fc3, b0, b1, b2, b3, b4, b5);
     if differ {
         put_blocks(fc3, b0, b1, b2, b3, b4, b5, mean);
-    } else {
-        put_positions(fc3, b0, b1, b2, b3, b4, b5, mean);
+        return;
     }
+    if first_two {
+        put_first_two(fc3, b0, b1, b4, mean);
+        return;
+    }
+    if last_two {
+        put_last_two(fc3, b0, b2, b3, mean);
+        return;
+    }
+    put_positions(fc3, b0, b1, b2, b3, b4, b5, mean);
 }
 
 // The same where it is yet to be seen whether the blocks differ.
@@ -277,5 +380,5 @@ pub fn work_group(fc3: &mut [f64], b0: usize, b1: usize, b2: usize, b3: usize, b
     ensures { λ _. ⌜ now (fc3 .exit) ≡ spreadBlock 2 six (b0 ∷ b1 ∷ b2 ∷ b3 ∷ b4 ∷ b5 ∷ []) (meanBlock mean6 2 six (b0 ∷ b1 ∷ b2 ∷ b3 ∷ b4 ∷ b5 ∷ []) (now (fc3 .entry))) (now (fc3 .entry)) ⌝ }
 {
     let differ = distinct(b0, b1, b2, b3, b4, b5);
-    work_known(fc3, b0, b1, b2, b3, b4, b5, differ);
+    work_known(fc3, b0, b1, b2, b3, b4, b5, differ, false, false);
 }

@@ -2,3 +2,4 @@ pub mod Exchanging
 pub mod TrueTransposes
 pub mod HalfShift
 pub mod Moved
+pub mod Inner

@@ -100,14 +100,6 @@ pub fn dir3(a: usize, b: usize, c: usize) -> usize
     with_leg(dir2(a, b), 3, c)
 }
 
-// The position of directions a, b, c, d in a block of 81.
-pub fn dir4(a: usize, b: usize, c: usize, d: usize) -> usize
-    requires { ⌜ (a < 3) × (b < 3) × (c < 3) × (d < 3) ⌝ }
-    ensures { λ r. ⌜ r ≡ horner 3 a (b ∷ c ∷ d ∷ []) ⌝ }
-{
-    with_leg(dir3(a, b, c), 3, d)
-}
-
 // The read-out entry for atoms (i, j) is this stored block: the one at s2pp[i] and the image of j under row nsym_list[i].
 pub fn read_out2(
     s2pp: &[i64],

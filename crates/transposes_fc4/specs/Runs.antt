@@ -1,106 +1,96 @@
--- A block of fourth order whose first two directions are exchanged by runs of nine numbers: the last two directions stay side by side. Assumes nothing.
-use mathlib.Core.Path.{_≡_, refl, sym, ap, _∙_}
+-- A block of fourth order whose first two directions are exchanged where it stands, by its nine blocks of nine numbers: the last two directions stay side
+-- by side. Assumes nothing.
+use mathlib.Core.Path.{_≡_, refl, sym, ap, ap₂, _∙_}
 use mathlib.Core.Bool.{Bool, true, cond}
 use mathlib.Core.List.{List}
-use mathlib.Core.Logic.{_⊎_, ⊎-elim}
-use Prim.Native.Nat.{ℕ, zero, suc, _+_, _*_, _/_, _%_, _≤_, _<_}
+use mathlib.Core.Logic.{⊎-elim}
+use Prim.Native.Nat.{ℕ, _+_, _*_, _/_, _%_, _≤_, _<_}
 use native.Mathlib.Nat.{mod-lt}
+use native.Mathlib.Omega.{arith}
 use lib.Dec.{eqb, lit<}
 use lib.ListN.{length, getD}
 use lib.Ieee.{Float, nan}
 use borrow.Author.Tests.{eqb-true, eq-eqb, ne-eqb}
 use Rattle.lists.specs.Cases.{eq-or-ne}
 use Rattle.lists.specs.Tests.{every, every-at}
-use Rattle.lists.specs.Tab.{tab, is-tab}
+use Rattle.lists.specs.Tab.{is-tab}
 use Rattle.lists.specs.Elements.{pick}
 use Rattle.lists.specs.Digits.{horner, rest, digits}
 use Rattle.blocks.specs.Block.{block, putBlock, length-putBlock, getD-block, put-inside, put-outside}
 use Rattle.blocks.specs.Permuted.{permuted, permutedBlock}
 use Rattle.places.specs.Moves.{order4}
+use Rattle.half_shifts.specs.Inner.{With, with-own, with-block, with-put}
 
--- ---- a block of fourth order with its first two directions exchanged, by runs of nine numbers
+-- a set in which blocks x and y of nine numbers have changed places
+abbrev pub traded : ℕ → ℕ → List Float → List Float
+traded x y xs = putBlock 9 y (block 9 x xs) (putBlock 9 x (block 9 y xs) xs)
 
--- the numbers of v at places f 0, f 1, .., with run b written over by run c of v
-run-put : (v xs : List Float) (f : ℕ → ℕ) (b c : ℕ) → length xs ≡ 81 → ((k : ℕ) → k < 81 → getD xs k nan ≡ getD v (f k) nan)
-    → (k : ℕ) → k < 81 → getD (putBlock 9 b (block 9 c v) xs) k nan ≡ getD v (cond (eqb (k / 9) b) (c * 9 + k % 9) (f k)) nan
-run-put v xs f b c l h k hk =
+-- xs holds the numbers of v at places f 0, f 1, ..; its blocks x and y change places
+step : (v xs : List Float) (f : ℕ → ℕ) (x y : ℕ) → length xs ≡ 81 → x < 9 → y < 9 → ((k : ℕ) → k < 81 → getD xs k nan ≡ getD v (f k) nan)
+    → (k : ℕ) → k < 81 → getD (traded x y xs) k nan ≡ getD v (cond (eqb (k / 9) y) (f (x * 9 + k % 9)) (cond (eqb (k / 9) x) (f (y * 9 + k % 9)) (f k))) nan
+step v xs f x y l hx hy h k hk =
+    let one = putBlock 9 x (block 9 y xs) xs in
+    let l1 : length one ≡ 81 = length-putBlock 9 x (block 9 y xs) xs ∙ l in
+    let m : k % 9 < 9 = mod-lt k (lit< tt) in
     ⊎-elim
-    (λ (e : k / 9 ≡ b). put-inside 9 b (block 9 c v) xs k (rw l hk) e ∙ getD-block 9 c v (k % 9) (mod-lt k (lit< tt)) ∙ sym (rw (eq-eqb (k / 9) b e) refl))
-    (λ (e : k / 9 ≡ b → ⊥). put-outside 9 b (block 9 c v) xs k (rw l hk) e ∙ h k hk ∙ sym (rw (ne-eqb (k / 9) b e) refl))
-    (eq-or-ne (k / 9) b)
+    (λ (e : k / 9 ≡ y). put-inside 9 y (block 9 x xs) one k (rw l1 hk) e ∙ getD-block 9 x xs (k % 9) m ∙ h (x * 9 + k % 9) (omega arith) ∙ sym (rw (eq-eqb (k / 9) y e) refl))
+    (λ (e : k / 9 ≡ y → ⊥).
+    put-outside 9 y (block 9 x xs) one k (rw l1 hk) e
+    ∙ ⊎-elim
+    (λ (d : k / 9 ≡ x). put-inside 9 x (block 9 y xs) xs k (rw l hk) d ∙ getD-block 9 y xs (k % 9) m ∙ h (y * 9 + k % 9) (omega arith) ∙ sym (rw (ne-eqb (k / 9) y e, eq-eqb (k / 9) x d) refl))
+    (λ (d : k / 9 ≡ x → ⊥). put-outside 9 x (block 9 y xs) xs k (rw l hk) d ∙ h k hk ∙ sym (rw (ne-eqb (k / 9) y e, ne-eqb (k / 9) x d) refl))
+    (eq-or-ne (k / 9) x))
+    (eq-or-ne (k / 9) y)
 
--- six runs of v change places
-abbrev runsFrom : ℕ → ℕ
-runsFrom k =
-    cond (eqb (k / 9) 7) (5 * 9 + k % 9)
-    (cond (eqb (k / 9) 5) (7 * 9 + k % 9)
-    (cond (eqb (k / 9) 6) (2 * 9 + k % 9)
-    (cond (eqb (k / 9) 2) (6 * 9 + k % 9)
-    (cond (eqb (k / 9) 3) (1 * 9 + k % 9)
-    (cond (eqb (k / 9) 1) (3 * 9 + k % 9) k)))))
+-- where the numbers come from once three pairs have changed places, by computation over all of them
+abbrev from1 : ℕ → ℕ
+from1 k = cond (eqb (k / 9) 3) (1 * 9 + k % 9) (cond (eqb (k / 9) 1) (3 * 9 + k % 9) k)
 
--- where a position comes from, by computation over all of them
+abbrev from2 : ℕ → ℕ
+from2 k = cond (eqb (k / 9) 6) (from1 (2 * 9 + k % 9)) (cond (eqb (k / 9) 2) (from1 (6 * 9 + k % 9)) (from1 k))
+
+abbrev from3 : ℕ → ℕ
+from3 k = cond (eqb (k / 9) 7) (from2 (5 * 9 + k % 9)) (cond (eqb (k / 9) 5) (from2 (7 * 9 + k % 9)) (from2 k))
+
 isFrom : ℕ → Bool
-isFrom k = eqb (runsFrom k) (permuted 3 (order4 0) k)
+isFrom k = eqb (from3 k) (permuted 3 (order4 0) k)
 
 all-from : every 81 isFrom ≡ true
 unfolding every isFrom permuted order4 pick horner digits rest
 all-from = refl
 
-from-run : (k : ℕ) → k < 81 → runsFrom k ≡ permuted 3 (order4 0) k
+from-pairs : (k : ℕ) → k < 81 → from3 k ≡ permuted 3 (order4 0) k
 unfolding isFrom
-from-run k h = eqb-true (runsFrom k) (permuted 3 (order4 0) k) (every-at 81 isFrom all-from k h)
+from-pairs k h = eqb-true (from3 k) (permuted 3 (order4 0) k) (every-at 81 isFrom all-from k h)
 
-in-runs : (v : List Float) {r1 r3 r2 r6 r5 r7 : List Float} → length v ≡ 81
-    → r1 ≡ putBlock 9 1 (block 9 3 v) v → r3 ≡ putBlock 9 3 (block 9 1 v) r1 → r2 ≡ putBlock 9 2 (block 9 6 v) r3
-    → r6 ≡ putBlock 9 6 (block 9 2 v) r2 → r5 ≡ putBlock 9 5 (block 9 7 v) r6 → r7 ≡ putBlock 9 7 (block 9 5 v) r5
-    → r7 ≡ permutedBlock 81 (permuted 3 (order4 0)) v
+length-traded : (x y : ℕ) (xs : List Float) → length xs ≡ 81 → length (traded x y xs) ≡ 81
+length-traded x y xs l = length-putBlock 9 y (block 9 x xs) (putBlock 9 x (block 9 y xs) xs) ∙ length-putBlock 9 x (block 9 y xs) xs ∙ l
+
+traded-all : (v : List Float) → length v ≡ 81 → traded 5 7 (traded 2 6 (traded 1 3 v)) ≡ permutedBlock 81 (permuted 3 (order4 0)) v
 unfolding permutedBlock
-in-runs v {r1} {r3} {r2} {r6} {r5} {r7} l e1 e3 e2 e6 e5 e7 =
-    is-tab nan 81 (λ k. getD v (permuted 3 (order4 0) k) nan) r7 l7 (λ k h. at k h ∙ ap (λ p. getD v p nan) (from-run k h))
+traded-all v l =
+    let v1 = traded 1 3 v in
+    let v2 = traded 2 6 v1 in
+    let l1 = length-traded 1 3 v l in
+    let l2 = length-traded 2 6 v1 l1 in
+    let s1 = step v v (λ k. k) 1 3 l (lit< tt) (lit< tt) (λ k h. refl) in
+    let s2 = step v v1 from1 2 6 l1 (lit< tt) (lit< tt) s1 in
+    let s3 = step v v2 from2 5 7 l2 (lit< tt) (lit< tt) s2 in
+    is-tab nan 81 (λ k. getD v (permuted 3 (order4 0) k) nan) (traded 5 7 v2) (length-traded 5 7 v2 l2) (λ k h. s3 k h ∙ ap (λ p. getD v p nan) (from-pairs k h))
+
+-- three pairs of the blocks of block b change places, one after the other
+pub runs-are : (b : ℕ) (xs : List Float) {g1 g3 g2 g6 g5 g7 : ℕ} {x y z : List Float} → b * 81 + 81 ≤ length xs
+    → g1 ≡ b * 9 + 1 → g3 ≡ b * 9 + 3 → g2 ≡ b * 9 + 2 → g6 ≡ b * 9 + 6 → g5 ≡ b * 9 + 5 → g7 ≡ b * 9 + 7
+    → x ≡ traded g1 g3 xs → y ≡ traded g2 g6 x → z ≡ traded g5 g7 y → z ≡ putBlock 81 b (permutedBlock 81 (permuted 3 (order4 0)) (block 81 b xs)) xs
+runs-are b xs {x = x} {y = y} {z = z} l e1 e3 e2 e6 e5 e7 p q r =
+    let v = block 81 b xs in
+    let I = with-own 9 b xs (lit< tt) l in
+    let J : With 9 b xs (traded 1 3 v) x = trade I 1 3 (lit< tt) (lit< tt) (p ∙ ap₂ (λ g h. traded g h xs) e1 e3) in
+    let K : With 9 b xs (traded 2 6 (traded 1 3 v)) y = trade J 2 6 (lit< tt) (lit< tt) (q ∙ ap₂ (λ g h. traded g h x) e2 e6) in
+    let L : With 9 b xs (traded 5 7 (traded 2 6 (traded 1 3 v))) z = trade K 5 7 (lit< tt) (lit< tt) (r ∙ ap₂ (λ g h. traded g h y) e5 e7) in
+    L .is ∙ ap (λ v. putBlock 81 b v xs) (traded-all v (I .long))
   where
-    put : {r : List Float} (s : List Float) (b c : ℕ) → r ≡ putBlock 9 b (block 9 c v) s → length s ≡ 81 → length r ≡ 81
-    put {r} s b c e l = ap length e ∙ length-putBlock 9 b (block 9 c v) s ∙ l
-
-    l1 : length r1 ≡ 81
-    l1 = put v 1 3 e1 l
-
-    l3 : length r3 ≡ 81
-    l3 = put r1 3 1 e3 l1
-
-    l2 : length r2 ≡ 81
-    l2 = put r3 2 6 e2 l3
-
-    l6 : length r6 ≡ 81
-    l6 = put r2 6 2 e6 l2
-
-    l5 : length r5 ≡ 81
-    l5 = put r6 5 7 e5 l6
-
-    l7 : length r7 ≡ 81
-    l7 = put r5 7 5 e7 l5
-
-    step : {r : List Float} (s : List Float) (f : ℕ → ℕ) (b c : ℕ) → r ≡ putBlock 9 b (block 9 c v) s → length s ≡ 81 → ((k : ℕ) → k < 81 → getD s k nan ≡ getD v (f k) nan)
-        → (k : ℕ) → k < 81 → getD r k nan ≡ getD v (cond (eqb (k / 9) b) (c * 9 + k % 9) (f k)) nan
-    step {r} s f b c e l h k hk = ap (λ r. getD r k nan) e ∙ run-put v s f b c l h k hk
-
-    at : (k : ℕ) → k < 81 → getD r7 k nan ≡ getD v (runsFrom k) nan
-    at =
-        let f1 : ℕ → ℕ = λ k. cond (eqb (k / 9) 1) (3 * 9 + k % 9) k in
-        let f3 : ℕ → ℕ = λ k. cond (eqb (k / 9) 3) (1 * 9 + k % 9) (f1 k) in
-        let f2 : ℕ → ℕ = λ k. cond (eqb (k / 9) 2) (6 * 9 + k % 9) (f3 k) in
-        let f6 : ℕ → ℕ = λ k. cond (eqb (k / 9) 6) (2 * 9 + k % 9) (f2 k) in
-        let f5 : ℕ → ℕ = λ k. cond (eqb (k / 9) 5) (7 * 9 + k % 9) (f6 k) in
-        step r5 f5 7 5 e7 l5 (step r6 f6 5 7 e5 l6 (step r2 f2 6 2 e6 l2 (step r3 f3 2 6 e2 l3 (step r1 f1 3 1 e3 l1 (step v (λ k. k) 1 3 e1 l (λ k h. refl))))))
-
-written : {r u : List Float} (s v : List Float) (b c : ℕ) → r ≡ putBlock 9 b u s → u ≡ block 9 c v → r ≡ putBlock 9 b (block 9 c v) s
-written s v b c e f = e ∙ ap (λ u. putBlock 9 b u s) f
-
--- that is the block with its directions permuted
-pub runs-are : (v : List Float) {r1 r3 r2 r6 r5 r7 u1 u3 u2 u6 u5 u7 : List Float} → length v ≡ 81
-    → r1 ≡ putBlock 9 1 u3 v → u3 ≡ block 9 3 v → r3 ≡ putBlock 9 3 u1 r1 → u1 ≡ block 9 1 v
-    → r2 ≡ putBlock 9 2 u6 r3 → u6 ≡ block 9 6 v → r6 ≡ putBlock 9 6 u2 r2 → u2 ≡ block 9 2 v
-    → r5 ≡ putBlock 9 5 u7 r6 → u7 ≡ block 9 7 v → r7 ≡ putBlock 9 7 u5 r5 → u5 ≡ block 9 5 v
-    → r7 ≡ permutedBlock 81 (permuted 3 (order4 0)) v
-runs-are v {r1} {r3} {r2} {r6} {r5} l p1 q1 p3 q3 p2 q2 p6 q6 p5 q5 p7 q7 =
-    in-runs v l (written v v 1 3 p1 q1) (written r1 v 3 1 p3 q3) (written r3 v 2 6 p2 q2) (written r2 v 6 2 p6 q6) (written r6 v 5 7 p5 q5) (written r5 v 7 5 p7 q7)
+    trade : {v x y : List Float} → With 9 b xs v x → (i j : ℕ) → i < 9 → j < 9 → y ≡ traded (b * 9 + i) (b * 9 + j) x → With 9 b xs (traded i j v) y
+    trade {v} {x} {y} I i j hi hj e =
+        let M = with-put 9 b xs (lit< tt) l I i hi (block 9 j v) {y = putBlock 9 (b * 9 + i) (block 9 (b * 9 + j) x) x} (ap (λ u. putBlock 9 (b * 9 + i) u x) (with-block 9 b xs (lit< tt) l I j hj)) in
+        with-put 9 b xs (lit< tt) l M j hj (block 9 i v) (e ∙ ap (λ u. putBlock 9 (b * 9 + j) u (putBlock 9 (b * 9 + i) (block 9 (b * 9 + j) x) x)) (with-block 9 b xs (lit< tt) l I i hi))

@@ -6,6 +6,7 @@ ghost use mathlib.Core.Bool.{false, cond};
 ghost use Prim.Native.Nat.{_+_, _*_, _<_, _≤_};
 ghost use lib.ListN.{length};
 ghost use Rattle.tables.specs.Compact.{shiftTables, shiftsOf};
+ghost use Rattle.blocks.specs.Block.{block, putBlock};
 ghost use Rattle.blocks.specs.Permuted.{permutedBlock, permuted as permutedBy};
 ghost use Rattle.places.specs.Moves.{order4};
 ghost use Rattle.orbits.specs.Trading.{theOther};
@@ -13,6 +14,7 @@ ghost use Rattle.orbits.specs.BlockPairs.{joinedPair};
 ghost use Rattle.transposes_fc4.specs.Fc4.{transposedBy4, transposeCompactFc4};
 ghost use Rattle.half_shifts.specs.HalfShift.{Trading, PairAt};
 ghost use Rattle.half_shifts.specs.TrueTransposes.{swapped, legs4, trueTransposeCompactFc4};
+ghost use Rattle.transposes_fc4.specs.Runs.{traded};
 ghost use Rattle.transposes_fc4.specs.Fc4Loops.{at4, tradeAt, line4, plane4, pairs4};
 use half_shifts::stays;
 use lists::clear_bytes;
@@ -20,6 +22,7 @@ use places::block4;
 use places::last_leg;
 use places::legs_before;
 use places::read_out4;
+use places::with_leg;
 use shifts::judge_compact;
 use tables::Answer;
 use tables::atoms::PrimAtom;
@@ -28,30 +31,52 @@ use tables::atoms::p2s_at;
 use tables::is_refusal;
 use tables::limits::LIMIT4;
 
-// The block with its first two directions exchanged. They number nine runs of nine numbers side by side: run (x, y) comes from run (y, x), so that
-// runs (0, 0), (1, 1) and (2, 2) stay and the others change places in pairs.
-fn permuted81(v: [f64; 81]) -> [f64; 81]
-    ensures { λ r. ⌜ r ≡ permutedBlock 81 (permutedBy 3 (order4 0)) v ⌝ }
+// Blocks a and b change places whole.
+fn swap_blocks(fc4: &mut [f64], a: usize, b: usize)
+    requires { ⌜ (a * 81 + 81 ≤ length (now fc4)) × (b * 81 + 81 ≤ length (now fc4)) ⌝ }
+    ensures { λ _. ⌜ now (fc4 .exit) ≡ putBlock 81 b (block 81 a (now (fc4 .entry))) (putBlock 81 a (block 81 b (now (fc4 .entry))) (now (fc4 .entry))) ⌝ }
 {
-    let mut r = v;
-    blocks::write9(&mut r, 1, blocks::read9(&v, 3));
-    blocks::write9(&mut r, 3, blocks::read9(&v, 1));
-    blocks::write9(&mut r, 2, blocks::read9(&v, 6));
-    blocks::write9(&mut r, 6, blocks::read9(&v, 2));
-    blocks::write9(&mut r, 5, blocks::read9(&v, 7));
-    blocks::write9(&mut r, 7, blocks::read9(&v, 5));
-    r
+    let one = blocks::read81(fc4, a);
+    let other = blocks::read81(fc4, b);
+    blocks::write81(fc4, a, other);
+    blocks::write81(fc4, b, one);
 }
 
-// Blocks a and b change places, each with its first two directions exchanged.
+// Blocks x and y of nine numbers change places.
+fn swap_nines(fc4: &mut [f64], x: usize, y: usize)
+    requires { ⌜ (x * 9 + 9 ≤ length (now fc4)) × (y * 9 + 9 ≤ length (now fc4)) ⌝ }
+    ensures { λ _. ⌜ now (fc4 .exit) ≡ traded x y (now (fc4 .entry)) ⌝ }
+{
+    let one = blocks::read9(fc4, x);
+    let other = blocks::read9(fc4, y);
+    blocks::write9(fc4, x, other);
+    blocks::write9(fc4, y, one);
+}
+
+// Block b where it stands, with its first two directions exchanged. They number its nine blocks of nine numbers: block (x, y) comes from block (y, x), so
+// that (0, 0), (1, 1) and (2, 2) stay and the others change places in pairs.
+fn permute(fc4: &mut [f64], b: usize)
+    requires { ⌜ b * 81 + 81 ≤ length (now fc4) ⌝ }
+    ensures { λ _. ⌜ now (fc4 .exit) ≡ putBlock 81 b (permutedBlock 81 (permutedBy 3 (order4 0)) (block 81 b (now (fc4 .entry)))) (now (fc4 .entry)) ⌝ }
+{
+    swap_nines(fc4, with_leg(b, 9, 1), with_leg(b, 9, 3));
+    swap_nines(fc4, with_leg(b, 9, 2), with_leg(b, 9, 6));
+    swap_nines(fc4, with_leg(b, 9, 5), with_leg(b, 9, 7));
+}
+
+// Blocks a and b change places, each with its first two directions exchanged: they are moved whole first, and permuted where they stand then, because a
+// permuted copy of a block would be one copy more.
 fn exchange(fc4: &mut [f64], a: usize, b: usize)
     requires { ⌜ (a * 81 + 81 ≤ length (now fc4)) × (b * 81 + 81 ≤ length (now fc4)) ⌝ }
     ensures { λ _. ⌜ now (fc4 .exit) ≡ joinedPair theOther 81 (permutedBy 3 (order4 0)) a b (now (fc4 .entry)) ⌝ }
 {
-    let one = blocks::read81(fc4, a);
-    let other = blocks::read81(fc4, b);
-    blocks::write81(fc4, a, permuted81(other));
-    blocks::write81(fc4, b, permuted81(one));
+    if a == b {
+        permute(fc4, a);
+        return;
+    }
+    swap_blocks(fc4, a, b);
+    permute(fc4, a);
+    permute(fc4, b);
 }
 
 // Block (p, j, k, l) and its counterpart, whose atoms begin j, i: i is p's representative.

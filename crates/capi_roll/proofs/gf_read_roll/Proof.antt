@@ -18,7 +18,7 @@ read-at-requires : tie.Need-read-at-requires
 read-at-requires c κs = search needs
 
 tell-requires : tie.Need-tell-requires
-tell-requires c κs = search needs
+tell-requires c κs = (c .before .if1 .taken, c .before .before .read-at .ensures)
 
 same-length : tie.Need-same-length
 same-length c = search needs

@@ -8,7 +8,7 @@ use Rattle.drift.proofs.judge_drift.Reads as reads
 use Rattle.drift.proofs.judge_drift.Lts as lts
 
 returns : tie.Need-returns
-returns c = simp (lt-ltb _ _ (c .if1 .taken))
+returns c = simp (lt-ltb 1024 (c .before .args .n) (omega arith))
 
 mul-if2 : tie.Need-mul-if2
 mul-if2 c = let g = square (c .before .args .n) (omega arith) in omega arith

@@ -1,8 +1,6 @@
 -- `roll_append::judge_append` meets its contract. Assumes nothing.
-use mathlib.Core.Path.{_≡_, sym, ap, _∙_, subst}
-use mathlib.Core.Bool.{Bool, true}
+use mathlib.Core.Path.{sym, ap, _∙_}
 use mathlib.Core.Logic.{inl, inr}
-use Prim.Native.Nat.{ℕ, _<_, _≤_}
 use native.Mathlib.Omega.{arith}
 use borrow.Author.Tests.{le-leb, lt-leb}
 use lib.Dec.{leb}
@@ -42,7 +40,7 @@ returns-3 : tie.Need-returns-3
 returns-3 c =
     let a = c .before .before .before .before .before .before .before .before .args in
     let r = entry (a .kind) (a .set) (a .earlier) (a .label .now) in
-    answer-not (a .lent .now) (a .count) r (inr (inr (lt-leb (length (a .label .now)) 255 (c .if3 .taken))))
+    answer-not (a .lent .now) (a .count) r (inr (inr (lt-leb (length (a .label .now)) 255 (omega arith))))
 
 add-long : tie.Need-add-long
 add-long c = search needs
@@ -73,10 +71,10 @@ returns-4 c =
     let H = told-yes (c .before .before .before .before .before .before .before .is-roll .ensures) (c .before .before .before .before .before .before .if1 .left) in
     let k = both (ruled (a .kind) (a .set) (a .earlier)) (leb (length (a .label .now)) 255)
     (ap (λ k. ruled k (a .set) (a .earlier)) (sym (c .before .before .before .before .before .wide .ensures .0)) ∙ told-yes (c .before .before .before .before .is-ruled .ensures) (c .before .before .before .if2 .left))
-    (le-leb (length (a .label .now)) 255 (c .before .before .if3 .left)) in
+    (le-leb (length (a .label .now)) 255 (omega arith)) in
     let B : Bytes (a .lent .now) = λ i. omega (arith, c .before .before .before .before .before .before .before .before .before .shared-slice-known .given i) in
     let e = c .before .four .ensures .0 ∙ count-read (a .lent .now) (a .count) H in
-    answer-long (a .lent .now) (a .count) r H B (inl (subst (λ n. 999 < n) e (c .if4 .taken))) k
+    answer-long (a .lent .now) (a .count) r H B (inl (omega (arith, e))) k
 
 returns-5 : tie.Need-returns-5
 returns-5 c =
@@ -88,7 +86,7 @@ returns-5 c =
     (le-leb (length (a .label .now)) 255 (c .before .before .before .if3 .left)) in
     let B : Bytes (a .lent .now) = λ i. omega (arith, c .before .before .before .before .before .before .before .before .before .before .shared-slice-known .given i) in
     let e = c .before .before .four .ensures .0 ∙ count-read (a .lent .now) (a .count) H in
-    answer-long (a .lent .now) (a .count) r H B (inr (inl (c .if5 .taken))) k
+    answer-long (a .lent .now) (a .count) r H B (inr (inl (omega arith))) k
 
 returns-6 : tie.Need-returns-6
 returns-6 c =
@@ -100,7 +98,7 @@ returns-6 c =
     (le-leb (length (a .label .now)) 255 (c .before .before .before .before .if3 .left)) in
     let B : Bytes (a .lent .now) = λ i. omega (arith, c .before .before .before .before .before .before .before .before .before .before .before .shared-slice-known .given i) in
     let e = c .before .before .before .four .ensures .0 ∙ count-read (a .lent .now) (a .count) H in
-    answer-long (a .lent .now) (a .count) r H B (inr (inr (c .if6 .taken))) k
+    answer-long (a .lent .now) (a .count) r H B (inr (inr (omega arith))) k
 
 returns-7 : tie.Need-returns-7
 returns-7 c =
@@ -112,7 +110,7 @@ returns-7 c =
     (le-leb (length (a .label .now)) 255 (c .before .before .before .before .if3 .left)) in
     let B : Bytes (a .lent .now) = λ i. omega (arith, c .before .before .before .before .before .before .before .before .before .before .before .shared-slice-known .given i) in
     let e = c .before .before .before .four .ensures .0 ∙ count-read (a .lent .now) (a .count) H in
-    answer-done (a .lent .now) (a .count) r H B (subst (λ n. n ≤ 999) e (c .before .before .if4 .left)) (c .before .if5 .left) (c .if6 .left) k
+    answer-done (a .lent .now) (a .count) r H B (omega (arith, e)) (omega arith) (omega arith) k
 
 pub judge-append-spec : {M : Type 1} → statement M
 judge-append-spec =

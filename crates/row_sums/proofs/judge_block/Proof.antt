@@ -2,6 +2,7 @@
 use mathlib.Core.Path.{_≡_, refl, sym, ap, _∙_}
 use mathlib.Core.Bool.{true, false}
 use Prim.Native.Nat.{_+_, _*_}
+use native.Mathlib.Omega.{arith}
 use borrow.Author.Tests.{le-leb, lt-leb}
 use borrow.Author.Needs.{needs}
 use Rattle.blocks.specs.Block.{block}
@@ -14,11 +15,11 @@ use Rattle.row_sums.proofs.judge_block.Tie as tie
 
 returns : tie.Need-returns
 unfolding judgedBlock
-returns c = simp (le-leb _ _ (c .if1 .taken))
+returns c = let a = c .before .before .args in simp (le-leb (a .n) (a .i) (omega arith))
 
 returns-2 : tie.Need-returns-2
 unfolding judgedBlock
-returns-2 c = simp (lt-leb _ _ (c .before .if1 .left), le-leb _ _ (c .if2 .taken))
+returns-2 c = let a = c .before .before .before .args in simp (lt-leb (a .n) (a .i) (omega arith), le-leb (a .n) (a .j) (omega arith))
 
 full2-requires : tie.Need-full2-requires
 full2-requires c κs = (c .before .before .before .pre .small, c .before .if1 .left, c .if2 .left)

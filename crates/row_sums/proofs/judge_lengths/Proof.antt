@@ -8,7 +8,7 @@ use Rattle.row_sums.proofs.judge_lengths.Statement.{statement}
 use Rattle.row_sums.proofs.judge_lengths.Tie as tie
 
 returns : tie.Need-returns
-returns c = simp (lt-ltb _ _ (c .if1 .taken))
+returns c = simp (lt-ltb 1024 (c .before .args .n) (omega arith))
 
 mul-if2 : tie.Need-mul-if2
 mul-if2 c =

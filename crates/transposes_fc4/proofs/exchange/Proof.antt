@@ -1,49 +1,38 @@
 use Rattle.places.specs.Moves.{order4}
 use Rattle.blocks.specs.Permuted.{permuted}
-use Rattle.half_shifts.specs.Moved.{exchanged}
+use Rattle.half_shifts.specs.Inner.{flipped, swapped-flipped}
 use borrow.Author.Needs.{needs}
 use Rattle.transposes_fc4.proofs.exchange.Statement.{statement}
 use Rattle.transposes_fc4.proofs.exchange.Tie as tie
 
-read81-requires : tie.Need-read81-requires
-read81-requires c κs = search needs
+returns : tie.Need-returns
+returns c =
+    let a = c .before .before .before .before .before .before .args in
+    flipped 81 (permuted 3 (order4 0)) (a .a) (a .b) (a .fc4 .now) (c .before .before .before .before .if1 .taken) (c .before .before .permute .ensures)
 
-read81-requires-2 : tie.Need-read81-requires-2
-read81-requires-2 c κs = search needs
+returns-2 : tie.Need-returns-2
+returns-2 c =
+    let s = c .before .before .before .before .before .before .before .before .before .before .before .before .before .before in
+    let a = s .args in
+    swapped-flipped 81 (permuted 3 (order4 0)) (a .a) (a .b) (a .fc4 .now) (c .before .before .before .before .before .before .before .before .before .before .before .before .if1 .left) (s .pre .0) (s .pre .1) (c .before .before .before .before .before .before .before .before .before .before .swap-blocks .ensures) (c .before .before .before .before .before .before .permute2 .ensures) (c .before .before .permute3 .ensures)
 
-permuted81-requires : tie.Need-permuted81-requires
-permuted81-requires c κs = search needs
-
-write81-requires : tie.Need-write81-requires
-write81-requires c κs = search needs
-
-permuted81-requires-2 : tie.Need-permuted81-requires-2
-permuted81-requires-2 c κs = search needs
-
-write81-requires-2 : tie.Need-write81-requires-2
-write81-requires-2 c κs = search needs
+permute-requires : tie.Need-permute-requires
+permute-requires c κs = search needs
 
 same-length : tie.Need-same-length
 same-length c = search needs
 
-returns : tie.Need-returns
-returns c =
-    let w2 = c .before .before in
-    let w1 = w2 .before .before .before .before .before in
-    let r2 = w1 .before .before .before in
-    let r1 = r2 .before .before in
-    let a = r1 .before .before .before .args in
-    exchanged 81 (permuted 3 (order4 0)) (a .a) (a .b) (a .fc4 .now) (r1 .read81 .ensures) (r2 .read812 .ensures) (w1 .before .permuted81 .ensures) (w2 .before .permuted812 .ensures) (w1 .write81 .ensures) (w2 .write812 .ensures)
+swap-blocks-requires : tie.Need-swap-blocks-requires
+swap-blocks-requires c κs = search needs
+
+permute-requires-2 : tie.Need-permute-requires-2
+permute-requires-2 c κs = search needs
+
+permute-requires-3 : tie.Need-permute-requires-3
+permute-requires-3 c κs = search needs
+
+same-length-2 : tie.Need-same-length-2
+same-length-2 c = search needs
 
 pub exchange-spec : {M : Type 1} → statement M
-exchange-spec =
-    tie.close
-    (tie.spec
-    read81-requires
-    read81-requires-2
-    permuted81-requires
-    write81-requires
-    permuted81-requires-2
-    write81-requires-2
-    same-length
-    returns)
+exchange-spec = tie.close (tie.spec permute-requires same-length returns swap-blocks-requires permute-requires-2 permute-requires-3 same-length-2 returns-2)

@@ -5,12 +5,12 @@ use mathlib.Core.List.{[]}
 use lib.ListN.{getD}
 use Rattle.lists.specs.Tab.{times, times-none, times-more}
 use Rattle.drift.specs.Loops.{lookLine, lookColumns}
+use mathlib.Core.Logic.{⊎-elim}
+use borrow.Author.Tests.{not-false}
+use Rattle.drift.specs.Seen.{line-calm}
 use borrow.Author.Needs.{needs}
 use Rattle.drift.proofs.scan.look_columns.Statement.{statement}
 use Rattle.drift.proofs.scan.look_columns.Tie as tie
-use Rattle.drift.proofs.scan.look_columns.Reads as reads
-use Rattle.drift.proofs.scan.look_columns.Lts as lts
-use Rattle.drift.proofs.seen.look_line.Reads as look-line-reads
 
 abbrev Inv-loop : tie.InvT-loop
 Inv-loop columns n seen₀ j₀ seen j = (j ≤ n) × (seen ≡ times j (λ k. lookLine (n + k) (getD columns k [])) seen₀)
@@ -22,16 +22,10 @@ loop-holds : tie.Need-loop-holds Inv-loop μ-loop
 loop-holds c = (omega arith, times-none _ _)
 
 add-look-line : tie.Need-add-look-line Inv-loop μ-loop
-add-look-line c = omega (arith, c .before .before .pre .0)
-
-mul-look-line : tie.Need-mul-look-line Inv-loop μ-loop
-mul-look-line c = omega (arith, c .before .before .pre .0)
-
-shared-slice-copy-out-look-line : tie.Need-shared-slice-copy-out-look-line Inv-loop μ-loop
-shared-slice-copy-out-look-line c = omega (arith, c .before .before .pre .0, c .before .before .pre .1)
+add-look-line c = omega (arith, c .before .before .before .before .before .pre .0)
 
 look-line-requires : tie.Need-look-line-requires Inv-loop μ-loop
-look-line-requires c κs = omega (arith, c .before .before .before .pre .0)
+look-line-requires c κs = omega (arith, c .before .before .before .before .before .pre .0)
 
 add-j : tie.Need-add-j Inv-loop μ-loop
 add-j c = search needs
@@ -41,8 +35,14 @@ loop-less c = search needs
 
 loop-again : tie.Need-loop-again Inv-loop μ-loop
 loop-again c =
-    let l = c .before .before .before .loop in
-    (omega arith, times-more (l .j) _ _ (l .inv .1) (c .look-line .ensures))
+    let l = c .before .before .before .before .loop in
+    let a = c .before .before .before .before .before .args in
+    let f : c .if1 .seen ≡ lookLine (a .n + l .j) (getD (a .columns .now) (l .j) []) (l .seen) =
+    ⊎-elim
+    (λ w. w .2 ∙ w .1 .ensures)
+    (λ w. w .1 ∙ line-calm (a .n + l .j) (getD (a .columns .now) (l .j) []) (l .seen) (c .before .calm .ensures (not-false (c .before .calm .result) (w .0 .left))))
+    (c .if1 .came) in
+    (omega arith, times-more (l .j) _ _ (l .inv .1) f)
 
 returns : tie.Need-returns Inv-loop μ-loop
 unfolding lookColumns
@@ -51,18 +51,14 @@ returns c =
     let i : l .j ≡ c .before .before .args .n = omega arith in
     l .inv .1 ∙ rw i
 
+mul-s : tie.Need-mul-s Inv-loop μ-loop
+mul-s c = search needs
+
+shared-slice-copy-out-s : tie.Need-shared-slice-copy-out-s Inv-loop μ-loop
+shared-slice-copy-out-s c = search needs
+
+calm-requires : tie.Need-calm-requires Inv-loop μ-loop
+calm-requires c κs = search needs
+
 pub look-columns-spec : {M : Type 1} → statement M
-look-columns-spec =
-    tie.close
-    (tie.spec
-    Inv-loop
-    μ-loop
-    loop-holds
-    add-look-line
-    mul-look-line
-    shared-slice-copy-out-look-line
-    look-line-requires
-    add-j
-    loop-less
-    loop-again
-    returns)
+look-columns-spec = tie.close (tie.spec Inv-loop μ-loop loop-holds mul-s shared-slice-copy-out-s calm-requires add-look-line look-line-requires add-j loop-less loop-again returns)

@@ -1,5 +1,5 @@
 use Rattle.fc2_compact.specs.Compact.{symmetrized}
-use Rattle.fc2_compact.specs.CompactCode.{ready-same}
+use Rattle.fc2_passes.specs.Code.{ready-same}
 use borrow.Author.Needs.{needs}
 use Rattle.fc2_compact.proofs.compact.symmetrize.Statement.{statement}
 use Rattle.fc2_compact.proofs.compact.symmetrize.Tie as tie

@@ -1,0 +1,15 @@
+use mathlib.Core.Bool.{false≢true}
+use borrow.Author.Tests.{ltb-true}
+use Rattle.fc3.proofs.full.same_last.Statement.{statement}
+use Rattle.fc3.proofs.full.same_last.Tie as tie
+use Rattle.fc3.proofs.full.same_last.Reads as reads
+use Rattle.fc3.proofs.full.same_last.Lts as lts
+
+returns : tie.Need-returns
+returns c = λ e. (c .before .before .if1 .taken, ltb-true _ _ e)
+
+returns-2 : tie.Need-returns-2
+returns-2 c = λ e. absurd (false≢true e)
+
+pub same-last-spec : {M : Type 1} → statement M
+same-last-spec = tie.close (tie.spec returns returns-2)
