@@ -97,7 +97,8 @@ extern "C" {
     ANSWER(GF_ROLL_END, 68, "the roll's trailer begins there") \
     ANSWER(GF_MATCH_NO_NUMBER, 69, "some slot is left free, and a distance was NaN") \
     ANSWER(GF_SET_UNKNOWN, 70, "the set was never delivered") \
-    ANSWER(GF_SET_RETIRED, 71, "the set was retired, or one of those that replaced it")
+    ANSWER(GF_SET_RETIRED, 71, "the set was retired, or one of those that replaced it") \
+    ANSWER(GF_NO_MATCH, 72, "no bijection of near pairs exists")
 
 #define GF_ANSWER_NUMBER(name, number, words) name = number,
 enum gf_answer { GF_ANSWERS(GF_ANSWER_NUMBER) };
@@ -171,6 +172,28 @@ uint8_t gf_compute_permutation(
     const double *pos, size_t pos_len,
     const double *rot_pos, size_t rot_pos_len,
     size_t *pair, size_t pair_len,
+    size_t num_pos);
+
+/*
+ * The same, by chains of exchanges: a bijection of near pairs is found whenever one exists, and where gf_compute_permutation fills all
+ * slots it is that one. Near is as above; a NaN distance is not near.
+ * GF_DONE: the slots are a bijection of near pairs, the marks zeros. GF_NO_MATCH: none exists; the slots are all -1, and marks has 1 for
+ * each member of a group of positions that has fewer near slots than members, 0 for the rest. Where several bijections or groups exist
+ * any may come back. A chain takes up to num_pos calls, each a step deeper in the stack: up to 405 kB at 1,024 positions.
+ *   rot_atom  num_pos      only written
+ *   marks     num_pos      only written
+ *   lattice   9            row after row, the basis vectors in the columns
+ *   pos       3 x num_pos
+ *   rot_pos   3 x num_pos
+ * Refusals: 1 (num_pos above 1,024), 2.
+ */
+uint8_t gf_find_permutation(
+    int64_t *rot_atom, size_t rot_atom_len,
+    uint8_t *marks, size_t marks_len,
+    const double *lattice, size_t lattice_len,
+    double symprec,
+    const double *pos, size_t pos_len,
+    const double *rot_pos, size_t rot_pos_len,
     size_t num_pos);
 
 /* ---- second order ---- */

@@ -5,6 +5,7 @@ use crate::call_compact::{Compact, Name};
 use crate::call_deltas::Deltas;
 use crate::call_distribute::Distribute;
 use crate::call_drift::{Drift, WORST};
+use crate::call_finding::{crowd, staircase, Finding, NO_MATCH};
 use crate::call_full::Full;
 use crate::call_matching::Matching;
 use crate::call_slabs::Slabs;
@@ -293,4 +294,40 @@ pub fn drifts(b: &Bench) {
         });
         println!("| {n} | {:.1} | {:.1} | {:.2} | {:.1} |", port * 1e6, rows * 1e6, port / rows, stack as f64 / 1024.0);
     }
+}
+
+/// Least times of two calls, in turns, so that both meet the same load.
+fn in_turns(b: &Bench, mut one: impl FnMut(), mut other: impl FnMut()) -> [f64; 2] {
+    let mut least = [f64::MAX; 2];
+    for _ in 0..4 {
+        least = [least[0].min(b.least(&mut one)), least[1].min(b.least(&mut other))];
+    }
+    least
+}
+
+/// The matcher that knows when there is no match: beside compute_permutation where that gives true, and where chains are needed, with its stack.
+pub fn findings(b: &Bench) {
+    println!("| positions | order | find_permutation, us | compute_permutation, us | ratio | stack, kB |\n|---|---|---|---|---|---|");
+    for (n, kind, order) in [64, 512, 1024].into_iter().flat_map(|n| [(n, Kind::Same, "the same"), (n, Kind::Permuted, "any")]) {
+        let (pos, rot_pos) = pair(&mut Rng::new(29), kind, n);
+        let mut greedy = Matching { slots: vec![0; n], lattice: SKEW.to_vec(), symprec: 1e-5, pos: pos.clone(), rot_pos: rot_pos.clone(), pair: vec![0; 2], num_pos: n };
+        let mut call = Finding { slots: vec![0; n], marks: vec![0; n], lattice: SKEW.to_vec(), symprec: 1e-5, pos, rot_pos, num_pos: n };
+        let [port, other] = in_turns(b, || assert_eq!(std::hint::black_box(&mut call).port(), 0), || assert_eq!(std::hint::black_box(&mut greedy).port(), 0));
+        println!("| {n} | {order} | {:.1} | {:.1} | {:.2} | {:.1} |", port * 1e6, other * 1e6, port / other, stack_of(&mut call));
+    }
+    println!("\n| positions | staircase, us | without its top step, us | stack, kB | crowd, us | stack, kB |\n|---|---|---|---|---|---|");
+    for n in [64, 128, 256, 512, 1024] {
+        let (mut stairs, mut none, mut crowd) = (staircase(n, true), staircase(n, false), crowd(n / 2, 0));
+        let [found, missing] = in_turns(b, || assert_eq!(stairs.port(), 0), || assert_eq!(none.port(), NO_MATCH));
+        let crowded = b.least(|| assert_eq!(crowd.port(), 0));
+        let stacks = [stack_of(&mut stairs), stack_of(&mut crowd)];
+        println!("| {n} | {:.1} | {:.1} | {:.1} | {:.1} | {:.1} |", found * 1e6, missing * 1e6, stacks[0], crowded * 1e6, stacks[1]);
+    }
+}
+
+fn stack_of(call: &mut Finding) -> f64 {
+    let stack = deepest(&mut || {
+        std::hint::black_box(call.port());
+    });
+    stack as f64 / 1024.0
 }

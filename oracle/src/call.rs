@@ -149,6 +149,9 @@ pub trait Call: Clone + Debug {
 
     /// One change of what refusals 4, 5 and 6 look at.
     fn spoil(&mut self, _: &mut Rng) {}
+
+    /// Takes over from the library's answer what the papers leave free, if it is as they demand; of calls that are not refused.
+    fn settle(&mut self, _: &Self) {}
 }
 
 /// Document 01's refusal of the call, or 0.

@@ -20,7 +20,7 @@ pub const FALSE: u8 = 64;
 pub const NO_NUMBER: u8 = 69;
 
 /// The distance of a position and a rotated position, as the Rust works it out.
-fn distance(lattice: &[f64], pos: &[f64], rot_pos: &[f64]) -> f64 {
+pub fn distance(lattice: &[f64], pos: &[f64], rot_pos: &[f64]) -> f64 {
     let mut diff = [0.0; 3];
     for (k, x) in diff.iter_mut().enumerate() {
         *x = pos[k] - rot_pos[k];

@@ -3,6 +3,7 @@
 use crate::call::{refusal, Call, Lent, Numbers};
 use crate::call_compact::{Compact, Name};
 use crate::call_drift::Drift;
+use crate::call_finding::{is_group, on_axis, staircase, Finding, NO_MATCH};
 use crate::call_full::Full;
 use crate::makers;
 use crate::port;
@@ -92,6 +93,74 @@ fn other_calls() {
         seen(|r| makers::deltas(r, order));
     }
     seen(makers::matching);
+}
+
+/// One flipped bit of a slot, of a coordinate, of the lattice or of the answer is seen in the matcher that knows when there is no match; one
+/// of a mark too, unless what it makes is a group again, of which any may come back.
+#[test]
+fn finding_calls() {
+    let mut r = Rng::new(31);
+    let mut groups = 0;
+    for _ in 0..1500 {
+        let call = makers::finding(&mut r);
+        let mut call = perhaps_spoilt(&mut r, call);
+        let (slice, bit) = (r.below(5), r.below(64));
+        let n = call.parts().slices[slice].len();
+        let at = r.below(n.max(1));
+        let mut free = false;
+        let differences = |call: &mut Finding, change: &dyn Fn(&mut Finding) -> u8| {
+            let mut tally = Tally::new("");
+            tally.call(call, &|c: &mut Finding| {
+                let number = stand_in(c);
+                number ^ change(c)
+            });
+            tally.differences
+        };
+        let flipped = |c: &mut Finding| {
+            flip(&mut c.parts().slices[slice], at, bit, false);
+            0u8
+        };
+        if slice == 1 && n > 0 {
+            let mut after = call.clone();
+            let number = stand_in(&mut after);
+            flipped(&mut after);
+            free = number == NO_MATCH && is_group(&after.near(), &after.marks);
+            groups += free as u64;
+        }
+        assert_eq!(differences(&mut call, &|_| 0), 0);
+        assert_eq!(differences(&mut call, &|_| 1 << (bit % 8)), 1);
+        if n > 0 {
+            assert_eq!(differences(&mut call, &flipped), !free as u64, "slice {slice}, number {at}, bit {bit}");
+        }
+    }
+    assert!(groups > 0);
+}
+
+/// A call that marks nothing, everything, or leaves the slots where there is no match is seen; so is another bijection than greedy's.
+#[test]
+fn wrong_findings() {
+    let one = |mut call: Finding, number: u8, slots: &[i64], marks: &[u8]| {
+        let mut tally = Tally::new("");
+        tally.call(&mut call, &|c: &mut Finding| {
+            (c.slots, c.marks) = (slots.to_vec(), marks.to_vec());
+            number
+        });
+        tally.differences
+    };
+    let none = || staircase(3, false);
+    assert_eq!(one(none(), NO_MATCH, &[-1; 3], &[1; 3]), 0);
+    assert_eq!(one(none(), NO_MATCH, &[-1; 3], &[0; 3]), 1);
+    assert_eq!(one(none(), NO_MATCH, &[-1; 3], &[1, 0, 1]), 1);
+    assert_eq!(one(none(), NO_MATCH, &[0, 1, -1], &[1; 3]), 1);
+    let free = || on_axis(&[0.0, 0.0, 0.125], &[0.0, 0.125, 0.0], 0.1);
+    assert_eq!(one(free(), 0, &[0, 2, 1], &[0; 3]), 0);
+    assert_eq!(one(free(), 0, &[1, 2, 0], &[0; 3]), 1);
+    let chains = || on_axis(&[0.25, 0.25, 0.0, 0.0], &[0.125, 0.125, 0.375, 0.375], 0.1875);
+    assert_eq!(one(chains(), 0, &[2, 3, 0, 1], &[0; 4]), 0);
+    assert_eq!(one(chains(), 0, &[3, 2, 1, 0], &[0; 4]), 0);
+    assert_eq!(one(chains(), 0, &[3, 3, 1, 0], &[0; 4]), 1);
+    assert_eq!(one(chains(), 0, &[2, 3, 0, 1], &[0, 0, 1, 0]), 1);
+    assert_eq!(one(chains(), NO_MATCH, &[-1; 4], &[0, 0, 1, 1]), 1);
 }
 
 /// The first place with the worst drift is named, and no other: a row before a column that shares it, and a column where it is worse.

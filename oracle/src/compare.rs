@@ -7,12 +7,13 @@ use crate::tally::Tally;
 use crate::{compare_common, compare_lists, compare_roll, compare_row_sums, compare_true, makers, port};
 
 /// Every public call, the lists of transposes, the read-outs of the true ones, whole rolls and series of edits, in the order in which they are compared.
-pub const CALLS: [&str; 34] = [
+pub const CALLS: [&str; 35] = [
     "nint",
     "round",
     "sqrt",
     "check_shift_tables",
     "compute_permutation",
+    "find_permutation",
     "perm_trans_symmetrize_fc",
     "perm_trans_symmetrize_compact_fc",
     "set_index_permutation_symmetry_compact_fc",
@@ -56,6 +57,7 @@ fn run(tally: &mut Tally, r: &mut Rng, count: u64) {
         "nint" | "round" | "sqrt" => compare_common::patterns(tally, r, count * PATTERNS),
         "check_shift_tables" => beside(tally, r, count, makers::check),
         "compute_permutation" => beside(tally, r, count, makers::matching),
+        "find_permutation" => beside(tally, r, count, makers::finding),
         "perm_trans_symmetrize_fc" => beside(tally, r, count, |r| makers::full(r, 2)),
         "perm_trans_symmetrize_compact_fc" => beside(tally, r, count, |r| makers::compact(r, Name::Symmetrize2)),
         "set_index_permutation_symmetry_compact_fc" => beside(tally, r, count, |r| makers::compact(r, Name::Exchange2)),

@@ -5,6 +5,7 @@ use crate::call_compact::{Compact, Name};
 use crate::call_deltas::Deltas;
 use crate::call_distribute::Distribute;
 use crate::call_drift::Drift;
+use crate::call_finding::{crowd, staircase, Finding};
 use crate::call_full::Full;
 use crate::call_matching::Matching;
 use crate::call_slabs::Slabs;
@@ -55,7 +56,12 @@ fn second(tallies: &mut Vec<Tally>, r: &mut Rng) {
     one(tallies, "drift_report", drift);
     let (pos, rot_pos) = pair(r, Kind::Permuted, 1024);
     let matching = Matching { slots: vec![], lattice: SKEW.to_vec(), symprec: 1e-5, pos, rot_pos, pair: vec![0; 2], num_pos: 1024 };
+    let finding = |m: &Matching| Finding { slots: vec![], marks: vec![], lattice: m.lattice.clone(), symprec: 1e-5, pos: m.pos.clone(), rot_pos: m.rot_pos.clone(), num_pos: 1024 };
+    one(tallies, "find_permutation", finding(&matching));
     one(tallies, "compute_permutation", matching);
+    for call in [staircase(1024, true), staircase(1024, false), crowd(512, 0), crowd(512, 1)] {
+        one(tallies, "find_permutation", call);
+    }
     one(tallies, "distribute_fc2", distribute(r, 1024));
 }
 

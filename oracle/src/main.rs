@@ -15,6 +15,7 @@ mod call_compact;
 mod call_deltas;
 mod call_distribute;
 mod call_drift;
+mod call_finding;
 mod call_full;
 mod call_matching;
 mod call_slabs;
@@ -31,6 +32,7 @@ mod compare_true;
 mod edges;
 mod fc2_records;
 mod fc_records;
+mod finding_records;
 mod flip;
 mod floats;
 mod groups;
@@ -56,10 +58,10 @@ mod wild;
 #[global_allocator]
 static HEAP: memory::Counting = memory::Counting;
 
-const USAGE: &str = "oracle record common|shifts|matching|second|compact|third|fourth|true|distribute|deltas|roll|row_sums FOLDER
+const USAGE: &str = "oracle record common|shifts|matching|second|compact|third|fourth|true|distribute|deltas|roll|row_sums|finding FOLDER
 oracle flip PROGRAM FOLDER COUNT
 oracle compare all|limits|CALL [SEED [COUNT]]
-oracle bench all|common|cells|fc2|fc3|fc4|tables|transposes|drift [SECONDS]";
+oracle bench all|common|cells|fc2|fc3|fc4|tables|transposes|drift|finding [SECONDS]";
 
 /// Some(true) if all went well, Some(false) if the port differs, None if the words are no command.
 type Outcome = Option<bool>;
@@ -79,6 +81,7 @@ fn record(name: &str, folder: &Path) -> Outcome {
         "deltas" => slab_records::deltas(),
         "roll" => roll_records::replay(),
         "row_sums" => row_sums_records::replay(),
+        "finding" => finding_records::replay(),
         _ => return None,
     };
     fs::write(folder.join("stdin"), record::pages(&replay.records)).expect("stdin can be written");
@@ -102,11 +105,11 @@ fn bench(name: &str, patience: f64) -> Outcome {
     let bench = bench::Bench::new(patience);
     let groups: [(&str, fn(&bench::Bench)); 4] =
         [("cells", bench_rows::matching), ("fc2", bench_rows::second), ("fc3", bench_rows::third), ("fc4", bench_rows::fourth)];
-    let known = ["all", "common", "tables", "transposes", "drift"].contains(&name) || groups.iter().any(|(group, _)| *group == name);
+    let known = ["all", "common", "tables", "transposes", "drift", "finding"].contains(&name) || groups.iter().any(|(group, _)| *group == name);
     if ["all", "common"].contains(&name) {
         bench_common::common();
     }
-    if !["common", "tables", "transposes", "drift"].contains(&name) && known {
+    if !["common", "tables", "transposes", "drift", "finding"].contains(&name) && known {
         bench.head();
         groups.iter().filter(|(group, _)| name == "all" || name == *group).for_each(|(_, rows)| rows(&bench));
     }
@@ -118,6 +121,9 @@ fn bench(name: &str, patience: f64) -> Outcome {
     }
     if name == "drift" {
         bench_rows::drifts(&bench);
+    }
+    if name == "finding" {
+        bench_rows::findings(&bench);
     }
     if known {
         let cores = std::thread::available_parallelism().map_or(0, |n| n.get());

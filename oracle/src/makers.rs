@@ -4,6 +4,7 @@ use crate::call_compact::{Compact, Name};
 use crate::call_deltas::Deltas;
 use crate::call_distribute::Distribute;
 use crate::call_drift::Drift;
+use crate::call_finding::{crowd, on_axis, staircase, Finding};
 use crate::call_full::Full;
 use crate::call_matching::Matching;
 use crate::call_slabs::Slabs;
@@ -170,4 +171,34 @@ pub fn matching(r: &mut Rng) -> Matching {
     let lattice = LATTICES[if usual { r.below(2) } else { r.below(LATTICES.len()) }].to_vec();
     let mut rubbish = |n: usize| (0..n).map(|_| r.bits() as i64).collect();
     Matching { slots: rubbish(n), lattice, symprec, pos, rot_pos, pair: rubbish(2), num_pos: n }
+}
+
+/// Positions and slots on a line of 64 places, so that each is near those of some neighbouring places: greedy often fails where a
+/// match exists, and often none exists.
+fn on_a_line(r: &mut Rng, n: usize) -> Finding {
+    let mut line = || -> Vec<f64> { (0..n).map(|_| r.below(64) as f64 / 64.0).collect() };
+    let (pos, mut rot_pos) = (line(), line());
+    if r.below(2) == 0 {
+        // a match is likely: each slot near the place of a position, in another order
+        let order = r.order(n);
+        rot_pos = order.iter().map(|a| pos[*a] + (r.below(7) as f64 - 3.0) / 64.0).collect();
+    }
+    on_axis(&pos, &rot_pos, (1 + 2 * r.below(5)) as f64 / 128.0)
+}
+
+/// Positions and slots of compute_permutation's calls, NaN and infinities among them, or on a line; staircases and crowds.
+pub fn finding(r: &mut Rng) -> Finding {
+    let n = [r.below(5), r.below(12), r.below(40)][r.below(3)];
+    let mut call = match r.below(12) {
+        0 => staircase(1 + n, r.below(4) > 0),
+        1 => crowd(1 + n / 2, r.below(2)),
+        2..=4 => {
+            let m = matching(r);
+            Finding { slots: vec![], marks: vec![], lattice: m.lattice, symprec: m.symprec, pos: m.pos, rot_pos: m.rot_pos, num_pos: m.num_pos }
+        }
+        _ => on_a_line(r, n),
+    };
+    call.slots = (0..call.num_pos).map(|_| r.bits() as i64).collect();
+    call.marks = (0..call.num_pos).map(|_| r.bits() as u8).collect();
+    call
 }

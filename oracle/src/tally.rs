@@ -73,6 +73,9 @@ impl Tally {
             want.parts().slices.iter_mut().filter(|s| s.work).for_each(Lent::clear);
         }
         let answer = side(&mut got);
+        if refused == 0 {
+            want.settle(&got);
+        }
         *self.answers.entry(number).or_default() += 1;
         let (got, want) = (got.parts().slices, want.parts().slices);
         let size = want.iter().map(Lent::len).sum();
@@ -124,6 +127,7 @@ fn words(answer: u8) -> String {
         69 => "not matched, no number".into(),
         70 => "unknown".into(),
         71 => "retired".into(),
+        72 => "no match".into(),
         k => format!("refused by {k}:"),
     }
 }

@@ -147,6 +147,29 @@ static void matching(void) {
     CHECK(slot[0] == 7 && pair[0] == 7 && pair[1] == 7);
 }
 
+static void finding(void) {
+    const double unit[] = {1, 0, 0, 0, 1, 0, 0, 0, 1}, pos[] = {0.25, 0, 0, 0, 0, 0}, rot_pos[] = {0.125, 0, 0, 0.375, 0, 0};
+    const double apart[] = {0.125, 0, 0, 0.625, 0, 0};
+    int64_t slots[] = {7, 7};
+    uint8_t marks[] = {7, 7};
+    CHECK(gf_find_permutation(slots, 0, marks, 0, S(unit), 0.1, pos, 0, pos, 0, 0) == GF_DONE);
+    CHECK(slots[0] == 7 && marks[0] == 7);
+    CHECK(gf_find_permutation(S(slots), S(marks), S(unit), 0.1875, S(pos), S(rot_pos), 2) == GF_DONE); /* sheet 9 */
+    CHECK(slots[0] == 1 && slots[1] == 0 && marks[0] == 0 && marks[1] == 0);
+    CHECK(gf_find_permutation(S(slots), S(marks), S(unit), 0.1875, S(pos), S(pos), 2) == GF_DONE);
+    CHECK(slots[0] == 0 && slots[1] == 1);
+    CHECK(gf_find_permutation(S(slots), S(marks), S(unit), 0.1875, S(pos), S(apart), 2) == GF_NO_MATCH);
+    CHECK(slots[0] == -1 && slots[1] == -1 && marks[0] == 1 && marks[1] == 1);
+    slots[0] = slots[1] = 7;
+    marks[0] = marks[1] = 7;
+    CHECK(gf_find_permutation(S(slots), S(marks), S(unit), 0.1875, S(pos), S(pos), 1025) == GF_COUNT_ABOVE_LIMIT);
+    CHECK(gf_find_permutation(S(slots), S(marks), unit, 8, 0.1875, S(pos), S(pos), 1025) == GF_COUNT_ABOVE_LIMIT);
+    CHECK(gf_find_permutation(S(slots), S(marks), unit, 8, 0.1875, S(pos), S(pos), 2) == GF_WRONG_LENGTH);
+    CHECK(gf_find_permutation(S(slots), marks, 1, S(unit), 0.1875, S(pos), S(pos), 2) == GF_WRONG_LENGTH);
+    CHECK(gf_find_permutation(S(slots), S(marks), S(unit), 0.1875, pos, 5, S(pos), 2) == GF_WRONG_LENGTH);
+    CHECK(slots[0] == 7 && slots[1] == 7 && marks[0] == 7 && marks[1] == 7);
+}
+
 static void full_second_order(void) {
     double one[9], two[36] = {0}, before[36];
     for (size_t level = 0; level < 3; level++) { /* sheet 3 */
@@ -547,6 +570,7 @@ int main(void) {
     rounding();
     shift_tables();
     matching();
+    finding();
     full_second_order();
     drift();
     edits();

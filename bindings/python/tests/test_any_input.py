@@ -32,6 +32,7 @@ def good(rng):
         "row_sums_fc2": ({"fc": grid, "out": np.ones((n, 3, 3))}, {"out"}),
         "replace_block_fc2": ({"fc": grid.copy(), "sums": set_of(n, 3, 3), "block": np.ones((3, 3)), "i": 0, "j": n - 1}, {"fc", "sums"}),
         "compute_permutation": ({"lattice": np.eye(3), "symprec": 1e-5, "pos": set_of(n, 3), "rot_pos": set_of(n, 3)}, set()),
+        "find_permutation": ({"lattice": np.eye(3), "symprec": 0.3, "pos": set_of(n, 3), "rot_pos": set_of(n, 3)}, set()),
         "set_permutation_symmetry_fc3": ({"fc3": set_of(n, n, n, 3, 3, 3)}, {"fc3"}),
         "set_permutation_symmetry_compact_fc3": ({"fc3": set_of(p, n, n, 3, 3, 3), **tables, "work": np.ones(p * n * n, np.uint8)}, {"fc3", "work"}),
         "transpose_compact_fc3": ({"fc3": set_of(p, n, n, 3, 3, 3), **tables, "t_type": 1}, {"fc3"}),

@@ -152,6 +152,11 @@ class Second(unittest.TestCase):
         self.assertTrue(same_bits(out, sums))
 
 
+def line(places):
+    """Positions on the first axis."""
+    return np.array([[x, 0, 0] for x in places], float)
+
+
 class Matching(unittest.TestCase):
     def test_rotated(self):
         rng = np.random.default_rng(1)
@@ -167,6 +172,41 @@ class Matching(unittest.TestCase):
         bad[3, 1] = np.nan
         match = gf.compute_permutation(np.eye(3), 1e-5, bad, pos)
         self.assertEqual((match.found, match.pair, int(match.slots[4])), (False, (3, 3), 4))
+
+    def test_a_match_whenever_one_exists(self):
+        """Beside every order of up to five positions on a line of places, of which neighbours are near."""
+        rng = np.random.default_rng(2)
+        kinds = {"greedy": 0, "chains": 0, "none": 0}
+        for _ in range(600):
+            n = int(rng.integers(1, 6))
+            p, q = rng.integers(0, 6, n), rng.integers(0, 6, n)
+            near = abs(p[:, None] - q) <= 1
+            exists = any(near[list(order), range(n)].all() for order in itertools.permutations(range(n)))
+            arguments = np.eye(3), 0.1, line(p / 16), line(q / 16)
+            pairing, greedy = gf.find_permutation(*arguments), gf.compute_permutation(*arguments)
+            self.assertIs(pairing.found, exists)
+            if exists:
+                self.assertEqual((sorted(pairing.slots), pairing.crowded.size), (list(range(n)), 0))
+                self.assertTrue(near[pairing.slots, range(n)].all())
+            else:
+                self.assertEqual(pairing.slots.tolist(), [-1] * n)
+                self.assertLess(near[pairing.crowded].any(axis=0).sum(), pairing.crowded.size)
+            if greedy.found:
+                self.assertEqual(pairing.slots.tolist(), greedy.slots.tolist())
+            kinds["greedy" if greedy.found else "chains" if exists else "none"] += 1
+        self.assertGreaterEqual(min(kinds.values()), 10, kinds)
+
+    def test_who_has_too_few_places(self):
+        pos, rot_pos = line([0.60, 0.10, 0.11, 0.12, 0.13, 0.14]), line([0.11, 0.12, 0.13, 0.14, 0.35, 0.60])
+        pairing = gf.find_permutation(np.eye(3), 0.05, pos, rot_pos)
+        self.assertEqual((pairing.found, pairing.slots.tolist(), pairing.crowded.tolist()), (False, [-1] * 6, [1, 2, 3, 4, 5]))
+        self.assertEqual(pairing.words, "positions 1, 2, 3, 4, 5: these 5 have at most 4 near slots")
+        self.assertEqual(gf.find_permutation(np.eye(3), 0.1, line([0.25, np.nan]), line([0.25, 0.25])).words, "position 1 has no near slot")
+        self.assertEqual(gf.find_permutation(np.eye(3), 0.1, pos, pos).words, "every slot is filled")
+        self.assertEqual(gf.words(72), "no bijection of near pairs exists")
+        with self.assertRaises(gf.Refused) as caught:
+            gf.find_permutation(np.eye(3), 0.1, pos, rot_pos[:5])
+        self.assertEqual((caught.exception.number, caught.exception.argument), (2, "rot_pos"))
 
 
 class HigherOrders(unittest.TestCase):

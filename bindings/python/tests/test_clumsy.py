@@ -187,17 +187,18 @@ class Clumsy(unittest.TestCase):
 
     def test_matching(self):
         pos = random(2, 3)
-        self.refuses(gf.Refused, "rot_pos: shape (1, 3), asked for (2, 3)", lambda: gf.compute_permutation(np.eye(3), 1e-5, pos, pos[:1]), pos)
-        self.refuses(ValueError, "ragged", lambda: gf.compute_permutation(np.eye(3), 1e-5, [[0, 0, 0], [0, 0]], pos))
-        self.refuses(ValueError, "positions have (n, 3)", lambda: gf.compute_permutation(np.eye(3), 1e-5, pos.T, pos))
-        self.refuses(ValueError, "lattice has the shape (9,)", lambda: gf.compute_permutation(np.eye(3).ravel(), 1e-5, pos, pos))
-        self.refuses(TypeError, "lattice", lambda: gf.compute_permutation(np.eye(3) * 1j, 1e-5, pos, pos))
-        self.refuses(TypeError, "symprec", lambda: gf.compute_permutation(np.eye(3), "1e-5", pos, pos))
-        self.refuses(TypeError, "masked", lambda: gf.compute_permutation(np.eye(3), 1e-5, np.ma.masked_greater(pos, 0), pos))
-        self.refuses(gf.Refused, "num_pos: 1025, limit 1024", lambda: gf.compute_permutation(np.eye(3), 1e-5, np.zeros((1025, 3)), np.zeros((1025, 3))))
-        for strided in (np.repeat(pos, 2, axis=0)[::2], np.asfortranarray(pos), pos.astype(">f8")):
-            self.assertTrue(gf.compute_permutation(np.eye(3, dtype=int), 1e-5, strided, pos).found)
-        self.assertEqual(gf.compute_permutation(np.eye(3), 1e-5, np.zeros((0, 3)), np.zeros((0, 3))).slots.tolist(), [])
+        for match in (gf.compute_permutation, gf.find_permutation):
+            self.refuses(gf.Refused, "rot_pos: shape (1, 3), asked for (2, 3)", lambda: match(np.eye(3), 1e-5, pos, pos[:1]), pos)
+            self.refuses(ValueError, "ragged", lambda: match(np.eye(3), 1e-5, [[0, 0, 0], [0, 0]], pos))
+            self.refuses(ValueError, "positions have (n, 3)", lambda: match(np.eye(3), 1e-5, pos.T, pos))
+            self.refuses(ValueError, "lattice has the shape (9,)", lambda: match(np.eye(3).ravel(), 1e-5, pos, pos))
+            self.refuses(TypeError, "lattice", lambda: match(np.eye(3) * 1j, 1e-5, pos, pos))
+            self.refuses(TypeError, "symprec", lambda: match(np.eye(3), "1e-5", pos, pos))
+            self.refuses(TypeError, "masked", lambda: match(np.eye(3), 1e-5, np.ma.masked_greater(pos, 0), pos))
+            self.refuses(gf.Refused, "num_pos: 1025, limit 1024", lambda: match(np.eye(3), 1e-5, np.zeros((1025, 3)), np.zeros((1025, 3))))
+            for strided in (np.repeat(pos, 2, axis=0)[::2], np.asfortranarray(pos), pos.astype(">f8")):
+                self.assertTrue(match(np.eye(3, dtype=int), 1e-5, strided, pos).found)
+            self.assertEqual(match(np.eye(3), 1e-5, np.zeros((0, 3)), np.zeros((0, 3))).slots.tolist(), [])
 
     def test_distributors(self):
         fc3 = np.zeros((2, 2, 2, 3, 3, 3))

@@ -145,6 +145,37 @@ class Records(unittest.TestCase):
             done += 1
         self.least(done, passed, 250)
 
+    def test_finding(self):
+        done = passed = 0
+        for r in map(Words, records("finding")):
+            recorded, *sums, free, n, slots, marks, lattice, pos, rot_pos = r.ints(10)
+            symprec, cell = r.take(1).view(np.float64)[0], r.take(lattice).view(np.float64)
+            p, q = r.take(pos).view(np.float64), r.take(rot_pos).view(np.float64)
+            if (slots, marks, lattice, pos) != (n, n, 9, 3 * n) or rot_pos % 3:
+                passed += 1
+                continue
+            number, pairing = answer(lambda: gf.find_permutation(cell.reshape(3, 3), float(symprec), p.reshape(-1, 3), q.reshape(-1, 3)))
+            self.assertEqual(number, recorded if recorded < 64 else 0)
+            if pairing:
+                near = r.take(16 * n).reshape(n, 16)[:, :n].astype(bool)
+                self.judge_pairing(pairing, recorded == 0, sums, free, near)
+            done += 1
+        self.least(done, passed, 170)
+
+    def judge_pairing(self, pairing, found, sums, free, near):
+        """free: 1, any bijection of near pairs may come back; 2, any group with fewer near slots than members."""
+        n = len(near)
+        self.assertEqual(pairing.found, found)
+        if free == 1:
+            self.assertEqual(sorted(pairing.slots), list(range(n)))
+            self.assertTrue(near[pairing.slots, range(n)].all())
+        else:
+            self.assertEqual(checksum(pairing.slots), sums[0])
+        if free == 2:
+            self.assertLess(near[pairing.crowded].any(axis=0).sum(), pairing.crowded.size)
+        else:
+            self.assertEqual((checksum(np.zeros(n, np.uint8)), pairing.crowded.size), (sums[1], 0))
+
     def test_shifts(self):
         done = passed = 0
         for r in map(Words, records("shifts")):

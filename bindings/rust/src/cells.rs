@@ -74,3 +74,39 @@ pub fn compute_permutation(
         number => Ok(answer(number).map(|()| true)?),
     }
 }
+
+/// A bijection of near pairs whenever one exists; that of `compute_permutation` where it gives true. True: `rot_atom` has it, and
+/// `marks` is zero. False: none exists; `rot_atom` is -1 throughout, and `marks` has 1 for each member of a group of positions that
+/// has fewer near slots than members. A NaN distance is not near. Not in phonors.
+///
+/// Lengths: `rot_atom` and `marks` num_pos, `pos` and `rot_pos` 3 × num_pos; num_pos up to 1,024.
+///
+/// ```
+/// use gullyfork::{cells, Refusal};
+///
+/// let unit = [1.0, 0.0, 0.0, 0.0, 1.0, 0.0, 0.0, 0.0, 1.0];
+/// let pos = [0.25, 0.0, 0.0, 0.0, 0.0, 0.0];
+/// let mut rot_pos = [0.125, 0.0, 0.0, 0.375, 0.0, 0.0];
+/// let (mut slots, mut marks) = ([0; 2], [0; 2]);
+/// assert!(cells::find_permutation(&mut slots, &mut marks, &unit, &pos, &rot_pos, 2, 0.1875)?);
+/// assert_eq!(slots, [1, 0]);
+/// rot_pos[3] = 0.125 + 0.5; // both positions are near slot 0 alone: two positions, one place to go
+/// assert!(!cells::find_permutation(&mut slots, &mut marks, &unit, &pos, &rot_pos, 2, 0.1875)?);
+/// assert_eq!((slots, marks), ([-1, -1], [1, 1]));
+/// # Ok::<(), Refusal>(())
+/// ```
+pub fn find_permutation(
+    rot_atom: &mut [i64],
+    marks: &mut [u8],
+    lat: &[f64; 9],
+    pos: &[f64],
+    rot_pos: &[f64],
+    num_pos: usize,
+    symprec: f64,
+) -> Result<bool, Refusal> {
+    const NO_MATCH: u8 = 72;
+    match call!(gf_find_permutation(&mut rot_atom, &mut marks, &lat, symprec, &pos, &rot_pos, num_pos)) {
+        NO_MATCH => Ok(false),
+        number => answer(number).map(|()| true),
+    }
+}

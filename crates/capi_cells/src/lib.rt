@@ -56,7 +56,7 @@ pub extern "C" fn gf_check_shift_tables(
 }
 
 // The nine lattice numbers.
-fn nine(lattice: &[f64]) -> [f64; 9]
+pub fn nine(lattice: &[f64]) -> [f64; 9]
     requires { ⌜ length (now lattice) ≡ 9 ⌝ }
     ensures { λ r. ⌜ r ≡ now (lattice .entry) ⌝ }
 {

@@ -269,3 +269,22 @@ module _ (slots : List ℤ) (cell : Cell) (positions rotated : List Float) (n : 
   -- then the slots are a bijection, and every pair is near
   pub matched-bijection : answer ≡ Matched → Bijection (near cell positions rotated) n left
   matched-bijection e = bijective (near cell positions rotated) n left after-call (all-of e)
+
+  -- and what the search placed
+  pub matched-placed : answer ≡ Matched → (allFilled (placed (near cell positions rotated) n) ≡ true) × (left ≡ placed (near cell positions rotated) n)
+  matched-placed e = (ap allFilled left-is ∙ all-of e, sym left-is)
+
+-- ---- where a further search may start from: what the search leaves, whether or not all slots are filled
+
+module _ (isNear : ℕ → ℕ → Bool) (n : ℕ) where
+  pub placed-length : length (placed isNear n) ≡ n
+  placed-length = after-placed isNear n .len
+
+  pub placed-each : (j : ℕ) → j < n → (slotAt (placed isNear n) j ≡ negsuc 0) ⊎ Taken isNear n (placed isNear n) j
+  placed-each = after-placed isNear n .each
+
+  pub placed-apart : (j k i : ℕ) → j < n → k < n → slotAt (placed isNear n) j ≡ pos i → slotAt (placed isNear n) k ≡ pos i → j ≡ k
+  placed-apart = after-placed isNear n .apart
+
+  pub placed-bijection : allFilled (placed isNear n) ≡ true → Bijection isNear n (placed isNear n)
+  placed-bijection e = bijective isNear n (placed isNear n) (after-placed isNear n) e

@@ -1,5 +1,5 @@
 // The matching of atoms.
-mod slots;
+pub mod slots;
 
 ghost use mathlib.Core.Path.{_≡_};
 ghost use Rattle.cells.specs.Matching.{matchingNumber, judged, computePermutation};

@@ -19,7 +19,7 @@ use distances::is_near;
 use distances::reach_of;
 
 // Sets every slot to -1.
-fn clear(rot_atom: &mut [i64])
+pub fn clear(rot_atom: &mut [i64])
     ensures { λ _. ⌜ now («rot_atom» .exit) ≡ replicate (length (now («rot_atom» .entry))) (negsuc 0) ⌝ }
 {
     let mut j = 0;
@@ -29,7 +29,7 @@ fn clear(rot_atom: &mut [i64])
     }
 }
 
-fn is_filled(slot: i64) -> bool
+pub fn is_filled(slot: i64) -> bool
     ensures { λ r. ⌜ r ≡ isFilled slot ⌝ }
 {
     slot >= 0

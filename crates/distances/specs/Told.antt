@@ -7,7 +7,7 @@ use native.Mathlib.Omega.{arith}
 use lib.Ieee.{Float, nan, inf, fin, lt, isNan}
 use Rattle.distances.specs.declared.Distance.{Distance}
 use Rattle.distances.specs.declared.Distance.the-variants.{Near, Far, NoNumber}
-use Rattle.distances.specs.Near.{told, isNone}
+use Rattle.distances.specs.Near.{told, isNear, isNone}
 
 -- what is told of a distance that is a number is near or far
 told-number : (b : Bool) → cond b Near Far ≡ NoNumber → ⊥
@@ -35,3 +35,14 @@ infinite-far nan = refl
 infinite-far (inf true) = refl
 infinite-far (inf false) = refl
 infinite-far (fin t m k) = refl
+
+near-or-far : (b : Bool) → b ≡ isNear (cond b Near Far)
+near-or-far true = refl
+near-or-far false = refl
+
+-- near exactly if the distance is below the tolerance; a distance that is no number is below none
+pub near-told : (d symprec : Float) → lt d symprec ≡ isNear (told d symprec)
+unfolding isNan lt
+near-told nan s = refl
+near-told (inf t) s = near-or-far (lt (inf t) s)
+near-told (fin t m k) s = near-or-far (lt (fin t m k) s)

@@ -3,9 +3,9 @@ ghost use mathlib.Core.Path.{_≡_};
 ghost use Prim.Native.Nat.{_+_, _*_, _≤_};
 ghost use lib.Dec.{T};
 ghost use lib.ListN.{length};
-ghost use lib.Ieee.{binary64, mul};
+ghost use lib.Ieee.{binary64, mul, lt};
 ghost use Rattle.common.specs.Root.{sqrt as rootOf};
-ghost use Rattle.distances.specs.Near.{wrapped as wrappedOf, dot as dotOf, squares, told, isNear, distance as distanceOf};
+ghost use Rattle.distances.specs.Near.{wrapped as wrappedOf, dot as dotOf, squares, told, isNear, near as nearOf, distance as distanceOf};
 ghost use Rattle.distances.specs.Reach.{plus, Rest, Early, EarlyOf, Reaches, Fit};
 
 // A crystal's cell: the lattice's nine numbers, row after row, and the tolerance. Component k of a difference is row k times the difference of the coordinates,
@@ -164,4 +164,44 @@ pub fn distance_of(
     let z = wrapped(pos[a + 2], rot_pos[b + 2]);
     let l = cell.lattice;
     short(l, cell.symprec, reach, x, y, z)
+}
+
+// Whether the root of a sum of squares is below the tolerance: the two squares decide as in `below`, and the root where they leave it open.
+fn root_below(q: f64, symprec: f64, reach: Reach) -> bool
+    requires { ⌜ T (plus q) × Reaches symprec (reach .square) (reach .sure) ⌝ }
+    ensures { λ r. ⌜ r ≡ lt (rootOf binary64 q) symprec ⌝ }
+{
+    if q > reach.square {
+        return false;
+    }
+    if q <= reach.sure {
+        return true;
+    }
+    common::sqrt(q) < symprec
+}
+
+// Whether the length of the difference (x, y, z) in the lattice l is below the tolerance.
+fn shorter(l: [f64; 9], symprec: f64, reach: Reach, x: f64, y: f64, z: f64) -> bool
+    requires { ⌜ Reaches symprec (reach .square) (reach .sure) ⌝ }
+    ensures { λ r. ⌜ r ≡ lt (rootOf binary64 (squares l x y z)) symprec ⌝ }
+{
+    let a = dot(l[0], l[1], l[2], x, y, z);
+    let b = dot(l[3], l[4], l[5], x, y, z);
+    let c = dot(l[6], l[7], l[8], x, y, z);
+    root_below(0.0 + a * a + b * b + c * c, symprec, reach)
+}
+
+// Whether position i of pos is near position j of rot_pos. A distance that is no number is not near. It stands apart from `distance_of`, so that greedy's loop is the
+// one that calls that: the compiler makes a call for each pair of a function that two loops share, and greedy took three times as long.
+pub fn near(cell: Cell, reach: Reach, pos: &[f64], rot_pos: &[f64], i: usize, j: usize) -> bool
+    requires { ⌜ (i * 3 + 3 ≤ length (now pos)) × (j * 3 + 3 ≤ length (now «rot_pos»)) × Fit cell reach ⌝ }
+    ensures { λ r. ⌜ r ≡ nearOf cell (now (pos .entry)) (now («rot_pos» .entry)) i j ⌝ }
+{
+    let a = i * 3;
+    let b = j * 3;
+    let x = wrapped(pos[a], rot_pos[b]);
+    let y = wrapped(pos[a + 1], rot_pos[b + 1]);
+    let z = wrapped(pos[a + 2], rot_pos[b + 2]);
+    let l = cell.lattice;
+    shorter(l, cell.symprec, reach, x, y, z)
 }

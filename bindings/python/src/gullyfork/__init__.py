@@ -25,7 +25,7 @@ from __future__ import annotations
 from . import cells, common, fc2, fc3, fc4, roll, tables
 from ._library import version, words
 from ._refused import Refused
-from .cells import Match, compute_permutation
+from .cells import Match, Pairing, compute_permutation, find_permutation
 from .common import nint, round, sqrt
 from .fc2 import (
     Along, Drift, DriftKind, distribute_fc2, drift_report, perm_trans_symmetrize_compact_fc, perm_trans_symmetrize_fc, replace_block_fc2,
@@ -44,7 +44,7 @@ from .tables import Tables, check_shift_tables
 
 __version__ = version()
 __all__ = [
-    "Along", "Drift", "DriftKind", "Match", "Refused", "Tables", "version", "words",
+    "Along", "Drift", "DriftKind", "Match", "Pairing", "Refused", "Tables", "version", "words",
     *common.__all__[0:1], "sqrt", *(n for m in (cells, fc2, fc3, fc4) for n in m.__all__ if n[0].islower()),
     "append_roll", "check_shift_tables", "is_roll", "read_roll", "stands_now",
 ]

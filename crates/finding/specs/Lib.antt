@@ -1,0 +1,5 @@
+pub mod Housing
+pub mod FindPermutation
+pub mod Outcome
+pub mod Laws
+pub mod Sheet
