@@ -488,6 +488,23 @@ uint8_t gf_true_transpose_compact_fc4(
     int64_t t_type);
 
 /*
+ * Exchanges two of the four (atom, direction) pairs of every number of a compact set, named by their legs 0 to 3 in either order. Every
+ * number moves, also where a half shift exchanges the blocks; equal legs leave the set as it is.
+ *   fc4   n_patom x n_satom x n_satom x n_satom x 81
+ *   done  n_patom x n_satom, work
+ * Refusals: 1 (a count above 64), 2, 3 (also a leg above 3), 6.
+ */
+uint8_t gf_swap_pairs_compact_fc4(
+    double *fc4, size_t fc4_len,
+    const int64_t *p2s, size_t p2s_len,
+    const int64_t *s2pp, size_t s2pp_len,
+    const int64_t *nsym_list, size_t nsym_list_len,
+    const int64_t *perms, size_t perms_len,
+    uint8_t *done, size_t done_len,
+    size_t n_satom, size_t n_patom, size_t num_trans,
+    size_t leg_a, size_t leg_b);
+
+/*
  * Fills slab target from slab source: block (i, j, k) of the target is block (atom_mapping[i], atom_mapping[j], atom_mapping[k]) of
  * the source, rotated by rot_cart on each leg. Other slabs stay.
  *   fc4           num_first x num_atom x num_atom x num_atom x 81

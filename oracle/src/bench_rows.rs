@@ -221,6 +221,25 @@ pub fn transposes(b: &Bench) {
     }
 }
 
+/// The six swaps of two legs, beside the swap of legs 0 and 1 and a copy of the set.
+pub fn swaps(b: &Bench) {
+    println!("| swap_pairs_compact_fc4, legs | size | us | beside legs 0 and 1 | beside a copy of the set |\n|---|---|---|---|---|");
+    const LEGS: [[usize; 2]; 6] = [[0, 1], [0, 2], [0, 3], [1, 2], [1, 3], [2, 3]];
+    for sizes in [[2, 16], [2, 18]] {
+        let mut c = Compact::new(Name::Swap4, shifts(sizes[0], sizes[1]));
+        c.set = plain(&mut Rng::new(29), c.stated());
+        let mut to = c.set.clone();
+        let copy = b.least(|| std::hint::black_box(&mut to).copy_from_slice(std::hint::black_box(&c.set)));
+        let times = b.ways(&mut fitted(c), 6, |c, k| {
+            c.legs = LEGS[k];
+            assert_eq!(c.port(), 0);
+        });
+        for (legs, time) in LEGS.iter().zip(&times) {
+            println!("| {}, {} | {} × {} | {:.1} | {:.2} | {:.2} |", legs[0], legs[1], sizes[0], sizes[1], time * 1e6, time / times[0], time / copy);
+        }
+    }
+}
+
 /// Whether n numbers below n are all different.
 fn different(n: usize, number: impl Fn(usize) -> usize) -> bool {
     let mut seen = vec![false; n];

@@ -93,6 +93,11 @@ extern "C" {
         nsym_list: *const i64, nsym_list_len: usize, perms: *const i64, perms_len: usize, done: *mut u8,
         done_len: usize, n_satom: usize, n_patom: usize, num_trans: usize, t_type: i64,
     ) -> u8;
+    pub fn gf_swap_pairs_compact_fc4(
+        fc4: *mut f64, fc4_len: usize, p2s: *const i64, p2s_len: usize, s2pp: *const i64, s2pp_len: usize,
+        nsym_list: *const i64, nsym_list_len: usize, perms: *const i64, perms_len: usize, done: *mut u8,
+        done_len: usize, n_satom: usize, n_patom: usize, num_trans: usize, leg_a: usize, leg_b: usize,
+    ) -> u8;
     pub fn gf_true_transpose_compact_fc4(
         fc4: *mut f64, fc4_len: usize, p2s: *const i64, p2s_len: usize, s2pp: *const i64, s2pp_len: usize,
         nsym_list: *const i64, nsym_list_len: usize, perms: *const i64, perms_len: usize, done: *mut u8,

@@ -130,6 +130,11 @@ impl<'a> Parts<'a> {
 pub trait Call: Clone + Debug {
     fn parts(&mut self) -> Parts<'_>;
 
+    /// Refusal 3 for another reason than an entry of an index table.
+    fn outside(&self) -> bool {
+        false
+    }
+
     /// Refusals 4, 5 and 6 of a call to which 1, 2 and 3 do not apply; 0 if none applies.
     fn rest(&self) -> u8 {
         0
@@ -163,7 +168,7 @@ pub fn refusal<C: Call>(call: &mut C) -> u8 {
     if parts.slices.iter().any(|s| s.len() as u128 != s.stated) {
         return 2;
     }
-    if parts.slices.iter().any(|s| s.points_outside()) {
+    if parts.slices.iter().any(|s| s.points_outside()) || call.outside() {
         return 3;
     }
     call.rest()

@@ -1,6 +1,6 @@
 //! The calls on compact sets, of every order.
 use crate::call::{bytes, floats, index, Call, Parts, ATOMS, LEVEL};
-use crate::compare_true::exchanged;
+use crate::compare_true::{exchanged, swapped};
 use crate::rng::Rng;
 use crate::shift_records::damage;
 use crate::shifts::Tables;
@@ -17,6 +17,7 @@ pub enum Name {
     True2,
     True3,
     True4,
+    Swap4,
 }
 
 impl Name {
@@ -24,7 +25,7 @@ impl Name {
         match self {
             Name::Symmetrize2 | Name::Exchange2 | Name::True2 => 2,
             Name::Symmetrize3 | Name::Transpose3 | Name::True3 => 3,
-            Name::Symmetrize4 | Name::Transpose4 | Name::True4 => 4,
+            Name::Symmetrize4 | Name::Transpose4 | Name::True4 | Name::Swap4 => 4,
         }
     }
 
@@ -48,12 +49,14 @@ pub struct Compact {
     pub level: usize,
     /// 1 for true where the type is a transpose.
     pub t_type: i64,
+    /// Only swap_pairs_compact_fc4 has them.
+    pub legs: [usize; 2],
 }
 
 impl Compact {
     /// The call with these tables; the set is empty and the work slice too.
     pub fn new(name: Name, tables: Tables) -> Compact {
-        Compact { name, set: vec![], done: vec![], tables, level: 0, t_type: 0 }
+        Compact { name, set: vec![], done: vec![], tables, level: 0, t_type: 0, legs: [0; 2] }
     }
 
     /// The length of the set by document 01.
@@ -64,14 +67,14 @@ impl Compact {
 
 /// The library's call with the slices and counts that all compact calls have.
 macro_rules! by_c_name {
-    ($name:ident, $call:ident $(, $last:expr)?) => {{
+    ($name:ident, $call:ident $(, $last:expr)*) => {{
         let t = &$call.tables;
         // SAFETY: slices by their pointers and lengths, no precondition.
         unsafe {
             c_names::$name(
                 $call.set.as_mut_ptr(), $call.set.len(), t.p2s.as_ptr(), t.p2s.len(), t.s2pp.as_ptr(), t.s2pp.len(),
                 t.nsym_list.as_ptr(), t.nsym_list.len(), t.perms.as_ptr(), t.perms.len(), $call.done.as_mut_ptr(),
-                $call.done.len(), t.n_satom, t.n_patom, t.num_trans $(, $last)?
+                $call.done.len(), t.n_satom, t.n_patom, t.num_trans $(, $last)*
             )
         }
     }};
@@ -102,6 +105,11 @@ impl Call for Compact {
         Parts::new(counts, slices)
     }
 
+    /// "A leg above 3 counts as an index out of range."
+    fn outside(&self) -> bool {
+        self.legs.iter().any(|leg| *leg > 3)
+    }
+
     fn rest(&self) -> u8 {
         if self.tables.obey() {
             0
@@ -121,6 +129,7 @@ impl Call for Compact {
             Name::Symmetrize4 => fc4::set_permutation_symmetry_compact_fc4(f, p2s, s2pp, nsym, perms, s, p),
             Name::Transpose4 => fc4::transpose_compact_fc4(f, p2s, s2pp, nsym, perms, s, p, self.t_type),
             // not in the Rust: by their definition
+            Name::Swap4 => self.set = swapped(4, (self.legs[0], self.legs[1]), &self.tables, &self.set),
             Name::True2 | Name::True3 | Name::True4 => self.set = exchanged(self.name.order(), self.t_type, &self.tables, &self.set),
         }
         0
@@ -137,16 +146,21 @@ impl Call for Compact {
             Name::True2 => by_c_name!(gf_true_transpose_compact_fc2, self),
             Name::True3 => by_c_name!(gf_true_transpose_compact_fc3, self, self.t_type),
             Name::True4 => by_c_name!(gf_true_transpose_compact_fc4, self, self.t_type),
+            Name::Swap4 => by_c_name!(gf_swap_pairs_compact_fc4, self, self.legs[0], self.legs[1]),
         }
     }
 
     /// Transposes move.
     fn made(&self, slice: usize, _: usize) -> bool {
-        let moves = matches!(self.name, Name::Transpose3 | Name::Transpose4 | Name::True2 | Name::True3 | Name::True4) || self.name == Name::Exchange2 && self.t_type == 1;
+        let moves = matches!(self.name, Name::Transpose3 | Name::Transpose4 | Name::True2 | Name::True3 | Name::True4 | Name::Swap4) || self.name == Name::Exchange2 && self.t_type == 1;
         slice == 0 && !moves
     }
 
     fn spoil(&mut self, r: &mut Rng) {
+        if self.name == Name::Swap4 && r.below(2) == 0 {
+            self.legs[r.below(2)] = [4, 5, 7, 1 << 32, usize::MAX][r.below(5)];
+            return;
+        }
         if self.tables.sized() {
             damage(r, &mut self.tables);
         }

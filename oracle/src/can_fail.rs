@@ -72,7 +72,7 @@ fn compact_sets() {
     for name in [Name::Symmetrize2, Name::Exchange2, Name::Symmetrize3, Name::Transpose3, Name::Symmetrize4, Name::Transpose4] {
         seen(|r| makers::compact(r, name));
     }
-    for name in [Name::True2, Name::True3, Name::True4] {
+    for name in [Name::True2, Name::True3, Name::True4, Name::Swap4] {
         seen(|r| makers::compact(r, name));
     }
 }

@@ -6,8 +6,8 @@ use crate::rng::Rng;
 use crate::tally::Tally;
 use crate::{compare_common, compare_lists, compare_roll, compare_row_sums, compare_true, makers, port};
 
-/// Every public call, the lists of transposes, the read-outs of the true ones, whole rolls and series of edits, in the order in which they are compared.
-pub const CALLS: [&str; 35] = [
+/// Every public call, the lists of transposes, the read-outs of the true ones, the lists of swaps, whole rolls and series of edits, in the order in which they are compared.
+pub const CALLS: [&str; 37] = [
     "nint",
     "round",
     "sqrt",
@@ -35,6 +35,8 @@ pub const CALLS: [&str; 35] = [
     "true_transpose_compact_fc3",
     "true_transpose_compact_fc4",
     "true transposes read out",
+    "swap_pairs_compact_fc4",
+    "lists of swaps",
     "is_roll",
     "read_roll",
     "append_roll",
@@ -77,6 +79,8 @@ fn run(tally: &mut Tally, r: &mut Rng, count: u64) {
         "true_transpose_compact_fc3" => beside(tally, r, count, |r| makers::compact(r, Name::True3)),
         "true_transpose_compact_fc4" => beside(tally, r, count, |r| makers::compact(r, Name::True4)),
         "true transposes read out" => compare_true::read_outs(tally, r, count),
+        "swap_pairs_compact_fc4" => beside(tally, r, count, |r| makers::compact(r, Name::Swap4)),
+        "lists of swaps" => compare_true::swap_lists(tally, r, count),
         "lists of transposes" => compare_lists::lists(tally, r, count),
         "is_roll" => compare_roll::run(tally, r, count, compare_roll::Name::IsRoll),
         "read_roll" => compare_roll::run(tally, r, count, compare_roll::Name::ReadRoll),
@@ -96,6 +100,7 @@ fn present(name: &str) -> bool {
         "whole rolls" => "append_roll",
         "series of edits" => "replace_block_fc2",
         "true transposes read out" => "true_transpose_compact_fc4",
+        "lists of swaps" => "swap_pairs_compact_fc4",
         _ if name.starts_with("lists") => "transpose_compact_fc3",
         _ => name,
     })

@@ -133,7 +133,8 @@ fn true_transposes(tallies: &mut Vec<Tally>, r: &mut Rng) {
         one(tallies, "true_transpose_compact_fc3", compact(r, Name::True3, t.clone(), t_type));
     }
     let t = over(r, 1, [8, 8]);
-    one(tallies, "true_transpose_compact_fc4", compact(r, Name::True4, t, 0));
+    one(tallies, "true_transpose_compact_fc4", compact(r, Name::True4, t.clone(), 0));
+    one(tallies, "swap_pairs_compact_fc4", Compact { legs: [1, 3], ..compact(r, Name::Swap4, t, 0) });
 }
 
 pub fn limits(seed: u64) -> Vec<Tally> {

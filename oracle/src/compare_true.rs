@@ -42,9 +42,11 @@ fn choice(k: usize, order: usize, n_satom: usize, first: impl Fn(usize) -> usize
 
 /// The set that the definition leaves: at the place of any legs the old number of the legs exchanged.
 pub fn exchanged(order: usize, t_type: i64, t: &Tables, set: &[f64]) -> Vec<f64> {
-    let Some((u, v)) = legs(order, t_type) else {
-        return set.to_vec();
-    };
+    legs(order, t_type).map_or_else(|| set.to_vec(), |legs| swapped(order, legs, t, set))
+}
+
+/// The same for two legs.
+pub fn swapped(order: usize, (u, v): (usize, usize), t: &Tables, set: &[f64]) -> Vec<f64> {
     let number = |q: usize| {
         let mut legs = choice(q, order, t.n_satom, |p| t.p2s[p] as usize);
         legs.swap(u, v);
@@ -93,6 +95,46 @@ pub fn read_outs(tally: &mut Tally, r: &mut Rng, count: u64) {
         tally.numbers += numbers;
         if !agree {
             tally.differ(call.set.len(), || format!("{call:?}"));
+        }
+    }
+}
+
+/// The set after the order o was spelled: the number that stood at x0, x1, .. stands at xa, xb, .., where o is a, b, ..
+fn spelled(o: [usize; 4], t: &Tables, set: &[f64]) -> Vec<f64> {
+    let number = |q: usize| {
+        let to = choice(q, 4, t.n_satom, |p| t.p2s[p] as usize);
+        let mut from = vec![(0, 0); 4];
+        (0..4).for_each(|k| from[o[k]] = to[k]);
+        set[address(t, &from)]
+    };
+    (0..set.len()).map(number).collect()
+}
+
+/// `count` lists of up to eight swaps, one in four of them refused: the answers, and the set beside the order that the list spells.
+pub fn swap_lists(tally: &mut Tally, r: &mut Rng, count: u64) {
+    for _ in 0..count {
+        let mut call = makers::compact(r, Name::Swap4);
+        let (start, mut order, mut agree) = (call.clone(), [0, 1, 2, 3], true);
+        for _ in 0..r.below(9) {
+            (call.legs, call.done) = ([r.below(4), r.below(4)], start.done.clone());
+            let (wanted, legs) = match r.below(8) {
+                0 => (3, [call.legs[0], 4 + r.below(3)]),
+                1 => (2, call.legs),
+                _ => (0, call.legs),
+            };
+            (call.legs, call.tables.n_patom) = (legs, start.tables.n_patom + usize::from(wanted == 2));
+            let answer = call.port();
+            call.tables.n_patom = start.tables.n_patom;
+            if answer == 0 {
+                order.swap(legs[0], legs[1]);
+            }
+            agree &= answer == wanted;
+            *tally.answers.entry(answer).or_default() += 1;
+        }
+        agree &= same(&call.set, &spelled(order, &start.tables, &start.set));
+        tally.numbers += call.set.len() as u64;
+        if !agree {
+            tally.differ(call.set.len(), || format!("{order:?} {start:?}"));
         }
     }
 }

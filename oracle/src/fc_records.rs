@@ -1,7 +1,7 @@
 //! Recorded answers of the originals' symmetrizers and transposes of third and fourth order; and of the true transposes, which the
 //! originals do not have, by their definition.
 use crate::call::ATOMS;
-use crate::compare_true::exchanged;
+use crate::compare_true::{exchanged, swapped};
 use crate::record::{counted, report, Record, Replay};
 use crate::rng::Rng;
 use crate::shift_records::{groups, zeros};
@@ -34,6 +34,7 @@ enum Name {
     Compact,
     Transpose,
     True,
+    Swap,
 }
 
 /// A call. Of a full set n_satom is num_atom, and there are no tables.
@@ -67,7 +68,7 @@ impl Call {
             (Name::Full, 3) => (blocks(n, 2), 0),
             (Name::Full, _) => (blocks(n, 3), blocks(n, 3)),
             (Name::Compact, order) => (blocks(p, order - 1), blocks(p, order - 1)),
-            (Name::Transpose | Name::True, order) => (blocks(p, order - 1), blocks(p, 1)),
+            (Name::Transpose | Name::True | Name::Swap, order) => (blocks(p, order - 1), blocks(p, 1)),
         };
         (set.saturating_mul(width(self.order)), work)
     }
@@ -76,7 +77,11 @@ impl Call {
     fn refusal(&self) -> u64 {
         let right = (self.set, self.work) == self.stated();
         if self.name != Name::Full {
-            return self.tables.judged(limit(self.order), right);
+            // a leg above 3 comes after 1 and 2 and before 6
+            return match self.tables.judged(limit(self.order), right) {
+                0 | 6 if self.legs().iter().any(|leg| *leg > 3) => 3,
+                number => number,
+            };
         }
         match (self.tables.n_satom > limit(self.order), right) {
             (true, _) => 1,
@@ -85,10 +90,21 @@ impl Call {
         }
     }
 
-    /// The number of the call in a record: 0 to 2 of third order, 3 to 5 of fourth; the true transposes by their order.
+    /// The two legs of a swap, which stand in the place of a type: the first and eight times the second.
+    fn legs(&self) -> [usize; 2] {
+        if self.name == Name::Swap {
+            [self.t_type as usize % 8, self.t_type as usize / 8]
+        } else {
+            [0; 2]
+        }
+    }
+
+    /// The number of the call in a record: 0 to 2 of third order, 3 to 5 of fourth; the true transposes by their order, the swaps 5.
     fn number(&self) -> u64 {
-        if self.name == Name::True {
-            return self.order as u64;
+        match self.name {
+            Name::True => return self.order as u64,
+            Name::Swap => return 5,
+            _ => {}
         }
         3 * (self.order as u64 - 3) + self.name as u64
     }
@@ -105,6 +121,7 @@ impl Call {
             (Name::Transpose, 3) => fc3::transpose_compact_fc3(f, &t.p2s, &t.s2pp, &t.nsym_list, &t.perms, n, p, self.t_type),
             (Name::Transpose, _) => fc4::transpose_compact_fc4(f, &t.p2s, &t.s2pp, &t.nsym_list, &t.perms, n, p, self.t_type),
             (Name::True, order) => f.copy_from_slice(&exchanged(order as usize, self.t_type, t, f)),
+            (Name::Swap, _) => f.copy_from_slice(&swapped(4, (self.legs()[0], self.legs()[1]), t, f)),
         }
     }
 
@@ -370,11 +387,43 @@ fn true_calls(order: u32, r: &mut Rng) -> Vec<Call> {
     calls
 }
 
-/// The records of the true transposes of the three orders, all sets lent from one memory.
+/// The swaps of two legs at fourth order: every pair of legs over tables with half shifts and without, legs above 3 alone and beside what comes
+/// before and after them, refused calls; a list.
+fn swap_calls(r: &mut Rng) -> Vec<Call> {
+    let z2 = cyclic(2);
+    let legs = |a: usize, b: usize| (a + 8 * b) as i64;
+    let mut calls = vec![];
+    for g in [cyclic(1), cyclic(2), cyclic(3), product(&z2, &z2), s3()] {
+        let t = tables(&g, 1, Some(r));
+        calls.extend((0..16).map(|k| Call::new(4, Name::Swap, legs(k / 4, k % 4), k as u64 % KINDS, t.clone())));
+    }
+    let base = Call::new(4, Name::Swap, legs(2, 0), 0, tables(&z2, 2, Some(r)));
+    calls.extend(damaged(&base, r));
+    for (a, b) in [(4, 0), (0, 4), (4, 4), (7, 3), (1, 6)] {
+        let call = Call { t_type: legs(a, b), ..base.clone() };
+        let mut changed = vec![call.clone(); 4];
+        changed[0].tables.n_satom = limit(4) + 1;
+        changed[1].work += 1;
+        changed[2].tables.perms[0] = -1;
+        changed[3].tables.nsym_list.swap(0, 1);
+        calls.push(call);
+        calls.extend(changed);
+    }
+    let t = tables(&product(&z2, &z2), 1, Some(r));
+    calls.extend((0..12).map(|i| {
+        let mut call = Call::new(4, Name::Swap, legs(r.below(4), r.below(5)), 0, t.clone());
+        call.fresh = i == 0;
+        call
+    }));
+    calls
+}
+
+/// The records of the true transposes of the three orders and of the swaps, all sets lent from one memory.
 pub fn true_replay() -> Replay {
     let mut r = Rng::new(37);
     let mut memory = vec![0.0; room(4)];
     let mut calls: Vec<Call> = (2..5).flat_map(|order| true_calls(order, &mut r)).collect();
+    calls.extend(swap_calls(&mut r));
     calls.iter_mut().enumerate().for_each(|(k, call)| call.seed = 7000 + k as u64);
     let records: Vec<Record> = calls.into_iter().map(|call| call.record(&mut memory)).collect();
     let stdout = report("true transposes", &records, 1);

@@ -61,7 +61,7 @@ static HEAP: memory::Counting = memory::Counting;
 const USAGE: &str = "oracle record common|shifts|matching|second|compact|third|fourth|true|distribute|deltas|roll|row_sums|finding FOLDER
 oracle flip PROGRAM FOLDER COUNT
 oracle compare all|limits|CALL [SEED [COUNT]]
-oracle bench all|common|cells|fc2|fc3|fc4|tables|transposes|drift|finding [SECONDS]";
+oracle bench all|common|cells|fc2|fc3|fc4|tables|transposes|swaps|drift|finding [SECONDS]";
 
 /// Some(true) if all went well, Some(false) if the port differs, None if the words are no command.
 type Outcome = Option<bool>;
@@ -105,11 +105,11 @@ fn bench(name: &str, patience: f64) -> Outcome {
     let bench = bench::Bench::new(patience);
     let groups: [(&str, fn(&bench::Bench)); 4] =
         [("cells", bench_rows::matching), ("fc2", bench_rows::second), ("fc3", bench_rows::third), ("fc4", bench_rows::fourth)];
-    let known = ["all", "common", "tables", "transposes", "drift", "finding"].contains(&name) || groups.iter().any(|(group, _)| *group == name);
+    let known = ["all", "common", "tables", "transposes", "swaps", "drift", "finding"].contains(&name) || groups.iter().any(|(group, _)| *group == name);
     if ["all", "common"].contains(&name) {
         bench_common::common();
     }
-    if !["common", "tables", "transposes", "drift", "finding"].contains(&name) && known {
+    if !["common", "tables", "transposes", "swaps", "drift", "finding"].contains(&name) && known {
         bench.head();
         groups.iter().filter(|(group, _)| name == "all" || name == *group).for_each(|(_, rows)| rows(&bench));
     }
@@ -118,6 +118,9 @@ fn bench(name: &str, patience: f64) -> Outcome {
     }
     if ["all", "transposes"].contains(&name) && port::has("true_transpose_compact_fc4") {
         bench_rows::transposes(&bench);
+    }
+    if ["all", "swaps"].contains(&name) && port::has("swap_pairs_compact_fc4") {
+        bench_rows::swaps(&bench);
     }
     if name == "drift" {
         bench_rows::drifts(&bench);

@@ -57,6 +57,7 @@ pub fn compact(r: &mut Rng, name: Name) -> Compact {
         Name::Exchange2 => call.t_type = r.below(2) as i64,
         Name::Transpose3 | Name::True3 => call.t_type = t_type(r, 3),
         Name::Transpose4 | Name::True4 => call.t_type = t_type(r, 1),
+        Name::Swap4 => call.legs = [r.below(4), r.below(4)],
         _ => {}
     }
     call

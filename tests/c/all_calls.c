@@ -403,6 +403,37 @@ static void true_transposes(void) {
     }
 }
 
+/* one atom: the swap of legs a and b exchanges the directions a and b; two swaps of the same legs, in either order, are none */
+static void swaps(void) {
+    static const size_t step[] = {27, 9, 3, 1};
+    double fc4[81], before[81], three[2187];
+    uint8_t done[] = {7}, done3[] = {7, 7, 7};
+    count_up(S(before));
+    count_up(S(three));
+    for (size_t a = 0; a < 4; a++) {
+        for (size_t b = 0; b < 4; b++) {
+            count_up(S(fc4));
+            done[0] = 7;
+            CHECK(gf_swap_pairs_compact_fc4(S(fc4), ONE, S(done), 1, 1, 1, a, b) == GF_DONE);
+            CHECK(done[0] == 0);
+            for (size_t q = 0; q < 81; q++) {
+                size_t da = q / step[a] % 3, db = q / step[b] % 3;
+                CHECK(fc4[q] == before[a == b ? q : q - da * step[a] - db * step[b] + db * step[a] + da * step[b]]);
+            }
+            CHECK(gf_swap_pairs_compact_fc4(S(fc4), ONE, S(done), 1, 1, 1, b, a) == GF_DONE);
+            CHECK(memcmp(fc4, before, sizeof fc4) == 0);
+        }
+    }
+    done[0] = 7;
+    CHECK(gf_swap_pairs_compact_fc4(S(fc4), ONE, S(done), 1, 1, 1, 4, 4) == GF_INDEX_OUT_OF_RANGE);
+    CHECK(gf_swap_pairs_compact_fc4(S(fc4), ONE, S(done), 1, 1, 1, 0, (size_t)-1) == GF_INDEX_OUT_OF_RANGE);
+    CHECK(gf_swap_pairs_compact_fc4(S(fc4), ONE, S(done), 1, 1, 2, 4, 0) == GF_WRONG_LENGTH);
+    CHECK(gf_swap_pairs_compact_fc4(S(fc4), ONE, S(done), 65, 1, 1, 4, 0) == GF_COUNT_ABOVE_LIMIT);
+    CHECK(memcmp(fc4, before, sizeof fc4) == 0 && done[0] == 7);
+    CHECK(gf_swap_pairs_compact_fc4(S(three), THREE_WRONG, S(done3), 3, 1, 3, 0, 4) == GF_INDEX_OUT_OF_RANGE);
+    CHECK(gf_swap_pairs_compact_fc4(S(three), THREE_WRONG, S(done3), 3, 1, 3, 0, 1) == GF_BAD_SHIFT_TABLES);
+}
+
 static void slabs(void) {
     const double identity[] = {1, 0, 0, 0, 1, 0, 0, 0, 1};
     const int64_t mapping[] = {0};
@@ -579,6 +610,7 @@ int main(void) {
     symmetrize_third_order();
     transpose_third_order();
     true_transposes();
+    swaps();
     slabs();
     rotated_deltas();
     fourth_order();

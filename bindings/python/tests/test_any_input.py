@@ -43,6 +43,7 @@ def good(rng):
         "set_permutation_symmetry_compact_fc4": ({"fc4": set_of(p, n, n, n, 3, 3, 3, 3), **tables}, {"fc4"}),
         "transpose_compact_fc4": ({"fc4": set_of(p, n, n, n, 3, 3, 3, 3), **tables, "t_type": 0}, {"fc4"}),
         "true_transpose_compact_fc4": ({"fc4": set_of(p, n, n, n, 3, 3, 3, 3), **tables, "t_type": 0}, {"fc4"}),
+        "swap_pairs_compact_fc4": ({"fc4": set_of(p, n, n, n, 3, 3, 3, 3), **tables, "leg_a": 3, "leg_b": 1}, {"fc4"}),
         "distribute_fc4": ({"fc4": set_of(2, n, n, n, 3, 3, 3, 3), **slabs}, {"fc4"}),
         "rotate_delta_fc3s": ({"delta_fc3s": set_of(2, n, n, n, 3, 3, 3), **deltas, "work": np.ones(2 * r * 27)}, {"work"}),
         "append_roll": ({"lent": np.zeros(40, np.uint8), "count": 8, "kind": 1, "set": 5, "label": b"MgO"}, {"lent"}),

@@ -241,6 +241,20 @@ class HigherOrders(unittest.TestCase):
                 true_call(other, t, -1)
                 self.assertTrue(same_bits(other, fc))
 
+    def test_swaps(self):
+        for t, (a, b) in itertools.product(TABLES[:4], itertools.product(range(4), repeat=2)):
+            fc = random(t.n_patom, *(t.n_satom,) * 3, *(3,) * 4)
+            full, legs = read_out(fc, t), [0, 1, 2, 3]
+            legs[a], legs[b] = b, a
+            gf.swap_pairs_compact_fc4(fc, t, a, b)
+            self.assertTrue(same_bits(read_out(fc, t), np.ascontiguousarray(exchanged(full, tuple(legs)))))
+        for a, b, to_blame in ((4, 4, "leg_a"), (0, 4, "leg_b")):
+            before = fc.copy()
+            with self.assertRaises(gf.Refused) as told:
+                gf.swap_pairs_compact_fc4(fc, t, a, b)
+            self.assertEqual((told.exception.number, told.exception.argument), (3, to_blame))
+            self.assertTrue(same_bits(fc, before))
+
     def test_distributors(self):
         mirror = np.array([[0, 1, 0], [1, 0, 0], [0, 0, 1.0]])
         for order, call in ((3, gf.distribute_fc3), (4, gf.distribute_fc4)):

@@ -272,7 +272,8 @@ class Records(unittest.TestCase):
 
     def test_true_transposes(self):
         self.higher("true", {2: (2, True, False, gf.true_transpose_compact_fc2), 3: (3, True, True, gf.true_transpose_compact_fc3),
-                             4: (4, True, True, gf.true_transpose_compact_fc4)}, 120)
+                             4: (4, True, True, gf.true_transpose_compact_fc4),
+                             5: (4, True, True, lambda fc, t, legs, work: gf.swap_pairs_compact_fc4(fc, t, legs % 8, legs // 8, work=work))}, 200)
 
     def test_distributors(self):
         done = passed = 0

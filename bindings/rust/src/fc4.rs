@@ -162,6 +162,53 @@ pub fn true_transpose_compact_fc4_with(
     answer(call!(gf_true_transpose_compact_fc4(&mut fc4, &p2s, &s2pp, &nsym_list, &perms, &mut done, n_satom, n_patom, num_trans, t_type)))
 }
 
+/// Exchanges two of the four (atom, direction) pairs of every number of a compact set of n_patom × n_satom³ × 81 numbers, named by their legs
+/// 0 to 3 in either order; equal legs leave the set as it is, a leg above 3 is refused as an index out of range. Every block moves, also those
+/// that a half shift exchanges; phonors has no such call.
+///
+/// ```
+/// use gullyfork::{fc4, Refusal};
+///
+/// let mut set: Vec<f64> = (0..81).map(f64::from).collect();
+/// fc4::swap_pairs_compact_fc4(&mut set, &[0], &[0], &[0], &[0], 1, 1, 0, 3)?;
+/// assert_eq!([set[1], set[27]], [27.0, 1.0]);
+/// # Ok::<(), Refusal>(())
+/// ```
+#[allow(clippy::too_many_arguments)]
+pub fn swap_pairs_compact_fc4(
+    fc4: &mut [f64],
+    p2s: &[i64],
+    s2pp: &[i64],
+    nsym_list: &[i64],
+    perms: &[i64],
+    n_satom: usize,
+    n_patom: usize,
+    leg_a: usize,
+    leg_b: usize,
+) -> Result<(), Refusal> {
+    let mut done = vec![0; room(&[(n_patom, LIMIT), (n_satom, LIMIT)])];
+    let num_trans = rows(perms.len(), n_satom);
+    swap_pairs_compact_fc4_with(fc4, p2s, s2pp, nsym_list, perms, &mut done, n_satom, n_patom, num_trans, leg_a, leg_b)
+}
+
+/// [`swap_pairs_compact_fc4`] with n_patom × n_satom bytes of work memory.
+#[allow(clippy::too_many_arguments)]
+pub fn swap_pairs_compact_fc4_with(
+    fc4: &mut [f64],
+    p2s: &[i64],
+    s2pp: &[i64],
+    nsym_list: &[i64],
+    perms: &[i64],
+    done: &mut [u8],
+    n_satom: usize,
+    n_patom: usize,
+    num_trans: usize,
+    leg_a: usize,
+    leg_b: usize,
+) -> Result<(), Refusal> {
+    answer(call!(gf_swap_pairs_compact_fc4(&mut fc4, &p2s, &s2pp, &nsym_list, &perms, &mut done, n_satom, n_patom, num_trans, leg_a, leg_b)))
+}
+
 /// Fills slab `target` from slab `source`, a slab being the num_atom³ × 81 numbers of one first atom, as
 /// [`distribute_fc3`](crate::fc3::distribute_fc3) does one order below.
 ///

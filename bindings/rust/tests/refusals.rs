@@ -34,6 +34,7 @@ fn huge_counts_are_refused_before_memory_is_asked_for() {
     assert_eq!(fc2::true_transpose_compact_fc2(&mut set, &[], &[], &[], &[], HUGE, 2), above);
     assert_eq!(fc3::true_transpose_compact_fc3(&mut set, &[], &[], &[], &[], 1, HUGE, 0), above);
     assert_eq!(fc4::true_transpose_compact_fc4(&mut set, &[], &[], &[], &[], HUGE, HUGE, 0), above);
+    assert_eq!(fc4::swap_pairs_compact_fc4(&mut set, &[], &[], &[], &[], HUGE, HUGE, 0, 1), above);
     assert_eq!(fc4::distribute_fc4(&mut set, 1, 0, &[], HUGE, &IDENTITY), above);
     assert_eq!(fc4::rotate_delta_fc3s(&mut set, &[], &[], &[], &[], 65, 1, 1), above);
     assert_eq!(set, counting(27));

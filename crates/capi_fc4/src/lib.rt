@@ -4,6 +4,7 @@ ghost use Rattle.tables.specs.Compact.{shiftTables};
 ghost use Rattle.fc4.specs.Symmetrize.{setPermutationSymmetryFc4, setPermutationSymmetryCompactFc4};
 ghost use Rattle.transposes_fc4.specs.Fc4.{transposeCompactFc4};
 ghost use Rattle.half_shifts.specs.TrueTransposes.{trueTransposeCompactFc4};
+ghost use Rattle.swaps_fc4.specs.Swaps.{swapPairsCompactFc4};
 ghost use Rattle.capi_numbers.specs.Numbered.{numberedWith, numbered};
 ghost use Rattle.distribute.specs.Fc4.{distributeFc4};
 ghost use Rattle.deltas.specs.RotateDelta.{rotateDeltaFc3s};
@@ -108,6 +109,39 @@ pub extern "C" fn gf_true_transpose_compact_fc4(
         n_patom,
         num_trans,
         t_type,
+    );
+    tables::number(a)
+}
+
+// Exchanges two legs of a compact set of fourth order, named by their numbers, half-shift blocks too.
+#[no_mangle]
+pub extern "C" fn gf_swap_pairs_compact_fc4(
+    fc4: &mut [f64],
+    p2s: &[i64],
+    s2pp: &[i64],
+    nsym_list: &[i64],
+    perms: &[i64],
+    done: &mut [u8],
+    n_satom: usize,
+    n_patom: usize,
+    num_trans: usize,
+    leg_a: usize,
+    leg_b: usize,
+) -> u8
+    ensures { λ r. ⌜ (r, now (fc4 .exit), now (done .exit)) ≡ numberedWith (swapPairsCompactFc4 (now (fc4 .entry)) (shiftTables (now (p2s .entry)) (now (s2pp .entry)) (now («nsym_list» .entry)) (now (perms .entry)) «n_satom» «n_patom» «num_trans») (now (done .entry)) «leg_a» «leg_b») ⌝ }
+{
+    let a = swaps_fc4::swap_pairs_compact_fc4(
+        fc4,
+        p2s,
+        s2pp,
+        nsym_list,
+        perms,
+        done,
+        n_satom,
+        n_patom,
+        num_trans,
+        leg_a,
+        leg_b,
     );
     tables::number(a)
 }

@@ -79,11 +79,12 @@ pub record Law {C Plain : Type 0} (K : Kind C Plain) (T : ShiftTables) (set : Li
 -- ---- what is asked of a kind, for calls with the tables T
 
 pub record Exchanges {C Plain : Type 0} (K : Kind C Plain) (T : ShiftTables) : Type 0 where
-  pub isPermutation : (c : C) → Permutation (K .rank) (K .permutation c)
-  pub undone : (c : C) → pick 0 (K .permutation c) (K .permutation c) ≡ straight (suc (K .rank))
+  pub isPermutation : (n : ℕ) (c : C) → K .refused n c ≡ false → Permutation (K .rank) (K .permutation c)
+  pub undone : (n : ℕ) (c : C) → K .refused n c ≡ false → pick 0 (K .permutation c) (K .permutation c) ≡ straight (suc (K .rank))
   -- the table is exchanged as the permutation says
   pub fills : (f : List Leg → Float) (xs : List Leg) → length xs ≡ suc (K .rank) → K .ask (K .plain f) xs ≡ f xs
-  pub asks : (c : C) (t : Plain) (xs : List Leg) → length xs ≡ suc (K .rank) → K .ask (K .exchange c t) xs ≡ K .ask t (taken (K .permutation c) xs)
+  pub asks : (n : ℕ) (c : C) → K .refused n c ≡ false → (t : Plain) (xs : List Leg) → length xs ≡ suc (K .rank)
+      → K .ask (K .exchange c t) xs ≡ K .ask t (taken (K .permutation c) xs)
   -- a refused call leaves the set; one that is not refused brings tables that keep the rules, and permutes the legs by its permutation
   pub left-refused : (c : C) (set : List Float) → K .refused (length set) c ≡ true → K .leftBy c set ≡ set
   pub accepted : (n : ℕ) (c : C) → K .refused n c ≡ false → Laws (shiftsOf (K .tables c))
@@ -120,10 +121,10 @@ module _ {C Plain : Type 0} (K : Kind C Plain) (T : ShiftTables) (E : Exchanges 
 
   step-accepted : (c : C) → K .refused N c ≡ false → K .tables c ≡ T → Step nan S m (K .permutation c) (K .leftBy c)
   step-accepted c e q =
-      let o = E .isPermutation c in
+      let o = E .isPermutation N c e in
       record {
         isPermutation = o;
-        twice = λ xs p. pick-pick (0, 0) (K .permutation c) (K .permutation c) xs (rw (o .0) (o .1)) ∙ ap (λ o. taken o xs) (E .undone c) ∙ pick-straight (0, 0) (suc m) xs (p .0);
+        twice = λ xs p. pick-pick (0, 0) (K .permutation c) (K .permutation c) xs (rw (o .0) (o .1)) ∙ ap (λ o. taken o xs) (E .undone N c e) ∙ pick-straight (0, 0) (suc m) xs (p .0);
         keeps = λ set l. E .keeps c set (rw l e) q l;
         reads = λ set xs l p. E .reads c set xs (rw l e) q l p;
       }
@@ -151,8 +152,8 @@ module _ {C Plain : Type 0} (K : Kind C Plain) (T : ShiftTables) (E : Exchanges 
       go : (K .refused N c ≡ true) ⊎ (K .refused N c ≡ false) → readOut nan S (K .leftBy c set) xs ≡ K .ask (feed K N c t) xs
       go (inl e) = rw (e, E .left-refused c set (rw l e)) (h xs p)
       go (inr e) =
-          E .reads c set xs (rw l e) (own-tables K T N c own e) l p ∙ h (taken (K .permutation c) xs) (taken-legs S m (K .permutation c) xs (E .isPermutation c) p)
-          ∙ sym (E .asks c t xs (p .0)) ∙ ap (λ b. K .ask (cond b t (K .exchange c t)) xs) (sym e)
+          E .reads c set xs (rw l e) (own-tables K T N c own e) l p ∙ h (taken (K .permutation c) xs) (taken-legs S m (K .permutation c) xs (E .isPermutation N c e) p)
+          ∙ sym (E .asks N c e t xs (p .0)) ∙ ap (λ b. K .ask (cond b t (K .exchange c t)) xs) (sym e)
 
   fed-same : (cs : List C) (set : List Float) (t : Plain) → Own K T N cs → length set ≡ N → Same set t → Same (leaves (K .leftBy) cs set) (fed K N cs t)
   unfolding leaves fed

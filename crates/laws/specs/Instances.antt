@@ -1,6 +1,6 @@
--- The laws of demand 3 and of the true transposes at tables and lists that exist, so that their hypotheses can be met: sheet 6's three atoms, any
--- set and work slices of the stated lengths, and a list of four calls of which the second brings other tables and is refused; for the true ones
--- sheet 7's two atoms, which a half shift exchanges. Assumes nothing.
+-- The laws of demand 3, of the true transposes and of the swaps at tables and lists that exist, so that their hypotheses can be met: sheet 6's three
+-- atoms, any set and work slices of the stated lengths, and a list of four calls of which the second brings other tables and is refused; for the true
+-- ones and the swaps sheet 7's two atoms, which a half shift exchanges. Assumes nothing.
 use mathlib.Core.Path.{_≡_, refl, sym, ap, _∙_}
 use mathlib.Core.Bool.{Bool, true, false, true≢false}
 use mathlib.Core.List.{List, [], _∷_}
@@ -16,7 +16,7 @@ use Rattle.lists.specs.Tests.{every, some}
 use Rattle.lists.specs.Elements.{pick, straight}
 use Rattle.lists.specs.Digits.{room}
 use Rattle.tables.specs.declared.Answer.the-variants.{Done, Refused}
-use Rattle.tables.specs.declared.Refusal.the-variants.{WrongLength}
+use Rattle.tables.specs.declared.Refusal.the-variants.{WrongLength, IndexOutOfRange}
 use Rattle.tables.specs.Answers.{isRefusal}
 use Rattle.tables.specs.Conditions.{outOfRange}
 use Rattle.tables.specs.Shifts.{row, p2sAt, s2ppAt, nsymAt, distinct, isNull, isAfter, follows, countsAgree, rowsInjective, hasNull, rowsClosed, rowsFree, p2sBack, s2ppKept, nsymLands, ruled, NoHalfShift}
@@ -38,6 +38,8 @@ use Rattle.half_shifts.specs.Exchanging.{partner, exchanging}
 use Rattle.half_shifts.specs.TrueTransposes.{legs3}
 use Rattle.laws.specs.CallLists as lists
 use Rattle.laws.specs.TrueLists.{third as trueThird, law3}
+use Rattle.swaps_fc4.specs.Swaps.{judgedSwap}
+use Rattle.laws.specs.SwapLists.{Swap, swaps, law-swaps}
 use Rattle.laws.specs.Sheets.{threeAtoms, twoAtoms}
 
 -- the tables pass with sets of 1 × 3² × 27 and 1 × 3³ × 81 numbers
@@ -164,3 +166,48 @@ module _ (set : List Float) (work : List ℕ) (e : length set ≡ 108) (f : leng
       let at : taken (1 ∷ 2 ∷ 0 ∷ []) (x ∷ y ∷ w ∷ []) ≡ y ∷ w ∷ x ∷ [] = unfold pick in refl in
       ap (readOut nan (shiftsOf twoAtoms) (lists.left trueThird (trueCalls work) set)) (sym at ∙ ap (λ o. taken o (x ∷ y ∷ w ∷ [])) (sym true-spells))
       ∙ true-law-holds .stands-at (x ∷ y ∷ w ∷ []) p
+
+-- ---- a list of swaps at fourth order, over the same two atoms
+
+-- legs 0 and 2, then a leg that there is not, then legs 1 and 3
+abbrev pub swapCalls : List ℕ → List Swap
+swapCalls work =
+    record { legA = 0; legB = 2; tables = twoAtoms; work = work }
+    ∷ record { legA = 4; legB = 0; tables = twoAtoms; work = work }
+    ∷ record { legA = 1; legB = 3; tables = twoAtoms; work = work } ∷ []
+
+swap-answers : (judgedSwap 648 2 twoAtoms 0 2 ≡ Done) × (judgedSwap 648 2 twoAtoms 4 0 ≡ Refused IndexOutOfRange) × (judgedSwap 648 2 twoAtoms 1 3 ≡ Done)
+unfolding judgedSwap outOfRange ruled countsAgree rowsInjective hasNull rowsClosed rowsFree p2sBack s2ppKept nsymLands distinct isNull isAfter follows row p2sAt s2ppAt nsymAt every some
+swap-answers = (refl, refl, refl)
+
+module _ (set : List Float) (work : List ℕ) (e : length set ≡ 648) (f : length work ≡ 2) where
+  swap-first : isRefusal (judgedSwap (length set) (length work) twoAtoms 0 2) ≡ false
+  swap-first = rw (e, f, swap-answers .0)
+
+  swap-refused : isRefusal (judgedSwap (length set) (length work) twoAtoms 4 0) ≡ true
+  swap-refused = rw (e, f, swap-answers .1)
+
+  swap-last : isRefusal (judgedSwap (length set) (length work) twoAtoms 1 3) ≡ false
+  swap-last = rw (e, f, swap-answers .2)
+
+  swap-own : lists.Own swaps twoAtoms (length set) (swapCalls work)
+  swap-own = ((λ _. refl), ((λ _. refl), ((λ _. refl), tt)))
+
+  swap-size : length set ≡ size (shiftsOf twoAtoms) 3
+  unfolding size room
+  swap-size = e
+
+  pub swaps-hold : lists.Law swaps twoAtoms set (swapCalls work)
+  swaps-hold = law-swaps twoAtoms set (swapCalls work) swap-size swap-own
+
+  -- It spells 2, 3, 0, 1: what stood at the legs x, y, z, w stands at z, w, x, y.
+  swaps-spell : spelledBy swaps (length set) (swapCalls work) ≡ 2 ∷ 3 ∷ 0 ∷ 1 ∷ []
+  unfolding spelledBy spells permutationBy exchanging partner pick straight tab tabFrom
+  swaps-spell = rw (swap-first, swap-refused, swap-last) refl
+
+  pub swaps-move : (x y z w : Leg) → Legs (shiftsOf twoAtoms) 3 (x ∷ y ∷ z ∷ w ∷ [])
+      → readOut nan (shiftsOf twoAtoms) (lists.left swaps (swapCalls work) set) (z ∷ w ∷ x ∷ y ∷ []) ≡ readOut nan (shiftsOf twoAtoms) set (x ∷ y ∷ z ∷ w ∷ [])
+  swaps-move x y z w p =
+      let at : taken (2 ∷ 3 ∷ 0 ∷ 1 ∷ []) (x ∷ y ∷ z ∷ w ∷ []) ≡ z ∷ w ∷ x ∷ y ∷ [] = unfold pick in refl in
+      ap (readOut nan (shiftsOf twoAtoms) (lists.left swaps (swapCalls work) set)) (sym at ∙ ap (λ o. taken o (x ∷ y ∷ z ∷ w ∷ [])) (sym swaps-spell))
+      ∙ swaps-hold .stands-at (x ∷ y ∷ z ∷ w ∷ []) p

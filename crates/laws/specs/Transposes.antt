@@ -183,10 +183,10 @@ module _ (T : ShiftTables) (nh : NoHalfShift (shiftsOf T)) where
 
   exchanges : Exchanges transposes T
   exchanges = record {
-    isPermutation = λ c. orders-of (c .type);
-    undone = λ c. undone-of (c .type);
+    isPermutation = λ n c e. orders-of (c .type);
+    undone = λ n c e. undone-of (c .type);
     fills = fills;
-    asks = λ c t xs l. asks (c .type) t xs;
+    asks = λ n c e t xs l. asks (c .type) t xs;
     left-refused = left-refused;
     accepted = accepted;
     keeps = λ c set e q l. ap length (left-own c set e q) ∙ length-by S (c .type) set l;

@@ -13,7 +13,9 @@ use borrow.Author.Tests.{eqb-true}
 use Rattle.lists.specs.Tests.{split}
 use Rattle.lists.specs.Tab.{tab, tabFrom}
 use Rattle.lists.specs.Elements.{pick, straight, pick-straight}
-use Rattle.tables.specs.Answers.{isRefusal, is-done, after-refusal, after-done}
+use Rattle.tables.specs.declared.Answer.{Answer}
+use Rattle.tables.specs.declared.Answer.the-variants.{Done}
+use Rattle.tables.specs.Answers.{isRefusal, after, is-done, after-refusal, after-done}
 use Rattle.tables.specs.Shifts.{Shifts, Laws}
 use Rattle.tables.specs.Limits.{limit2, limit3, limit4}
 use Rattle.tables.specs.Compact.{ShiftTables, shiftsOf, judgedCompact, done-compact}
@@ -47,55 +49,60 @@ module _ (m : ℕ) where
       go (inl q) = rw q (ap (readOut nan S set) (sym (ap (λ o. taken o xs) (exchanging-same m (l .0) (l .1) (eqb-true (l .0) (l .1) q)) ∙ pick-straight (0, 0) (suc m) xs (p .0))))
       go (inr q) = rw q (readOut-moved S L nan m (exchanging m (l .0) (l .1)) set xs (exchanging-permutes m (l .0) (l .1) hu hv) p)
 
-module _ {C P : Type 0} (limit m : ℕ) (tables : C → ShiftTables) (work : C → List ℕ) (legs : C → ℕ × ℕ)
+module _ {C P : Type 0} (m : ℕ) (tables : C → ShiftTables) (judge : ℕ → C → Answer) (legs : C → ℕ × ℕ)
     (fillBy : (List Leg → Float) → P) (feedBy : C → P → P) (askBy : P → List Leg → Float) where
-  -- calls of the definition of every true transpose
+  -- calls that exchange two legs of every number, or are refused
   abbrev pub trueKind : Kind C P
   trueKind = record {
     rank = m;
     tables = tables;
-    refused = λ n c. isRefusal (judgedCompact limit m n 1 (length (work c)) (tables c));
+    refused = λ n c. isRefusal (judge n c);
     permutation = λ c. exchanging m (legs c .0) (legs c .1);
-    leftBy = λ c set. trueTranspose limit m set (tables c) (work c) (legs c) .1;
+    leftBy = λ c set. after (judge (length set) c) (swapped (shiftsOf (tables c)) m (legs c) set) set;
     plain = fillBy;
     exchange = feedBy;
     ask = askBy;
   }
 
-  module _ (inside : (c : C) → (legs c .0 < suc m) × (legs c .1 < suc m))
+  -- a call that is done brings tables that keep the rules, and names legs that there are
+  abbrev pub Sound : C → Type 0
+  Sound c = Laws (shiftsOf (tables c)) × (legs c .0 < suc m) × (legs c .1 < suc m)
+
+  module _ (sound : (n : ℕ) (c : C) → judge n c ≡ Done → Sound c)
       (fills : (f : List Leg → Float) (xs : List Leg) → length xs ≡ suc m → askBy (fillBy f) xs ≡ f xs)
       (asks : (c : C) (t : P) (xs : List Leg) → length xs ≡ suc m → askBy (feedBy c t) xs ≡ askBy t (taken (exchanging m (legs c .0) (legs c .1)) xs))
       (T : ShiftTables) where
-    accepted : (n : ℕ) (c : C) → isRefusal (judgedCompact limit m n 1 (length (work c)) (tables c)) ≡ false → Laws (shiftsOf (tables c))
-    accepted n c e = done-compact limit m n 1 (length (work c)) (tables c) (is-done (judgedCompact limit m n 1 (length (work c)) (tables c)) e) .rules
+    accepted : (n : ℕ) (c : C) → isRefusal (judge n c) ≡ false → Sound c
+    accepted n c e = sound n c (is-done (judge n c) e)
 
-    left-accepted : (c : C) (set : List Float) → isRefusal (judgedCompact limit m (length set) 1 (length (work c)) (tables c)) ≡ false → tables c ≡ T
-        → trueTranspose limit m set (tables c) (work c) (legs c) .1 ≡ swapped (shiftsOf T) m (legs c) set
-    unfolding trueTranspose
-    left-accepted c set e q = after-done (judgedCompact limit m (length set) 1 (length (work c)) (tables c)) _ set e ∙ ap (λ T. swapped (shiftsOf T) m (legs c) set) q
+    left-accepted : (c : C) (set : List Float) → isRefusal (judge (length set) c) ≡ false → tables c ≡ T
+        → after (judge (length set) c) (swapped (shiftsOf (tables c)) m (legs c) set) set ≡ swapped (shiftsOf T) m (legs c) set
+    left-accepted c set e q = after-done (judge (length set) c) _ set e ∙ ap (λ T. swapped (shiftsOf T) m (legs c) set) q
 
-    left-refused : (c : C) (set : List Float) → isRefusal (judgedCompact limit m (length set) 1 (length (work c)) (tables c)) ≡ true
-        → trueTranspose limit m set (tables c) (work c) (legs c) .1 ≡ set
-    unfolding trueTranspose
-    left-refused c set e = after-refusal (judgedCompact limit m (length set) 1 (length (work c)) (tables c)) _ set e
+    left-refused : (c : C) (set : List Float) → isRefusal (judge (length set) c) ≡ true → after (judge (length set) c) (swapped (shiftsOf (tables c)) m (legs c) set) set ≡ set
+    left-refused c set e = after-refusal (judge (length set) c) _ set e
 
     true-exchanges : Exchanges trueKind T
     true-exchanges = record {
-      isPermutation = λ c. exchanging-permutes m (legs c .0) (legs c .1) (inside c .0) (inside c .1);
-      undone = λ c. exchanging-undone m (legs c .0) (legs c .1) (inside c .0) (inside c .1);
+      isPermutation = λ n c e. let a = accepted n c e in exchanging-permutes m (legs c .0) (legs c .1) (a .1) (a .2);
+      undone = λ n c e. let a = accepted n c e in exchanging-undone m (legs c .0) (legs c .1) (a .1) (a .2);
       fills = fills;
-      asks = asks;
+      asks = λ n c e. asks c;
       left-refused = left-refused;
-      accepted = accepted;
+      accepted = λ n c e. accepted n c e .0;
       keeps = λ c set e q l. ap length (left-accepted c set e q) ∙ length-swapped m (shiftsOf T) (legs c) set l;
       reads = λ c set xs e q l p.
-          ap (λ s. readOut nan (shiftsOf T) s xs) (left-accepted c set e q)
-          ∙ read-swapped m (shiftsOf T) (rw q at (accepted (length set) c e)) (legs c) (inside c .0) (inside c .1) set xs p;
+          let a = accepted (length set) c e in
+          ap (λ s. readOut nan (shiftsOf T) s xs) (left-accepted c set e q) ∙ read-swapped m (shiftsOf T) (rw q at (a .0)) (legs c) (a .1) (a .2) set xs p;
     }
 
     -- for any compact set of the stated length, half shifts or not
     pub true-law : (set : List Float) (cs : List C) → length set ≡ size (shiftsOf T) m → Own trueKind T (length set) cs → Law trueKind T set cs
     true-law = sequences trueKind T true-exchanges
+
+-- tables that pass the guard of a compact call keep the rules
+keeps-rules : (limit m n w : ℕ) (T : ShiftTables) → judgedCompact limit m n 1 w T ≡ Done → Laws (shiftsOf T)
+keeps-rules limit m n w T e = done-compact limit m n 1 w T e .rules
 
 -- ---- second order: calls without a type, a table of two pairs
 
@@ -114,11 +121,11 @@ abbrev pub ask2 : Plain2 → List Leg → Float
 ask2 t xs = t (getD xs 0 (0, 0)) (getD xs 1 (0, 0))
 
 abbrev pub second : Kind Call2 Plain2
-second = trueKind limit2 1 (λ (c : Call2). c .tables) (λ (c : Call2). c .work) (λ (c : Call2). (0, 1)) (λ f x y. f (x ∷ y ∷ [])) exchange2 ask2
+second = trueKind 1 (λ (c : Call2). c .tables) (λ n (c : Call2). judgedCompact limit2 1 n 1 (length (c .work)) (c .tables)) (λ (c : Call2). (0, 1)) (λ f x y. f (x ∷ y ∷ [])) exchange2 ask2
 
 -- what its calls leave is what the definition of the call says
 pub second-is : (c : Call2) (set : List Float) → second .leftBy c set ≡ trueTransposeCompactFc2 set (c .tables) (c .work) .1
-unfolding trueTransposeCompactFc2
+unfolding trueTransposeCompactFc2 trueTranspose
 second-is c set = refl
 
 fills2 : (f : List Leg → Float) (xs : List Leg) → length xs ≡ 2 → ask2 (λ x y. f (x ∷ y ∷ [])) xs ≡ f xs
@@ -130,7 +137,9 @@ unfolding exchanging partner pick tab tabFrom
 asks2 c t xs = refl
 
 pub law2 : (T : ShiftTables) (set : List Float) (cs : List Call2) → length set ≡ size (shiftsOf T) 1 → Own second T (length set) cs → Law second T set cs
-law2 T = true-law limit2 1 (λ (c : Call2). c .tables) (λ (c : Call2). c .work) (λ (c : Call2). (0, 1)) (λ f x y. f (x ∷ y ∷ [])) exchange2 ask2 (λ c. (lit< tt, lit< tt)) fills2 (λ c t xs l. asks2 c t xs) T
+law2 T =
+    true-law 1 (λ (c : Call2). c .tables) (λ n (c : Call2). judgedCompact limit2 1 n 1 (length (c .work)) (c .tables)) (λ (c : Call2). (0, 1)) (λ f x y. f (x ∷ y ∷ [])) exchange2 ask2
+    (λ n c e. (keeps-rules limit2 1 n (length (c .work)) (c .tables) e, lit< tt, lit< tt)) fills2 (λ c t xs l. asks2 c t xs) T
 
 -- ---- third order: the types and the table of the calls that are the Rust's
 
@@ -138,10 +147,10 @@ abbrev pub ask3 : Plain → List Leg → Float
 ask3 t xs = t (getD xs 0 (0, 0)) (getD xs 1 (0, 0)) (getD xs 2 (0, 0))
 
 abbrev pub third : Kind Call Plain
-third = trueKind limit3 2 (λ (c : Call). c .tables) (λ (c : Call). c .work) (λ (c : Call). legs3 (c .type)) (λ f x y w. f (x ∷ y ∷ w ∷ [])) (λ (c : Call). exchange (c .type)) ask3
+third = trueKind 2 (λ (c : Call). c .tables) (λ n (c : Call). judgedCompact limit3 2 n 1 (length (c .work)) (c .tables)) (λ (c : Call). legs3 (c .type)) (λ f x y w. f (x ∷ y ∷ w ∷ [])) (λ (c : Call). exchange (c .type)) ask3
 
 pub third-is : (c : Call) (set : List Float) → third .leftBy c set ≡ trueTransposeCompactFc3 set (c .tables) (c .work) (c .type) .1
-unfolding trueTransposeCompactFc3
+unfolding trueTransposeCompactFc3 trueTranspose
 third-is c set = refl
 
 fills3 : (f : List Leg → Float) (xs : List Leg) → length xs ≡ 3 → ask3 (λ x y w. f (x ∷ y ∷ w ∷ [])) xs ≡ f xs
@@ -166,8 +175,8 @@ asks3 (negsuc k) t xs = refl
 
 pub law3 : (T : ShiftTables) (set : List Float) (cs : List Call) → length set ≡ size (shiftsOf T) 2 → Own third T (length set) cs → Law third T set cs
 law3 T =
-    true-law limit3 2 (λ (c : Call). c .tables) (λ (c : Call). c .work) (λ (c : Call). legs3 (c .type)) (λ f x y w. f (x ∷ y ∷ w ∷ [])) (λ (c : Call). exchange (c .type)) ask3
-    (λ c. inside3 (c .type)) fills3 (λ c t xs l. asks3 (c .type) t xs) T
+    true-law 2 (λ (c : Call). c .tables) (λ n (c : Call). judgedCompact limit3 2 n 1 (length (c .work)) (c .tables)) (λ (c : Call). legs3 (c .type)) (λ f x y w. f (x ∷ y ∷ w ∷ [])) (λ (c : Call). exchange (c .type)) ask3
+    (λ n c e. (keeps-rules limit3 2 n (length (c .work)) (c .tables) e, inside3 (c .type) .0, inside3 (c .type) .1)) fills3 (λ c t xs l. asks3 (c .type) t xs) T
 
 -- ---- fourth order: type 0 alone, a table of four pairs
 
@@ -184,10 +193,10 @@ abbrev pub ask4 : Plain4 → List Leg → Float
 ask4 t xs = t (getD xs 0 (0, 0)) (getD xs 1 (0, 0)) (getD xs 2 (0, 0)) (getD xs 3 (0, 0))
 
 abbrev pub fourth : Kind Call Plain4
-fourth = trueKind limit4 3 (λ (c : Call). c .tables) (λ (c : Call). c .work) (λ (c : Call). legs4 (c .type)) (λ f x y z w. f (x ∷ y ∷ z ∷ w ∷ [])) (λ (c : Call). exchange4 (c .type)) ask4
+fourth = trueKind 3 (λ (c : Call). c .tables) (λ n (c : Call). judgedCompact limit4 3 n 1 (length (c .work)) (c .tables)) (λ (c : Call). legs4 (c .type)) (λ f x y z w. f (x ∷ y ∷ z ∷ w ∷ [])) (λ (c : Call). exchange4 (c .type)) ask4
 
 pub fourth-is : (c : Call) (set : List Float) → fourth .leftBy c set ≡ trueTransposeCompactFc4 set (c .tables) (c .work) (c .type) .1
-unfolding trueTransposeCompactFc4
+unfolding trueTransposeCompactFc4 trueTranspose
 fourth-is c set = refl
 
 fills4 : (f : List Leg → Float) (xs : List Leg) → length xs ≡ 4 → ask4 (λ x y z w. f (x ∷ y ∷ z ∷ w ∷ [])) xs ≡ f xs
@@ -208,5 +217,5 @@ asks4 (negsuc k) t xs = refl
 
 pub law4 : (T : ShiftTables) (set : List Float) (cs : List Call) → length set ≡ size (shiftsOf T) 3 → Own fourth T (length set) cs → Law fourth T set cs
 law4 T =
-    true-law limit4 3 (λ (c : Call). c .tables) (λ (c : Call). c .work) (λ (c : Call). legs4 (c .type)) (λ f x y z w. f (x ∷ y ∷ z ∷ w ∷ [])) (λ (c : Call). exchange4 (c .type)) ask4
-    (λ c. inside4 (c .type)) fills4 (λ c t xs l. asks4 (c .type) t xs) T
+    true-law 3 (λ (c : Call). c .tables) (λ n (c : Call). judgedCompact limit4 3 n 1 (length (c .work)) (c .tables)) (λ (c : Call). legs4 (c .type)) (λ f x y z w. f (x ∷ y ∷ z ∷ w ∷ [])) (λ (c : Call). exchange4 (c .type)) ask4
+    (λ n c e. (keeps-rules limit4 3 n (length (c .work)) (c .tables) e, inside4 (c .type) .0, inside4 (c .type) .1)) fills4 (λ c t xs l. asks4 (c .type) t xs) T

@@ -1,9 +1,10 @@
-// Replays the true transposes of second, third and fourth order through their C names, against what their definition left
+// Replays the true transposes of second, third and fourth order and the swaps of fourth through their C names, against what their definition left
 // in oracle/. Its input are pages of records; oracle/README.md says what the words of a record are. It writes how many calls
 // were compared, how many differ in the answer or in a slice, how many there are of each answer, and a checksum of the inputs
 // and of all that was worked out from them.
 use capi_fc2::gf_true_transpose_compact_fc2;
 use capi_fc3::gf_true_transpose_compact_fc3;
+use capi_fc4::gf_swap_pairs_compact_fc4;
 use capi_fc4::gf_true_transpose_compact_fc4;
 use records::steps::count_of;
 use records::steps::ends;
@@ -54,6 +55,35 @@ fn typed(
     ))
 }
 
+// A swap of two legs, which stand in the place of a type: the first and eight times the second. The answer's number.
+fn swap(
+    r: &[u8],
+    set: &mut [f64],
+    done: &mut [u8],
+    p2s: &[i64],
+    s2pp: &[i64],
+    nsym_list: &[i64],
+    perms: &[i64],
+) -> u64 {
+    let n_satom = count_of(r, 11);
+    let n_patom = count_of(r, 12);
+    let num_trans = count_of(r, 13);
+    let legs = count_of(r, 6);
+    wide(gf_swap_pairs_compact_fc4(
+        set,
+        p2s,
+        s2pp,
+        nsym_list,
+        perms,
+        done,
+        n_satom,
+        n_patom,
+        num_trans,
+        legs % 8,
+        legs / 8,
+    ))
+}
+
 // The call of the order that the record names. The answer's number.
 fn compact(
     r: &[u8],
@@ -76,6 +106,9 @@ fn compact(
             count_of(r, 12),
             count_of(r, 13),
         ));
+    }
+    if count_of(r, 4) == 5 {
+        return swap(r, set, done, p2s, s2pp, nsym_list, perms);
     }
     typed(r, set, done, p2s, s2pp, nsym_list, perms)
 }

@@ -1,3 +1,2 @@
 pub mod Fc4
-pub mod Runs
 pub mod Fc4Loops

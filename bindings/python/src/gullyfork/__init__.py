@@ -36,8 +36,8 @@ from .fc3 import (
     true_transpose_compact_fc3,
 )
 from .fc4 import (
-    distribute_fc4, rotate_delta_fc3s, set_permutation_symmetry_compact_fc4, set_permutation_symmetry_fc4, transpose_compact_fc4,
-    true_transpose_compact_fc4,
+    distribute_fc4, rotate_delta_fc3s, set_permutation_symmetry_compact_fc4, set_permutation_symmetry_fc4, swap_pairs_compact_fc4,
+    transpose_compact_fc4, true_transpose_compact_fc4,
 )
 from .roll import append_roll, is_roll, read_roll, stands_now
 from .tables import Tables, check_shift_tables

@@ -106,6 +106,9 @@ def _entry(c: _Call) -> Blame:
     for name in ("i", "j"):
         if not found and name in c.values and c.values[name] >= c.values["n_satom"]:
             found = name, f"{c.values[name]}, n_satom {c.values['n_satom']}"
+    for name in ("leg_a", "leg_b"):
+        if not found and c.values.get(name, 0) > 3:
+            found = name, f"{c.values[name]}, legs 0 to 3"
     return found or _NOBODY
 
 

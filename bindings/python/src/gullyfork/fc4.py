@@ -12,7 +12,7 @@ from ._refused import LIMITS
 from ._run import memory, room, run
 
 __all__ = ["distribute_fc4", "rotate_delta_fc3s", "set_permutation_symmetry_compact_fc4", "set_permutation_symmetry_fc4",
-           "transpose_compact_fc4", "true_transpose_compact_fc4"]
+           "swap_pairs_compact_fc4", "transpose_compact_fc4", "true_transpose_compact_fc4"]
 
 
 def set_permutation_symmetry_fc4(fc4: np.ndarray, *, work: Optional[np.ndarray] = None) -> None:
@@ -63,6 +63,18 @@ def true_transpose_compact_fc4(fc4: np.ndarray, tables: Any, t_type: int, *, wor
     [0.0, 27.0, 54.0]
     """
     compact("true_transpose_compact_fc4", fc4, 4, tables, 2, work, t_type=t_type)
+
+
+def swap_pairs_compact_fc4(fc4: np.ndarray, tables: Any, leg_a: int, leg_b: int, *, work: Optional[np.ndarray] = None) -> None:
+    """Exchanges two of the four (atom, direction) pairs of every number of a compact set, in place: the legs 0 to 3, in either order.
+    Every number moves, also where a half shift exchanges the blocks; equal legs leave the set as it is. work: n_patom x n_satom bytes.
+
+    >>> fc4 = np.arange(81.0).reshape((1,) * 4 + (3,) * 4)
+    >>> swap_pairs_compact_fc4(fc4, ([0], [0], [0], [[0]]), 1, 3)
+    >>> fc4[0, 0, 0, 0, 0, :, 0, 0].tolist()
+    [0.0, 1.0, 2.0]
+    """
+    compact("swap_pairs_compact_fc4", fc4, 4, tables, 2, work, leg_a=leg_a, leg_b=leg_b)
 
 
 def distribute_fc4(fc4: np.ndarray, target: int, source: int, atom_mapping: Any, rot_cart: Any) -> None:

@@ -1,0 +1,90 @@
+// How two blocks of fourth order change places, each with its directions permuted.
+ghost use mathlib.Core.Path.{_≡_};
+ghost use mathlib.Core.Bool.{true};
+ghost use Prim.Native.Nat.{_+_, _*_, _≤_};
+ghost use lib.ListN.{length, getD};
+ghost use Rattle.blocks.specs.Block.{block, putBlock};
+ghost use Rattle.blocks.specs.Permuted.{permutedBlock, permuted as permutedBy};
+ghost use Rattle.places.specs.Moves.{order4};
+ghost use Rattle.orbits.specs.Trading.{theOther};
+ghost use Rattle.orbits.specs.BlockPairs.{joinedPair};
+ghost use Rattle.blocks_fc4.specs.Runs.{traded};
+ghost use Rattle.blocks_fc4.specs.Written.{Inside81, FirstTwo};
+use places::with_leg;
+
+// Blocks a and b change places whole.
+fn swap_blocks(fc4: &mut [f64], a: usize, b: usize)
+    requires { ⌜ (a * 81 + 81 ≤ length (now fc4)) × (b * 81 + 81 ≤ length (now fc4)) ⌝ }
+    ensures { λ _. ⌜ now (fc4 .exit) ≡ putBlock 81 b (block 81 a (now (fc4 .entry))) (putBlock 81 a (block 81 b (now (fc4 .entry))) (now (fc4 .entry))) ⌝ }
+{
+    let one = blocks::read81(fc4, a);
+    let other = blocks::read81(fc4, b);
+    blocks::write81(fc4, a, other);
+    blocks::write81(fc4, b, one);
+}
+
+// Blocks x and y of nine numbers change places.
+fn swap_nines(fc4: &mut [f64], x: usize, y: usize)
+    requires { ⌜ (x * 9 + 9 ≤ length (now fc4)) × (y * 9 + 9 ≤ length (now fc4)) ⌝ }
+    ensures { λ _. ⌜ now (fc4 .exit) ≡ traded x y (now (fc4 .entry)) ⌝ }
+{
+    let one = blocks::read9(fc4, x);
+    let other = blocks::read9(fc4, y);
+    blocks::write9(fc4, x, other);
+    blocks::write9(fc4, y, one);
+}
+
+// Block b where it stands, with its first two directions exchanged. They number its nine blocks of nine numbers: block (x, y) comes from block (y, x), so
+// that (0, 0), (1, 1) and (2, 2) stay and the others change places in pairs.
+fn permute(fc4: &mut [f64], b: usize)
+    requires { ⌜ b * 81 + 81 ≤ length (now fc4) ⌝ }
+    ensures { λ _. ⌜ now (fc4 .exit) ≡ putBlock 81 b (permutedBlock 81 (permutedBy 3 (order4 0)) (block 81 b (now (fc4 .entry)))) (now (fc4 .entry)) ⌝ }
+{
+    swap_nines(fc4, with_leg(b, 9, 1), with_leg(b, 9, 3));
+    swap_nines(fc4, with_leg(b, 9, 2), with_leg(b, 9, 6));
+    swap_nines(fc4, with_leg(b, 9, 5), with_leg(b, 9, 7));
+}
+
+// Blocks a and b change places, each with its first two directions exchanged: they are moved whole first, and permuted where they stand then, because a
+// permuted copy of a block would be one copy more.
+fn exchange_nines(fc4: &mut [f64], a: usize, b: usize)
+    requires { ⌜ (a * 81 + 81 ≤ length (now fc4)) × (b * 81 + 81 ≤ length (now fc4)) ⌝ }
+    ensures { λ _. ⌜ now (fc4 .exit) ≡ joinedPair theOther 81 (permutedBy 3 (order4 0)) a b (now (fc4 .entry)) ⌝ }
+{
+    if a == b {
+        permute(fc4, a);
+        return;
+    }
+    swap_blocks(fc4, a, b);
+    permute(fc4, a);
+    permute(fc4, b);
+}
+
+// Block b becomes v with its numbers taken from the positions m, as it is written.
+fn write_permuted(fc4: &mut [f64], b: usize, v: [f64; 81], m: &[u8; 81])
+    requires { ⌜ Inside81 (now m) × (b * 81 + 81 ≤ length (now fc4)) ⌝ }
+    ensures { λ _. ⌜ now (fc4 .exit) ≡ putBlock 81 b (permutedBlock 81 (λ k. getD (now (m .entry)) k 0) v) (now (fc4 .entry)) ⌝ }
+{
+    let mut k = 0;
+    while k < 81 {
+        let q = m[k] as usize;
+        fc4[b * 81 + k] = v[q];
+        k += 1;
+    }
+}
+
+// Blocks a and b change places, their numbers taken from the positions m. Where these are the first two directions exchanged, nine numbers stay side by
+// side, which is faster.
+pub fn exchange(fc4: &mut [f64], first_two: bool, m: &[u8; 81], a: usize, b: usize)
+    requires { ⌜ Inside81 (now m) × («first_two» ≡ true → FirstTwo (now m)) × (a * 81 + 81 ≤ length (now fc4)) × (b * 81 + 81 ≤ length (now fc4)) ⌝ }
+    ensures { λ _. ⌜ now (fc4 .exit) ≡ joinedPair theOther 81 (λ k. getD (now (m .entry)) k 0) a b (now (fc4 .entry)) ⌝ }
+{
+    if first_two {
+        exchange_nines(fc4, a, b);
+        return;
+    }
+    let one = blocks::read81(fc4, a);
+    let other = blocks::read81(fc4, b);
+    write_permuted(fc4, a, other, m);
+    write_permuted(fc4, b, one, m);
+}

@@ -1,0 +1,24 @@
+-- `legs_fc4::partner` meets its contract. Assumes nothing.
+use mathlib.Core.Path.{sym}
+use Rattle.half_shifts.specs.Exchanging.{partner-one, partner-two, partner-else}
+use borrow.Author.Needs.{needs}
+use Rattle.legs_fc4.proofs.partner.Statement.{statement}
+use Rattle.legs_fc4.proofs.partner.Tie as tie
+
+returns : tie.Need-returns
+returns c =
+    let a = c .before .args in
+    sym (partner-one (a .leg-a) (a .leg-b) (a .k) (c .if1 .taken))
+
+returns-2 : tie.Need-returns-2
+returns-2 c =
+    let a = c .before .before .args in
+    sym (partner-two (a .leg-a) (a .leg-b) (a .k) (c .before .if1 .left) (c .if2 .taken))
+
+returns-3 : tie.Need-returns-3
+returns-3 c =
+    let a = c .before .before .args in
+    sym (partner-else (a .leg-a) (a .leg-b) (a .k) (c .before .if1 .left) (c .if2 .left))
+
+pub partner-spec : {M : Type 1} → statement M
+partner-spec = tie.close (tie.spec returns returns-2 returns-3)

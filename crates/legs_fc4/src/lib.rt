@@ -1,0 +1,343 @@
+// Two legs of every number of a compact set of fourth order exchanged: the transposes and the swaps of fourth order. Pair after pair of first two
+// atoms, block after block: a block and its counterpart change places, permuted, at the lower one of them. The loops know the two legs by the order
+// that they make, which undoes itself. Blocks that a half shift exchanges with their own pair stay where half_shifts_stay says so: the Rust's
+// transpose of legs 0 and 1 leaves them.
+ghost use mathlib.Core.Path.{_≡_};
+ghost use mathlib.Core.Bool.{false};
+ghost use Prim.Native.Nat.{_+_, _*_, _<_};
+ghost use lib.ListN.{length, getD};
+ghost use Rattle.lists.specs.Tab.{tab};
+ghost use Rattle.tables.specs.Compact.{shiftTables};
+ghost use Rattle.blocks.specs.Permuted.{permuted as permutedBy};
+ghost use Rattle.half_shifts.specs.Exchanging.{partner as partnerOf, exchanging};
+ghost use Rattle.half_shifts.specs.HalfShift.{Trading, PairAt};
+ghost use Rattle.positions.specs.Positions.{addressTable, permutationAt};
+ghost use Rattle.legs_fc4.specs.Rows.{swapRows};
+ghost use Rattle.legs_fc4.specs.Loops.{Swap, at4, tradeAt, line4, plane4, pairs4};
+use blocks_fc4::exchange;
+use half_shifts::stays;
+use places::block4;
+use places::last_leg;
+use places::legs_before;
+use places::read_out4;
+use positions::addresses;
+use positions::entry;
+use tables::atoms::PrimAtom;
+use tables::atoms::SuperAtom;
+use tables::atoms::p2s_at;
+
+// Which of the 24 permutations exchanges legs a and b, at 4 a + b.
+const SWAP_ROWS: [usize; 16] = [0, 6, 14, 21, 6, 0, 2, 5, 14, 2, 0, 1, 21, 5, 1, 0];
+
+fn swap_rows() -> [usize; 16]
+    ensures { λ r. ⌜ r ≡ swapRows ⌝ }
+{
+    SWAP_ROWS
+}
+
+fn swap_row(leg_a: usize, leg_b: usize) -> usize
+    requires { ⌜ («leg_a» < 4) × («leg_b» < 4) ⌝ }
+    ensures { λ r. ⌜ (r < 24) × (permutationAt r ≡ exchanging 3 «leg_a» «leg_b») ⌝ }
+{
+    let rows = swap_rows();
+    rows[leg_a * 4 + leg_b]
+}
+
+// The leg that comes to stand at leg k.
+fn partner(leg_a: usize, leg_b: usize, k: usize) -> usize
+    ensures { λ r. ⌜ r ≡ partnerOf «leg_a» «leg_b» k ⌝ }
+{
+    if k == leg_a {
+        return leg_b;
+    }
+    if k == leg_b {
+        return leg_a;
+    }
+    k
+}
+
+// The order of the four legs with two of them exchanged.
+fn order_of(leg_a: usize, leg_b: usize) -> [usize; 4]
+    ensures { λ r. ⌜ r ≡ exchanging 3 «leg_a» «leg_b» ⌝ }
+{
+    [
+        partner(leg_a, leg_b, 0),
+        partner(leg_a, leg_b, 1),
+        partner(leg_a, leg_b, 2),
+        partner(leg_a, leg_b, 3),
+    ]
+}
+
+// Where the 81 numbers of a block come from once their directions are taken in permutation s.
+fn sources(t: &[u8; 1944], s: usize) -> [u8; 81]
+    requires { ⌜ (now t ≡ addressTable) × (s < 24) ⌝ }
+    ensures { λ r. ⌜ r ≡ tab 81 (permutedBy 3 (permutationAt s)) ⌝ }
+{
+    let mut m = [0u8; 81];
+    let mut k = 0;
+    while k < 81 {
+        m[k] = entry(t, s, k);
+        k += 1;
+    }
+    m
+}
+
+// The atom that comes to stand at leg k, of the atoms w in the order o.
+fn atom_at(w: [usize; 4], o: &[usize; 4], k: usize) -> SuperAtom
+    requires { ⌜ (k < 4) × (getD (now o) k 0 < 4) ⌝ }
+    ensures { λ r. ⌜ r .0 ≡ getD w (getD (now (o .entry)) k 0) 0 ⌝ }
+{
+    let q = o[k];
+    SuperAtom(w[q])
+}
+
+// Block (p, j, k, l) and its counterpart, the read-out block of the atoms in the order o: i is p's representative.
+fn trade(
+    fc4: &mut [f64],
+    p2s: &[i64],
+    s2pp: &[i64],
+    nsym_list: &[i64],
+    perms: &[i64],
+    n_satom: usize,
+    n_patom: usize,
+    num_trans: usize,
+    o: &[usize; 4],
+    m: &[u8; 81],
+    p: PrimAtom,
+    i: SuperAtom,
+    j: SuperAtom,
+    k: SuperAtom,
+    l: SuperAtom,
+)
+    requires { ⌜ PairAt 3 (length (now fc4)) (shiftTables (now p2s) (now s2pp) (now «nsym_list») (now perms) «n_satom» «n_patom» «num_trans») (p .0) (i .0) (j .0) × Swap (now o) (now m) ⌝ }
+    requires { ⌜ (k .0 < «n_satom») × (l .0 < «n_satom») ⌝ }
+    ensures { λ _. ⌜ now (fc4 .exit) ≡ tradeAt false (now (o .entry)) (shiftTables (now (p2s .entry)) (now (s2pp .entry)) (now («nsym_list» .entry)) (now (perms .entry)) «n_satom» «n_patom» «num_trans») (at4 (shiftTables (now (p2s .entry)) (now (s2pp .entry)) (now («nsym_list» .entry)) (now (perms .entry)) «n_satom» «n_patom» «num_trans») (p .0) (j .0) (k .0) (l .0)) (now (fc4 .entry)) ⌝ }
+{
+    let b = block4(p, j, k, l, n_satom);
+    let w = [i.0, j.0, k.0, l.0];
+    let c = read_out4(
+        s2pp,
+        nsym_list,
+        perms,
+        atom_at(w, o, 0),
+        atom_at(w, o, 1),
+        atom_at(w, o, 2),
+        atom_at(w, o, 3),
+        n_satom,
+    );
+    if b <= c {
+        exchange(fc4, o[0] == 1, m, b, c);
+    }
+}
+
+// The blocks (p, j, k, 0), (p, j, k, 1), ..
+fn line(
+    fc4: &mut [f64],
+    p2s: &[i64],
+    s2pp: &[i64],
+    nsym_list: &[i64],
+    perms: &[i64],
+    n_satom: usize,
+    n_patom: usize,
+    num_trans: usize,
+    o: &[usize; 4],
+    m: &[u8; 81],
+    p: PrimAtom,
+    i: SuperAtom,
+    j: SuperAtom,
+    k: SuperAtom,
+)
+    requires { ⌜ PairAt 3 (length (now fc4)) (shiftTables (now p2s) (now s2pp) (now «nsym_list») (now perms) «n_satom» «n_patom» «num_trans») (p .0) (i .0) (j .0) × Swap (now o) (now m) ⌝ }
+    requires { ⌜ k .0 < «n_satom» ⌝ }
+    ensures { λ _. ⌜ now (fc4 .exit) ≡ line4 false (now (o .entry)) (shiftTables (now (p2s .entry)) (now (s2pp .entry)) (now («nsym_list» .entry)) (now (perms .entry)) «n_satom» «n_patom» «num_trans») (p .0 * «n_satom» + j .0) (k .0) (now (fc4 .entry)) ⌝ }
+{
+    let mut l = 0;
+    while l < n_satom {
+        trade(
+            fc4,
+            p2s,
+            s2pp,
+            nsym_list,
+            perms,
+            n_satom,
+            n_patom,
+            num_trans,
+            o,
+            m,
+            p,
+            i,
+            j,
+            k,
+            SuperAtom(l),
+        );
+        l += 1;
+    }
+}
+
+// The blocks of pair (p, j).
+fn plane(
+    fc4: &mut [f64],
+    p2s: &[i64],
+    s2pp: &[i64],
+    nsym_list: &[i64],
+    perms: &[i64],
+    n_satom: usize,
+    n_patom: usize,
+    num_trans: usize,
+    o: &[usize; 4],
+    m: &[u8; 81],
+    p: PrimAtom,
+    i: SuperAtom,
+    j: SuperAtom,
+)
+    requires { ⌜ PairAt 3 (length (now fc4)) (shiftTables (now p2s) (now s2pp) (now «nsym_list») (now perms) «n_satom» «n_patom» «num_trans») (p .0) (i .0) (j .0) × Swap (now o) (now m) ⌝ }
+    ensures { λ _. ⌜ now (fc4 .exit) ≡ plane4 false (now (o .entry)) (shiftTables (now (p2s .entry)) (now (s2pp .entry)) (now («nsym_list» .entry)) (now (perms .entry)) «n_satom» «n_patom» «num_trans») (p .0 * «n_satom» + j .0) (now (fc4 .entry)) ⌝ }
+{
+    let mut k = 0;
+    while k < n_satom {
+        line(
+            fc4,
+            p2s,
+            s2pp,
+            nsym_list,
+            perms,
+            n_satom,
+            n_patom,
+            num_trans,
+            o,
+            m,
+            p,
+            i,
+            j,
+            SuperAtom(k),
+        );
+        k += 1;
+    }
+}
+
+// Pair q: its atoms are a block's of second order.
+fn pair(
+    fc4: &mut [f64],
+    p2s: &[i64],
+    s2pp: &[i64],
+    nsym_list: &[i64],
+    perms: &[i64],
+    n_satom: usize,
+    n_patom: usize,
+    num_trans: usize,
+    half_shifts_stay: bool,
+    o: &[usize; 4],
+    m: &[u8; 81],
+    q: usize,
+)
+    requires { ⌜ Trading 3 (length (now fc4)) (shiftTables (now p2s) (now s2pp) (now «nsym_list») (now perms) «n_satom» «n_patom» «num_trans») × (q < «n_patom» * «n_satom») × Swap (now o) (now m) ⌝ }
+    ensures { λ _. ⌜ now (fc4 .exit) ≡ plane4 «half_shifts_stay» (now (o .entry)) (shiftTables (now (p2s .entry)) (now (s2pp .entry)) (now («nsym_list» .entry)) (now (perms .entry)) «n_satom» «n_patom» «num_trans») q (now (fc4 .entry)) ⌝ }
+{
+    let first = legs_before(q, n_satom);
+    let second = last_leg(q, n_satom);
+    let p = PrimAtom(first);
+    let j = SuperAtom(second);
+    if stays(
+        p2s,
+        s2pp,
+        nsym_list,
+        perms,
+        n_satom,
+        n_patom,
+        num_trans,
+        half_shifts_stay,
+        p,
+        j,
+    ) {
+        return;
+    }
+    let i = p2s_at(p2s, p);
+    plane(
+        fc4,
+        p2s,
+        s2pp,
+        nsym_list,
+        perms,
+        n_satom,
+        n_patom,
+        num_trans,
+        o,
+        m,
+        p,
+        i,
+        j,
+    );
+}
+
+// All pairs.
+fn pairs(
+    fc4: &mut [f64],
+    p2s: &[i64],
+    s2pp: &[i64],
+    nsym_list: &[i64],
+    perms: &[i64],
+    n_satom: usize,
+    n_patom: usize,
+    num_trans: usize,
+    half_shifts_stay: bool,
+    o: &[usize; 4],
+    m: &[u8; 81],
+)
+    requires { ⌜ Trading 3 (length (now fc4)) (shiftTables (now p2s) (now s2pp) (now «nsym_list») (now perms) «n_satom» «n_patom» «num_trans») × Swap (now o) (now m) ⌝ }
+    ensures { λ _. ⌜ now (fc4 .exit) ≡ pairs4 «half_shifts_stay» (now (o .entry)) (shiftTables (now (p2s .entry)) (now (s2pp .entry)) (now («nsym_list» .entry)) (now (perms .entry)) «n_satom» «n_patom» «num_trans») (now (fc4 .entry)) ⌝ }
+{
+    let end = n_patom * n_satom;
+    let mut q = 0;
+    while q < end {
+        pair(
+            fc4,
+            p2s,
+            s2pp,
+            nsym_list,
+            perms,
+            n_satom,
+            n_patom,
+            num_trans,
+            half_shifts_stay,
+            o,
+            m,
+            q,
+        );
+        q += 1;
+    }
+}
+
+// Legs a and b of every number change places, but for blocks that stay.
+pub fn exchange_legs(
+    fc4: &mut [f64],
+    p2s: &[i64],
+    s2pp: &[i64],
+    nsym_list: &[i64],
+    perms: &[i64],
+    n_satom: usize,
+    n_patom: usize,
+    num_trans: usize,
+    half_shifts_stay: bool,
+    leg_a: usize,
+    leg_b: usize,
+)
+    requires { ⌜ Trading 3 (length (now fc4)) (shiftTables (now p2s) (now s2pp) (now «nsym_list») (now perms) «n_satom» «n_patom» «num_trans») × («leg_a» < 4) × («leg_b» < 4) ⌝ }
+    ensures { λ _. ⌜ now (fc4 .exit) ≡ pairs4 «half_shifts_stay» (exchanging 3 «leg_a» «leg_b») (shiftTables (now (p2s .entry)) (now (s2pp .entry)) (now («nsym_list» .entry)) (now (perms .entry)) «n_satom» «n_patom» «num_trans») (now (fc4 .entry)) ⌝ }
+{
+    let o = order_of(leg_a, leg_b);
+    let t = addresses();
+    let m = sources(&t, swap_row(leg_a, leg_b));
+    pairs(
+        fc4,
+        p2s,
+        s2pp,
+        nsym_list,
+        perms,
+        n_satom,
+        n_patom,
+        num_trans,
+        half_shifts_stay,
+        &o,
+        &m,
+    );
+}
