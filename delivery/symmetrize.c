@@ -132,10 +132,11 @@ static int row_matches(const struct delivery *d, size_t t, double *shifted, int6
     size_t n = d->n_satom;
     size_t image = (size_t)d->perms[t * n];
     size_t pair[2] = {0, 0};
+    const uint8_t everywhere[3] = {1, 1, 1};
     for (size_t a = 0; a < n; a++)
         for (size_t x = 0; x < 3; x++)
             shifted[a * 3 + x] = d->pos[a * 3 + x] + (d->pos[image * 3 + x] - d->pos[x]);
-    uint8_t answer = gf_compute_permutation(row, n, d->lattice, 9, 1e-5, d->pos, n * 3, shifted, n * 3, pair, 2, n);
+    uint8_t answer = gf_compute_permutation(row, n, d->lattice, 9, 1e-5, everywhere, 3, d->pos, n * 3, shifted, n * 3, pair, 2, n);
     if (answer == GF_MATCH_NO_NUMBER)
         printf("  shift %zu: position %zu against slot %zu: the distance is not a number\n", t, pair[0], pair[1]);
     return answer == GF_DONE && memcmp(row, d->perms + t * n, n * sizeof *row) == 0;

@@ -75,7 +75,7 @@ extern "C" {
 #endif
 
 /* The version of this header; gf_version gives that of the library. */
-#define GF_VERSION "0.1.0"
+#define GF_VERSION "1.0.0"
 
 /* What a call answers: each answer's name, number and words. gf_words gives the words of a number. */
 #define GF_ANSWERS(ANSWER) \
@@ -147,8 +147,8 @@ uint8_t gf_check_shift_tables(
 /*
  * Which position each rotated position comes from. All slots of rot_atom are set to -1; then, for i rising, the lowest free slot j
  * whose rot_pos j is near pos i takes i: slot j holds the number of the position that rotated position j comes from. Near: the
- * difference d of the coordinates, each less its own rounding, is shorter than symprec; component k of its length is row k of the
- * lattice times d. NaN is never near.
+ * difference d of the coordinates, each less its own rounding where the cell repeats along that axis and whole where it does not, is
+ * shorter than symprec; component k of its length is row k of the lattice times d. NaN is never near.
  * So the basis vectors stand in the COLUMNS of lattice. For a = (3, 0, 0), b = (1, 2, 0), c = (0, 0, 4) it is
  *     {3, 1, 0,  0, 2, 0,  0, 0, 4}
  * and d = (0, 0.5, 0) has the length of b / 2, the root of 1.25. With the vectors in the rows, {3, 0, 0,  1, 2, 0,  0, 0, 4}, it would
@@ -160,6 +160,7 @@ uint8_t gf_check_shift_tables(
  * then. An infinite distance is far.
  *   rot_atom  num_pos      only written
  *   lattice   9            row after row, the basis vectors in the columns
+ *   periodic  3            for each axis, that is for each coordinate: 0 if the cell does not repeat along it, anything else if it does
  *   pos       3 x num_pos
  *   rot_pos   3 x num_pos
  *   pair      2            position and slot, written with GF_MATCH_NO_NUMBER only
@@ -169,6 +170,7 @@ uint8_t gf_compute_permutation(
     int64_t *rot_atom, size_t rot_atom_len,
     const double *lattice, size_t lattice_len,
     double symprec,
+    const uint8_t *periodic, size_t periodic_len,
     const double *pos, size_t pos_len,
     const double *rot_pos, size_t rot_pos_len,
     size_t *pair, size_t pair_len,
@@ -183,6 +185,7 @@ uint8_t gf_compute_permutation(
  *   rot_atom  num_pos      only written
  *   marks     num_pos      only written
  *   lattice   9            row after row, the basis vectors in the columns
+ *   periodic  3            as above
  *   pos       3 x num_pos
  *   rot_pos   3 x num_pos
  * Refusals: 1 (num_pos above 1,024), 2.
@@ -192,6 +195,7 @@ uint8_t gf_find_permutation(
     uint8_t *marks, size_t marks_len,
     const double *lattice, size_t lattice_len,
     double symprec,
+    const uint8_t *periodic, size_t periodic_len,
     const double *pos, size_t pos_len,
     const double *rot_pos, size_t rot_pos_len,
     size_t num_pos);

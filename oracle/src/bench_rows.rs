@@ -7,7 +7,7 @@ use crate::call_distribute::Distribute;
 use crate::call_drift::{Drift, WORST};
 use crate::call_finding::{crowd, staircase, Finding, NO_MATCH};
 use crate::call_full::Full;
-use crate::call_matching::Matching;
+use crate::call_matching::{Matching, EVERYWHERE};
 use crate::call_slabs::Slabs;
 use crate::compare_lists::half_shift;
 use crate::matching::{pair, Kind, SKEW};
@@ -70,7 +70,7 @@ pub fn matching(b: &Bench) {
     for n in [64, 512, 1024] {
         for (what, kind) in [("same order", Kind::Same), ("neighbours exchanged", Kind::Near), ("any order", Kind::Permuted)] {
             let (pos, rot_pos) = pair(&mut r, kind, n);
-            let call = Matching { slots: vec![0; n], lattice: SKEW.to_vec(), symprec: 1e-5, pos, rot_pos, pair: vec![0; 2], num_pos: n };
+            let call = Matching { slots: vec![0; n], lattice: SKEW.to_vec(), symprec: 1e-5, periodic: EVERYWHERE.to_vec(), pos, rot_pos, pair: vec![0; 2], num_pos: n };
             b.row(&format!("compute_permutation, {what}"), &format!("{n}"), call, None, false);
         }
     }
@@ -329,8 +329,8 @@ pub fn findings(b: &Bench) {
     println!("| positions | order | find_permutation, us | compute_permutation, us | ratio | stack, kB |\n|---|---|---|---|---|---|");
     for (n, kind, order) in [64, 512, 1024].into_iter().flat_map(|n| [(n, Kind::Same, "the same"), (n, Kind::Permuted, "any")]) {
         let (pos, rot_pos) = pair(&mut Rng::new(29), kind, n);
-        let mut greedy = Matching { slots: vec![0; n], lattice: SKEW.to_vec(), symprec: 1e-5, pos: pos.clone(), rot_pos: rot_pos.clone(), pair: vec![0; 2], num_pos: n };
-        let mut call = Finding { slots: vec![0; n], marks: vec![0; n], lattice: SKEW.to_vec(), symprec: 1e-5, pos, rot_pos, num_pos: n };
+        let mut greedy = Matching { slots: vec![0; n], lattice: SKEW.to_vec(), symprec: 1e-5, periodic: EVERYWHERE.to_vec(), pos: pos.clone(), rot_pos: rot_pos.clone(), pair: vec![0; 2], num_pos: n };
+        let mut call = Finding { slots: vec![0; n], marks: vec![0; n], lattice: SKEW.to_vec(), symprec: 1e-5, periodic: EVERYWHERE.to_vec(), pos, rot_pos, num_pos: n };
         let [port, other] = in_turns(b, || assert_eq!(std::hint::black_box(&mut call).port(), 0), || assert_eq!(std::hint::black_box(&mut greedy).port(), 0));
         println!("| {n} | {order} | {:.1} | {:.1} | {:.2} | {:.1} |", port * 1e6, other * 1e6, port / other, stack_of(&mut call));
     }

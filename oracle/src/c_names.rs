@@ -10,12 +10,13 @@ extern "C" {
     ) -> u8;
     pub fn gf_compute_permutation(
         rot_atom: *mut i64, rot_atom_len: usize, lattice: *const f64, lattice_len: usize, symprec: f64,
-        pos: *const f64, pos_len: usize, rot_pos: *const f64, rot_pos_len: usize, pair: *mut usize, pair_len: usize,
+        periodic: *const u8, periodic_len: usize, pos: *const f64, pos_len: usize, rot_pos: *const f64, rot_pos_len: usize, pair: *mut usize, pair_len: usize,
         num_pos: usize,
     ) -> u8;
     pub fn gf_find_permutation(
         rot_atom: *mut i64, rot_atom_len: usize, marks: *mut u8, marks_len: usize, lattice: *const f64, lattice_len: usize,
-        symprec: f64, pos: *const f64, pos_len: usize, rot_pos: *const f64, rot_pos_len: usize, num_pos: usize,
+        symprec: f64, periodic: *const u8, periodic_len: usize, pos: *const f64, pos_len: usize, rot_pos: *const f64, rot_pos_len: usize,
+        num_pos: usize,
     ) -> u8;
     pub fn gf_perm_trans_symmetrize_fc(fc: *mut f64, fc_len: usize, n_satom: usize, level: usize) -> u8;
     pub fn gf_perm_trans_symmetrize_compact_fc(

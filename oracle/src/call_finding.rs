@@ -1,7 +1,7 @@
 //! The matcher that knows when there is no match, which the Rust does not have: document 02, A.6, as plain Rust.
 use crate::call::{bytes, floats, integers, Call, Parts, ATOMS};
-use crate::call_matching::distance;
-use crate::{c_names, cells};
+use crate::call_matching::{distance, greedy, EVERYWHERE};
+use crate::c_names;
 
 #[derive(Clone, Debug)]
 pub struct Finding {
@@ -9,6 +9,7 @@ pub struct Finding {
     pub marks: Vec<u8>,
     pub lattice: Vec<f64>,
     pub symprec: f64,
+    pub periodic: Vec<u8>,
     pub pos: Vec<f64>,
     pub rot_pos: Vec<f64>,
     pub num_pos: usize,
@@ -21,16 +22,13 @@ impl Finding {
     /// Which slots are near each position, by the Rust's distance; NaN is never below a tolerance.
     pub fn near(&self) -> Vec<Vec<bool>> {
         let place = |x: &[f64], i: usize| [x[i * 3], x[i * 3 + 1], x[i * 3 + 2]];
-        let is_near = |i: usize, j: usize| distance(&self.lattice, &place(&self.pos, i), &place(&self.rot_pos, j)) < self.symprec;
+        let is_near = |i: usize, j: usize| distance(&self.lattice, &self.periodic, &place(&self.pos, i), &place(&self.rot_pos, j)) < self.symprec;
         (0..self.num_pos).map(|i| (0..self.num_pos).map(|j| is_near(i, j)).collect()).collect()
     }
 
     /// Whether the Rust's own search fills all slots, and what it leaves.
     pub fn greedy(&self) -> (bool, Vec<i64>) {
-        let lattice: &[f64; 9] = self.lattice[..].try_into().expect("nine numbers");
-        let mut slots = vec![0; self.num_pos];
-        let all = cells::compute_permutation(&mut slots, lattice, &self.pos, &self.rot_pos, self.num_pos, self.symprec);
-        (all, slots)
+        greedy(&self.lattice, &self.periodic, self.symprec, &self.pos, &self.rot_pos)
     }
 }
 
@@ -111,6 +109,7 @@ impl Call for Finding {
             integers(&mut self.slots, &[n]),
             bytes(&mut self.marks, &[n]),
             floats(&mut self.lattice, &[9]),
+            bytes(&mut self.periodic, &[3]),
             floats(&mut self.pos, &[3, n]),
             floats(&mut self.rot_pos, &[3, n]),
         ];
@@ -138,8 +137,8 @@ impl Call for Finding {
         unsafe {
             c_names::gf_find_permutation(
                 self.slots.as_mut_ptr(), self.slots.len(), self.marks.as_mut_ptr(), self.marks.len(), self.lattice.as_ptr(),
-                self.lattice.len(), self.symprec, self.pos.as_ptr(), self.pos.len(), self.rot_pos.as_ptr(), self.rot_pos.len(),
-                self.num_pos,
+                self.lattice.len(), self.symprec, self.periodic.as_ptr(), self.periodic.len(), self.pos.as_ptr(), self.pos.len(),
+                self.rot_pos.as_ptr(), self.rot_pos.len(), self.num_pos,
             )
         }
     }
@@ -166,7 +165,7 @@ pub fn on_axis(pos: &[f64], rot_pos: &[f64], symprec: f64) -> Finding {
     let places = |xs: &[f64]| xs.iter().flat_map(|x| [*x, 0.0, 0.0]).collect::<Vec<f64>>();
     let lattice = vec![1.0, 0.0, 0.0, 0.0, 1.0, 0.0, 0.0, 0.0, 1.0];
     let (slots, marks) = (vec![7; pos.len()], vec![7; pos.len()]);
-    Finding { slots, marks, lattice, symprec, pos: places(pos), rot_pos: places(rot_pos), num_pos: pos.len() }
+    Finding { slots, marks, lattice, symprec, periodic: EVERYWHERE.to_vec(), pos: places(pos), rot_pos: places(rot_pos), num_pos: pos.len() }
 }
 
 /// A staircase of n > 0 positions: position i is near slots i and i + 1, and the last one near slot 0 alone. Greedy leaves the last one

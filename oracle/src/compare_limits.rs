@@ -7,7 +7,7 @@ use crate::call_distribute::Distribute;
 use crate::call_drift::Drift;
 use crate::call_finding::{crowd, staircase, Finding};
 use crate::call_full::Full;
-use crate::call_matching::Matching;
+use crate::call_matching::{Matching, EVERYWHERE};
 use crate::call_slabs::Slabs;
 use crate::call_tables::Check;
 use crate::matching::{pair, Kind, SKEW};
@@ -55,8 +55,8 @@ fn second(tallies: &mut Vec<Tally>, r: &mut Rng) {
     let drift = Drift { set: plain(r, 1024 * 1024 * 9), value: vec![0.0], place: vec![0; 4], n_satom: 1024 };
     one(tallies, "drift_report", drift);
     let (pos, rot_pos) = pair(r, Kind::Permuted, 1024);
-    let matching = Matching { slots: vec![], lattice: SKEW.to_vec(), symprec: 1e-5, pos, rot_pos, pair: vec![0; 2], num_pos: 1024 };
-    let finding = |m: &Matching| Finding { slots: vec![], marks: vec![], lattice: m.lattice.clone(), symprec: 1e-5, pos: m.pos.clone(), rot_pos: m.rot_pos.clone(), num_pos: 1024 };
+    let matching = Matching { slots: vec![], lattice: SKEW.to_vec(), symprec: 1e-5, periodic: EVERYWHERE.to_vec(), pos, rot_pos, pair: vec![0; 2], num_pos: 1024 };
+    let finding = |m: &Matching| Finding { slots: vec![], marks: vec![], lattice: m.lattice.clone(), symprec: 1e-5, periodic: EVERYWHERE.to_vec(), pos: m.pos.clone(), rot_pos: m.rot_pos.clone(), num_pos: 1024 };
     one(tallies, "find_permutation", finding(&matching));
     one(tallies, "compute_permutation", matching);
     for call in [staircase(1024, true), staircase(1024, false), crowd(512, 0), crowd(512, 1)] {

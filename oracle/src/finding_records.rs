@@ -2,7 +2,7 @@
 use crate::call::{refusal, Call};
 use crate::call_finding::{crowd, on_axis, staircase, Finding, NO_MATCH};
 use crate::makers;
-use crate::record::{counted, float_word, report, Record, Replay};
+use crate::record::{byte_word, counted, float_word, report, Record, Replay};
 use crate::rng::Rng;
 use crate::values::{byte_sum, integer_sum};
 
@@ -22,8 +22,8 @@ fn free(call: &Finding) -> u64 {
 
 /// The words of a record: how many follow; the answer; the sums of the slots and of the marks after the call; what is free (0: nothing,
 /// 1: which bijection, and then the sum of the slots is 0, 2: which group, and then that of the marks is); num_pos; lengths of slots,
-/// marks, lattice, pos and rot_pos; symprec; the lattice; pos; rot_pos; and, where the call is not refused, 16 words for each position:
-/// 1 for each slot that is near it.
+/// marks, lattice, flags, pos and rot_pos; the flags as bytes; symprec; the lattice; pos; rot_pos; and, where the call is not refused,
+/// 16 words for each position: 1 for each slot that is near it.
 fn record(before: &Finding) -> Record {
     let mut after = before.clone();
     let refused = refusal(&mut after);
@@ -31,8 +31,9 @@ fn record(before: &Finding) -> Record {
     let free = if refused == 0 { free(before) } else { 0 };
     let sums = [integer_sum(&after.slots), byte_sum(&after.marks)];
     let mut words = vec![answer as u64, if free == 1 { 0 } else { sums[0] }, if free == 2 { 0 } else { sums[1] }, free];
-    let lengths = [before.num_pos, before.slots.len(), before.marks.len(), before.lattice.len(), before.pos.len(), before.rot_pos.len()];
+    let lengths = [before.num_pos, before.slots.len(), before.marks.len(), before.lattice.len(), before.periodic.len(), before.pos.len(), before.rot_pos.len()];
     words.extend(lengths.map(|n| n as u64));
+    words.push(byte_word(&before.periodic));
     words.extend([&[before.symprec][..], &before.lattice, &before.pos, &before.rot_pos].concat().iter().map(|x| float_word(*x)));
     if refused == 0 {
         words.extend(before.near().iter().flat_map(|row| (0..MOST).map(|j| (j < row.len() && row[j]) as u64)));
@@ -68,7 +69,7 @@ fn chosen() -> Vec<Finding> {
 
 fn fits(call: &Finding) -> bool {
     let lengths = [call.slots.len(), call.marks.len(), call.lattice.len(), call.pos.len().div_ceil(3), call.rot_pos.len().div_ceil(3)];
-    lengths.iter().all(|n| *n <= MOST)
+    lengths.iter().all(|n| *n <= MOST) && call.periodic.len() <= 8
 }
 
 /// Counts and lengths that are refused, and counts at the limit with the lengths of two positions.
@@ -85,6 +86,9 @@ fn refused() -> Vec<Finding> {
     }
     for (length, num_pos) in [(0, 2), (8, 2), (10, 2), (8, 1025)] {
         calls.push(Finding { lattice: vec![1.0; length], num_pos, ..base.clone() });
+    }
+    for (length, num_pos) in [(0, 2), (2, 2), (4, 2), (2, 1025)] {
+        calls.push(Finding { periodic: vec![1; length], num_pos, ..base.clone() });
     }
     calls
 }

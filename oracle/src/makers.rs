@@ -163,15 +163,35 @@ pub fn distribute(r: &mut Rng) -> Distribute {
     call
 }
 
+/// Half of the cells have three flags, as the Rust's; any byte but 0 is a flag.
+fn axes(r: &mut Rng) -> Vec<u8> {
+    let all = r.below(2) == 0;
+    (0..3).map(|_| if all || r.below(2) == 0 { 1 + r.below(255) as u8 } else { 0 }).collect()
+}
+
+/// Three in four of the others have the slots back in the cell along an axis without a flag, so that matches are met there too.
+fn into_cell(r: &mut Rng, periodic: &[u8], rot_pos: &mut [f64]) {
+    if r.below(4) == 0 {
+        return;
+    }
+    for (k, x) in rot_pos.iter_mut().enumerate() {
+        if periodic[k % 3] == 0 && x.abs() < 1e6 {
+            *x -= x.floor();
+        }
+    }
+}
+
 pub fn matching(r: &mut Rng) -> Matching {
     let n = [r.below(4), r.below(20), r.below(70)][r.below(3)];
     let kind = KINDS[r.below(KINDS.len())];
-    let (pos, rot_pos) = pair(r, kind, n);
+    let (pos, mut rot_pos) = pair(r, kind, n);
+    let periodic = axes(r);
+    into_cell(r, &periodic, &mut rot_pos);
     let usual = r.below(3) > 0;
     let symprec = TOLERANCES[if usual { TOLERANCES.len() - 1 - r.below(3) } else { r.below(TOLERANCES.len()) }];
     let lattice = LATTICES[if usual { r.below(2) } else { r.below(LATTICES.len()) }].to_vec();
     let mut rubbish = |n: usize| (0..n).map(|_| r.bits() as i64).collect();
-    Matching { slots: rubbish(n), lattice, symprec, pos, rot_pos, pair: rubbish(2), num_pos: n }
+    Matching { slots: rubbish(n), lattice, symprec, periodic, pos, rot_pos, pair: rubbish(2), num_pos: n }
 }
 
 /// Positions and slots on a line of 64 places, so that each is near those of some neighbouring places: greedy often fails where a
@@ -195,9 +215,13 @@ pub fn finding(r: &mut Rng) -> Finding {
         1 => crowd(1 + n / 2, r.below(2)),
         2..=4 => {
             let m = matching(r);
-            Finding { slots: vec![], marks: vec![], lattice: m.lattice, symprec: m.symprec, pos: m.pos, rot_pos: m.rot_pos, num_pos: m.num_pos }
+            Finding { slots: vec![], marks: vec![], lattice: m.lattice, symprec: m.symprec, periodic: m.periodic, pos: m.pos, rot_pos: m.rot_pos, num_pos: m.num_pos }
         }
-        _ => on_a_line(r, n),
+        _ => {
+            let mut call = on_a_line(r, n);
+            call.periodic = axes(r);
+            call
+        }
     };
     call.slots = (0..call.num_pos).map(|_| r.bits() as i64).collect();
     call.marks = (0..call.num_pos).map(|_| r.bits() as u8).collect();

@@ -1,7 +1,6 @@
 //! Recorded answers of the original's compute_permutation.
-use crate::call_matching::first_no_number;
-use crate::cells::compute_permutation;
-use crate::record::{counted, float_word, report, Record, Replay};
+use crate::call_matching::{first_no_number, greedy, EVERYWHERE};
+use crate::record::{byte_word, counted, float_word, report, Record, Replay};
 use crate::rng::Rng;
 
 /// What the slots, and the two of the pair, hold before each call.
@@ -15,6 +14,7 @@ struct Call {
     num_pos: usize,
     lattice: [f64; 9],
     symprec: f64,
+    periodic: [u8; 3],
     slots: usize,
     pos: Vec<f64>,
     rot_pos: Vec<f64>,
@@ -22,7 +22,7 @@ struct Call {
 
 impl Call {
     fn new(lattice: [f64; 9], symprec: f64, pos: Vec<f64>, rot_pos: Vec<f64>) -> Call {
-        Call { num_pos: pos.len() / 3, lattice, symprec, slots: pos.len() / 3, pos, rot_pos }
+        Call { num_pos: pos.len() / 3, lattice, symprec, periodic: EVERYWHERE, slots: pos.len() / 3, pos, rot_pos }
     }
 
     /// The refusal by document 01, or 0.
@@ -38,17 +38,20 @@ impl Call {
     }
 
     fn no_number(&self) -> Option<[usize; 2]> {
-        first_no_number(&self.lattice, self.symprec, &self.pos, &self.rot_pos)
+        first_no_number(&self.lattice, &self.periodic, self.symprec, &self.pos, &self.rot_pos)
     }
 
     fn record(&self) -> Record {
         let refusal = self.refusal();
         let mut slots = vec![BEFORE; self.slots];
-        let matched = refusal == 0
-            && compute_permutation(&mut slots, &self.lattice, &self.pos, &self.rot_pos, self.num_pos, self.symprec);
+        let mut matched = false;
+        if refusal == 0 {
+            (matched, slots) = greedy(&self.lattice, &self.periodic, self.symprec, &self.pos, &self.rot_pos);
+        }
         let mut words = vec![refusal, matched as u64];
         words.extend([self.num_pos, self.slots, self.pos.len(), self.rot_pos.len()].map(|n| n as u64));
         words.push(float_word(self.symprec));
+        words.push(byte_word(&self.periodic));
         words.extend(self.lattice.map(float_word));
         words.extend(self.pos.iter().chain(&self.rot_pos).map(|x| float_word(*x)));
         words.extend(slots.iter().map(|s| *s as u64));
@@ -250,6 +253,29 @@ fn named() -> Vec<(Call, Option<[usize; 2]>)> {
     ]
 }
 
+/// Document 02, A.9: every choice of axes, at the edge of each; and a whole cell apart, which is far without a flag.
+fn slabs() -> Vec<Call> {
+    let mut r = Rng::new(8);
+    let mut calls = vec![];
+    for flags in 0..8u8 {
+        let periodic = [flags & 1, flags & 2, if flags < 4 { 0 } else { 255 }];
+        for axis in 0..3 {
+            let place = |x: f64| (0..3).map(|k| if k == axis { x } else { 0.0 }).collect::<Vec<f64>>();
+            for (x, y) in [(0.9375, 0.0625), (0.0625, 0.9375), (0.25, 3.25), (0.25, 0.25), (0.75, 0.25), (1e300, -1e300), (f64::INFINITY, 0.0)] {
+                let (pos, rot) = (place(x), place(y));
+                calls.push(Call { periodic, ..Call::new(UNIT, 0.25, pos, rot) });
+            }
+        }
+        // in an oblique cell, the slots within it along the axes without a flag
+        let (pos, mut rot) = pair(&mut r, Kind::Distorted, 17);
+        rot.iter_mut().enumerate().filter(|(k, _)| periodic[k % 3] == 0).for_each(|(_, x)| *x -= x.floor());
+        calls.push(Call { periodic, ..Call::new(SKEW, 1e-4, pos, rot) });
+        let (pos, rot) = pair(&mut r, Kind::Huge, 5);
+        calls.push(Call { periodic, ..Call::new(HUGE, 1e-4, pos, rot) });
+    }
+    calls
+}
+
 /// Near by document 01's sentence, and by eight others that are nearly it: what is recorded has to tell them apart.
 type Near = fn(&[f64; 9], [f64; 3], f64) -> bool;
 
@@ -349,13 +375,14 @@ fn refused() -> Vec<Call> {
 }
 
 /// The words of a record: how many follow; refusal; 1 for true; num_pos; lengths of slots, pos, rot_pos;
-/// symprec; nine lattice numbers; pos; rot_pos; the slots after the call, which all held 7 before it; 1 if a pair is
-/// named; the pair after the call, 7 and 7 before it.
+/// symprec; the flags of the axes as bytes; nine lattice numbers; pos; rot_pos; the slots after the call, which all held 7
+/// before it; 1 if a pair is named; the pair after the call, 7 and 7 before it.
 pub fn replay() -> Replay {
     let mut calls = sheets();
     calls.extend(matched());
     calls.extend(named().into_iter().map(|(call, _)| call));
     calls.extend(told_apart());
+    calls.extend(slabs());
     calls.extend(refused());
     let records: Vec<Record> = calls.iter().map(Call::record).collect();
     let answers = |matched: u64| records.iter().filter(|r| r[1] == 0 && r[2] == matched).count();

@@ -44,6 +44,11 @@ pub fn checksum(records: &[Record]) -> u64 {
 /// The bytes that a replay program reads at once: its buffer.
 pub const PAGE: usize = 65536;
 
+/// Up to eight bytes, the first one lowest.
+pub fn byte_word(bytes: &[u8]) -> u64 {
+    bytes.iter().rev().fold(0, |w, b| w * 256 + *b as u64)
+}
+
 /// The bits of f, those of one NaN for every NaN.
 pub fn float_word(f: f64) -> u64 {
     if f.is_nan() {

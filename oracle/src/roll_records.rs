@@ -1,6 +1,6 @@
 //! Records for the replay program of a delivery roll: calls on small rolls, good, damaged and refused, and at the limits.
 use crate::compare_roll::{make, Asked, Name, END, RETIRED, UNKNOWN};
-use crate::record::{checksum, counted, Record, Replay};
+use crate::record::{byte_word, checksum, counted, Record, Replay};
 use crate::rng::Rng;
 use crate::roll::{self, roll_of};
 use crate::values;
@@ -38,7 +38,7 @@ fn record(call: &Based) -> Record {
     let counts = [name, before.count, place, r.set as usize, r.earlier as usize, r.label.len(), before.slots.len(), call.base, call.label, before.lent.len()];
     words.extend(counts.iter().map(|n| *n as u64));
     if call.base == 0 {
-        words.extend(before.lent.chunks(8).map(|chunk| chunk.iter().rev().fold(0, |w, b| w * 256 + *b as u64)));
+        words.extend(before.lent.chunks(8).map(byte_word));
     }
     counted(words)
 }

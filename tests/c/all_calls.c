@@ -116,35 +116,57 @@ static void shift_tables(void) {
     CHECK(gf_check_shift_tables(THREE_WRONG, 3, 1, 3) == GF_BAD_SHIFT_TABLES);
 }
 
+static const uint8_t everywhere[] = {1, 1, 1};
+
 static void matching(void) {
     const double unit[] = {1, 0, 0, 0, 1, 0, 0, 0, 1}, origin[] = {0, 0, 0}, eighth[] = {0.125, 0, 0};
     double pos[] = {0.25, 0, 0, 0, 0, 0}, rot_pos[] = {0.125, 0, 0, 0.375, 0, 0};
     int64_t slot[] = {7}, slots[] = {7, 7};
     size_t pair[] = {7, 7};
-    CHECK(gf_compute_permutation(slot, 0, S(unit), 0.1, origin, 0, origin, 0, S(pair), 0) == GF_DONE); /* sheet 8 */
+    CHECK(gf_compute_permutation(slot, 0, S(unit), 0.1, S(everywhere), origin, 0, origin, 0, S(pair), 0) == GF_DONE); /* sheet 8 */
     CHECK(slot[0] == 7);
-    CHECK(gf_compute_permutation(S(slot), S(unit), ldexp(1.0, -600), S(origin), S(origin), S(pair), 1) == GF_DONE);
+    CHECK(gf_compute_permutation(S(slot), S(unit), ldexp(1.0, -600), S(everywhere), S(origin), S(origin), S(pair), 1) == GF_DONE);
     CHECK(slot[0] == 0);
-    CHECK(gf_compute_permutation(S(slot), S(unit), 0.0, S(origin), S(origin), S(pair), 1) == GF_NOT_MATCHED);
+    CHECK(gf_compute_permutation(S(slot), S(unit), 0.0, S(everywhere), S(origin), S(origin), S(pair), 1) == GF_NOT_MATCHED);
     CHECK(slot[0] == -1);
-    CHECK(gf_compute_permutation(S(slots), S(unit), 0.1875, S(pos), S(rot_pos), S(pair), 2) == GF_NOT_MATCHED); /* sheet 9 */
+    CHECK(gf_compute_permutation(S(slots), S(unit), 0.1875, S(everywhere), S(pos), S(rot_pos), S(pair), 2) == GF_NOT_MATCHED); /* sheet 9 */
     CHECK(slots[0] == 0 && slots[1] == -1);
-    CHECK(gf_compute_permutation(S(slot), S(unit), 0.125, S(eighth), S(origin), S(pair), 1) == GF_NOT_MATCHED); /* sheet 10 */
-    CHECK(gf_compute_permutation(S(slot), S(unit), (double)NAN, S(origin), S(origin), S(pair), 1) == GF_NOT_MATCHED);
+    CHECK(gf_compute_permutation(S(slot), S(unit), 0.125, S(everywhere), S(eighth), S(origin), S(pair), 1) == GF_NOT_MATCHED); /* sheet 10 */
+    CHECK(gf_compute_permutation(S(slot), S(unit), (double)NAN, S(everywhere), S(origin), S(origin), S(pair), 1) == GF_NOT_MATCHED);
     CHECK(pair[0] == 7 && pair[1] == 7);
     pos[3] = (double)NAN; /* the second position; slot 1 is the first that it tries */
     rot_pos[0] = 0.25;
-    CHECK(gf_compute_permutation(S(slots), S(unit), 0.1875, S(pos), S(rot_pos), S(pair), 2) == GF_MATCH_NO_NUMBER);
+    CHECK(gf_compute_permutation(S(slots), S(unit), 0.1875, S(everywhere), S(pos), S(rot_pos), S(pair), 2) == GF_MATCH_NO_NUMBER);
     CHECK(slots[0] == 0 && slots[1] == -1 && pair[0] == 1 && pair[1] == 1);
     slot[0] = 7;
     pair[0] = pair[1] = 7;
-    CHECK(gf_compute_permutation(S(slot), S(unit), 0.1, S(origin), S(origin), pair, 1, 1) == GF_WRONG_LENGTH);
-    CHECK(gf_compute_permutation(S(slot), S(unit), 0.1, S(origin), S(origin), pair, 1, 1025) == GF_COUNT_ABOVE_LIMIT);
-    CHECK(gf_compute_permutation(S(slot), S(unit), 0.1, S(origin), S(origin), S(pair), 1025) == GF_COUNT_ABOVE_LIMIT);
-    CHECK(gf_compute_permutation(S(slot), unit, 8, 0.1, S(origin), S(origin), S(pair), 1025) == GF_COUNT_ABOVE_LIMIT);
-    CHECK(gf_compute_permutation(S(slot), unit, 8, 0.1, S(origin), S(origin), S(pair), 1) == GF_WRONG_LENGTH);
-    CHECK(gf_compute_permutation(S(slot), S(unit), 0.1, S(origin), origin, 2, S(pair), 1) == GF_WRONG_LENGTH);
+    CHECK(gf_compute_permutation(S(slot), S(unit), 0.1, S(everywhere), S(origin), S(origin), pair, 1, 1) == GF_WRONG_LENGTH);
+    CHECK(gf_compute_permutation(S(slot), S(unit), 0.1, S(everywhere), S(origin), S(origin), pair, 1, 1025) == GF_COUNT_ABOVE_LIMIT);
+    CHECK(gf_compute_permutation(S(slot), S(unit), 0.1, S(everywhere), S(origin), S(origin), S(pair), 1025) == GF_COUNT_ABOVE_LIMIT);
+    CHECK(gf_compute_permutation(S(slot), unit, 8, 0.1, S(everywhere), S(origin), S(origin), S(pair), 1025) == GF_COUNT_ABOVE_LIMIT);
+    CHECK(gf_compute_permutation(S(slot), unit, 8, 0.1, S(everywhere), S(origin), S(origin), S(pair), 1) == GF_WRONG_LENGTH);
+    CHECK(gf_compute_permutation(S(slot), S(unit), 0.1, S(everywhere), S(origin), origin, 2, S(pair), 1) == GF_WRONG_LENGTH);
     CHECK(slot[0] == 7 && pair[0] == 7 && pair[1] == 7);
+}
+
+static void surfaces(void) {
+    const double unit[] = {1, 0, 0, 0, 1, 0, 0, 0, 1}, high[] = {0.9375, 0, 0}, low[] = {0.0625, 0, 0};
+    const uint8_t first[] = {255, 0, 0}, others[] = {0, 1, 1};
+    int64_t slot[] = {7};
+    uint8_t mark[] = {7};
+    size_t pair[] = {7, 7};
+    CHECK(gf_compute_permutation(S(slot), S(unit), 0.25, S(first), S(high), S(low), S(pair), 1) == GF_DONE);
+    CHECK(slot[0] == 0);
+    CHECK(gf_compute_permutation(S(slot), S(unit), 0.25, S(others), S(high), S(low), S(pair), 1) == GF_NOT_MATCHED);
+    CHECK(slot[0] == -1);
+    CHECK(gf_find_permutation(S(slot), S(mark), S(unit), 0.25, S(first), S(high), S(low), 1) == GF_DONE);
+    CHECK(slot[0] == 0 && mark[0] == 0);
+    CHECK(gf_find_permutation(S(slot), S(mark), S(unit), 0.25, S(others), S(high), S(low), 1) == GF_NO_MATCH);
+    CHECK(slot[0] == -1 && mark[0] == 1);
+    CHECK(gf_compute_permutation(S(slot), S(unit), 0.25, first, 2, S(high), S(low), S(pair), 1) == GF_WRONG_LENGTH);
+    CHECK(gf_find_permutation(S(slot), S(mark), S(unit), 0.25, first, 2, S(high), S(low), 1) == GF_WRONG_LENGTH);
+    CHECK(gf_find_permutation(S(slot), S(mark), S(unit), 0.25, first, 2, S(high), S(low), 1025) == GF_COUNT_ABOVE_LIMIT);
+    CHECK(slot[0] == -1 && mark[0] == 1 && pair[0] == 7);
 }
 
 static void finding(void) {
@@ -152,21 +174,21 @@ static void finding(void) {
     const double apart[] = {0.125, 0, 0, 0.625, 0, 0};
     int64_t slots[] = {7, 7};
     uint8_t marks[] = {7, 7};
-    CHECK(gf_find_permutation(slots, 0, marks, 0, S(unit), 0.1, pos, 0, pos, 0, 0) == GF_DONE);
+    CHECK(gf_find_permutation(slots, 0, marks, 0, S(unit), 0.1, S(everywhere), pos, 0, pos, 0, 0) == GF_DONE);
     CHECK(slots[0] == 7 && marks[0] == 7);
-    CHECK(gf_find_permutation(S(slots), S(marks), S(unit), 0.1875, S(pos), S(rot_pos), 2) == GF_DONE); /* sheet 9 */
+    CHECK(gf_find_permutation(S(slots), S(marks), S(unit), 0.1875, S(everywhere), S(pos), S(rot_pos), 2) == GF_DONE); /* sheet 9 */
     CHECK(slots[0] == 1 && slots[1] == 0 && marks[0] == 0 && marks[1] == 0);
-    CHECK(gf_find_permutation(S(slots), S(marks), S(unit), 0.1875, S(pos), S(pos), 2) == GF_DONE);
+    CHECK(gf_find_permutation(S(slots), S(marks), S(unit), 0.1875, S(everywhere), S(pos), S(pos), 2) == GF_DONE);
     CHECK(slots[0] == 0 && slots[1] == 1);
-    CHECK(gf_find_permutation(S(slots), S(marks), S(unit), 0.1875, S(pos), S(apart), 2) == GF_NO_MATCH);
+    CHECK(gf_find_permutation(S(slots), S(marks), S(unit), 0.1875, S(everywhere), S(pos), S(apart), 2) == GF_NO_MATCH);
     CHECK(slots[0] == -1 && slots[1] == -1 && marks[0] == 1 && marks[1] == 1);
     slots[0] = slots[1] = 7;
     marks[0] = marks[1] = 7;
-    CHECK(gf_find_permutation(S(slots), S(marks), S(unit), 0.1875, S(pos), S(pos), 1025) == GF_COUNT_ABOVE_LIMIT);
-    CHECK(gf_find_permutation(S(slots), S(marks), unit, 8, 0.1875, S(pos), S(pos), 1025) == GF_COUNT_ABOVE_LIMIT);
-    CHECK(gf_find_permutation(S(slots), S(marks), unit, 8, 0.1875, S(pos), S(pos), 2) == GF_WRONG_LENGTH);
-    CHECK(gf_find_permutation(S(slots), marks, 1, S(unit), 0.1875, S(pos), S(pos), 2) == GF_WRONG_LENGTH);
-    CHECK(gf_find_permutation(S(slots), S(marks), S(unit), 0.1875, pos, 5, S(pos), 2) == GF_WRONG_LENGTH);
+    CHECK(gf_find_permutation(S(slots), S(marks), S(unit), 0.1875, S(everywhere), S(pos), S(pos), 1025) == GF_COUNT_ABOVE_LIMIT);
+    CHECK(gf_find_permutation(S(slots), S(marks), unit, 8, 0.1875, S(everywhere), S(pos), S(pos), 1025) == GF_COUNT_ABOVE_LIMIT);
+    CHECK(gf_find_permutation(S(slots), S(marks), unit, 8, 0.1875, S(everywhere), S(pos), S(pos), 2) == GF_WRONG_LENGTH);
+    CHECK(gf_find_permutation(S(slots), marks, 1, S(unit), 0.1875, S(everywhere), S(pos), S(pos), 2) == GF_WRONG_LENGTH);
+    CHECK(gf_find_permutation(S(slots), S(marks), S(unit), 0.1875, S(everywhere), pos, 5, S(pos), 2) == GF_WRONG_LENGTH);
     CHECK(slots[0] == 7 && slots[1] == 7 && marks[0] == 7 && marks[1] == 7);
 }
 
@@ -601,6 +623,7 @@ int main(void) {
     rounding();
     shift_tables();
     matching();
+    surfaces();
     finding();
     full_second_order();
     drift();

@@ -173,6 +173,26 @@ class Matching(unittest.TestCase):
         match = gf.compute_permutation(np.eye(3), 1e-5, bad, pos)
         self.assertEqual((match.found, match.pair, int(match.slots[4])), (False, (3, 3), 4))
 
+    def test_slabs(self):
+        """Beside numpy: a difference loses its rounding along the axes that repeat alone."""
+        rng = np.random.default_rng(5)
+        counts = {True: 0, False: 0}
+        for _ in range(400):
+            pbc = rng.random(3) < 0.5
+            cell, (p, q) = np.eye(3) + 0.3 * rng.random((3, 3)), rng.integers(-16, 16, (2, 1, 3)) / 16
+            whole = np.trunc(p - q + np.copysign(0.5, p - q))
+            d = p - q - np.where(pbc, whole, 0.0)
+            near = bool(np.linalg.norm(cell @ d[0]) < 0.7)
+            flags = pbc if rng.random() < 0.5 else [int(f) for f in pbc]
+            self.assertIs(gf.compute_permutation(cell, 0.7, p, q, pbc=flags).found, near)
+            self.assertIs(gf.find_permutation(cell, 0.7, p, q, pbc=flags).found, near)
+            counts[near] += 1
+        self.assertGreaterEqual(min(counts.values()), 40, counts)
+        top, bottom = line([0.9375]), line([0.0625])
+        for call in (gf.compute_permutation, gf.find_permutation):
+            near = [call(np.eye(3), 0.25, top, bottom, pbc=pbc).found for pbc in (True, False, [1, 0, 0], (False, True, True))]
+            self.assertEqual(near, [True, False, True, False])
+
     def test_a_match_whenever_one_exists(self):
         """Beside every order of up to five positions on a line of places, of which neighbours are near."""
         rng = np.random.default_rng(2)

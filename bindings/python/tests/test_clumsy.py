@@ -196,6 +196,10 @@ class Clumsy(unittest.TestCase):
             self.refuses(TypeError, "symprec", lambda: match(np.eye(3), "1e-5", pos, pos))
             self.refuses(TypeError, "masked", lambda: match(np.eye(3), 1e-5, np.ma.masked_greater(pos, 0), pos))
             self.refuses(gf.Refused, "num_pos: 1025, limit 1024", lambda: match(np.eye(3), 1e-5, np.zeros((1025, 3)), np.zeros((1025, 3))))
+            for pbc in ("TTF", 2, 1.0, [1, 1, 255], None, []):
+                self.refuses(TypeError, "pbc has to be True or False", lambda: match(np.eye(3), 1e-5, pos, pos, pbc=pbc))
+            for pbc in ([True, False], [1] * 4, [[True] * 3]):
+                self.refuses(ValueError, "pbc has the shape", lambda: match(np.eye(3), 1e-5, pos, pos, pbc=pbc))
             for strided in (np.repeat(pos, 2, axis=0)[::2], np.asfortranarray(pos), pos.astype(">f8")):
                 self.assertTrue(match(np.eye(3, dtype=int), 1e-5, strided, pos).found)
             self.assertEqual(match(np.eye(3), 1e-5, np.zeros((0, 3)), np.zeros((0, 3))).slots.tolist(), [])

@@ -51,6 +51,10 @@ def bytes_of(n, seed):
     return (drawn(n, seed) % np.uint64(256)).astype(np.uint8)
 
 
+def axes(flags):
+    return [(flags >> 8 * k) % 256 != 0 for k in range(3)]
+
+
 def words_of(a):
     if a.dtype != np.float64:
         return a.ravel().astype(np.int64).view(np.uint64)
@@ -132,13 +136,13 @@ class Records(unittest.TestCase):
         done = passed = 0
         for r in map(Words, records("cells")):
             refusal, found, n, slots, pos, rot_pos = r.ints(6)
-            symprec, lattice = r.take(1).view(np.float64)[0], r.take(9).view(np.float64).reshape(3, 3)
+            symprec, pbc, lattice = r.take(1).view(np.float64)[0], axes(*r.ints(1)), r.take(9).view(np.float64).reshape(3, 3)
             p, q = r.take(pos).view(np.float64), r.take(rot_pos).view(np.float64)
             after, named, pair = r.take(slots).view(np.int64), *r.ints(1), tuple(r.ints(2))
             if (slots, pos) != (n, 3 * n) or rot_pos % 3:
                 passed += 1
                 continue
-            number, match = answer(lambda: gf.compute_permutation(lattice, float(symprec), p.reshape(-1, 3), q.reshape(-1, 3)))
+            number, match = answer(lambda: gf.compute_permutation(lattice, float(symprec), p.reshape(-1, 3), q.reshape(-1, 3), pbc=pbc))
             self.assertEqual(number, refusal)
             if match:
                 self.assertEqual((match.found, match.slots.tolist(), match.pair), (bool(found), after.tolist(), pair if named else None))
@@ -148,13 +152,14 @@ class Records(unittest.TestCase):
     def test_finding(self):
         done = passed = 0
         for r in map(Words, records("finding")):
-            recorded, *sums, free, n, slots, marks, lattice, pos, rot_pos = r.ints(10)
+            recorded, *sums, free, n, slots, marks, lattice, periodic, pos, rot_pos, flags = r.ints(12)
             symprec, cell = r.take(1).view(np.float64)[0], r.take(lattice).view(np.float64)
             p, q = r.take(pos).view(np.float64), r.take(rot_pos).view(np.float64)
-            if (slots, marks, lattice, pos) != (n, n, 9, 3 * n) or rot_pos % 3:
+            if (slots, marks, lattice, periodic, pos) != (n, n, 9, 3, 3 * n) or rot_pos % 3:
                 passed += 1
                 continue
-            number, pairing = answer(lambda: gf.find_permutation(cell.reshape(3, 3), float(symprec), p.reshape(-1, 3), q.reshape(-1, 3)))
+            positions = p.reshape(-1, 3), q.reshape(-1, 3)
+            number, pairing = answer(lambda: gf.find_permutation(cell.reshape(3, 3), float(symprec), *positions, pbc=axes(flags)))
             self.assertEqual(number, recorded if recorded < 64 else 0)
             if pairing:
                 near = r.take(16 * n).reshape(n, 16)[:, :n].astype(bool)

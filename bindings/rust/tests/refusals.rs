@@ -15,7 +15,7 @@ fn huge_counts_are_refused_before_memory_is_asked_for() {
     let mut set = counting(27);
     assert_eq!(tables::check_shift_tables(&[], &[], &[], &[], HUGE, HUGE, HUGE), above);
     assert_eq!(cells::compute_permutation(&mut [], &IDENTITY, &[], &[], HUGE, 0.1), Err(Refusal::CountAboveLimit.into()));
-    assert_eq!(cells::find_permutation(&mut [], &mut [], &IDENTITY, &[], &[], HUGE, 0.1), Err(Refusal::CountAboveLimit));
+    assert_eq!(cells::find_permutation(&mut [], &mut [], &IDENTITY, [true; 3], &[], &[], HUGE, 0.1), Err(Refusal::CountAboveLimit));
     assert_eq!(fc2::perm_trans_symmetrize_fc(&mut set, HUGE, 1), above);
     assert_eq!(fc2::perm_trans_symmetrize_compact_fc(&mut set, &[], &[], &[], &[], HUGE, HUGE, 1), above);
     assert_eq!(fc2::set_index_permutation_symmetry_compact_fc(&mut set, &[], &[], &[], &[], HUGE, 2, true), above);
@@ -115,11 +115,14 @@ fn a_group_has_fewer_places_than_members() {
     let at = |xs: [f64; 3]| xs.map(|x| [x, 0.0, 0.0]).concat();
     // positions 0 and 2 have slot 0 alone; position 1 has slot 2
     let (pos, rot_pos) = (at([0.0, 0.5, 0.0]), at([0.0, 0.25, 0.5]));
-    assert_eq!(cells::find_permutation(&mut slots, &mut marks, &IDENTITY, &pos, &rot_pos[..6], 3, 0.1), Err(Refusal::WrongLength));
+    assert_eq!(
+        cells::find_permutation(&mut slots, &mut marks, &IDENTITY, [true; 3], &pos, &rot_pos[..6], 3, 0.1),
+        Err(Refusal::WrongLength)
+    );
     assert_eq!((slots, marks), ([7; 3], [7; 3]));
-    assert_eq!(cells::find_permutation(&mut slots, &mut marks, &IDENTITY, &pos, &rot_pos, 3, 0.1), Ok(false));
+    assert_eq!(cells::find_permutation(&mut slots, &mut marks, &IDENTITY, [true; 3], &pos, &rot_pos, 3, 0.1), Ok(false));
     assert_eq!((slots, marks), ([-1; 3], [1, 0, 1]));
-    assert_eq!(cells::find_permutation(&mut slots, &mut marks, &IDENTITY, &pos, &pos, 3, 0.1), Ok(true));
+    assert_eq!(cells::find_permutation(&mut slots, &mut marks, &IDENTITY, [true; 3], &pos, &pos, 3, 0.1), Ok(true));
     assert_eq!((slots, marks), ([0, 1, 2], [0; 3]));
 }
 

@@ -8,7 +8,7 @@ ghost use Rattle.tables.specs.Answers.{numberOf};
 ghost use Rattle.tables.specs.Limits.{limit2};
 ghost use Rattle.tables.specs.Compact.{shiftTables, judgedTables};
 ghost use lib.ListN.{length};
-ghost use Rattle.capi_cells.specs.Cells.{cellFits, pairLeft, permutation};
+ghost use Rattle.capi_cells.specs.Cells.{flagsOf, cellOf, cellFits, callFits, pairLeft, permutation};
 use cells::Matching;
 use cells::Pair;
 use distances::Cell;
@@ -56,7 +56,7 @@ pub extern "C" fn gf_check_shift_tables(
 }
 
 // The nine lattice numbers.
-pub fn nine(lattice: &[f64]) -> [f64; 9]
+fn nine(lattice: &[f64]) -> [f64; 9]
     requires { ⌜ length (now lattice) ≡ 9 ⌝ }
     ensures { λ r. ⌜ r ≡ now (lattice .entry) ⌝ }
 {
@@ -65,11 +65,43 @@ pub fn nine(lattice: &[f64]) -> [f64; 9]
     l
 }
 
-// Whether the lattice has nine numbers, and the pair two slots.
-fn cell_fits(len_lattice: usize, len_pair: usize) -> bool
-    ensures { λ r. ⌜ r ≡ cellFits «len_lattice» «len_pair» ⌝ }
+// Along which axes the cell repeats: a byte for each, 0 where it does not.
+fn flags(periodic: &[u8]) -> [bool; 3]
+    requires { ⌜ length (now periodic) ≡ 3 ⌝ }
+    ensures { λ r. ⌜ r ≡ flagsOf (now (periodic .entry)) ⌝ }
 {
-    len_lattice == 9 && len_pair == 2
+    [periodic[0] != 0, periodic[1] != 0, periodic[2] != 0]
+}
+
+// Whether the lattice has nine numbers, and the flags are three.
+pub fn cell_fits(len_lattice: usize, len_periodic: usize) -> bool
+    ensures { λ r. ⌜ r ≡ cellFits «len_lattice» «len_periodic» ⌝ }
+{
+    len_lattice == 9 && len_periodic == 3
+}
+
+// The cell of a lattice, a tolerance and a flag for each axis.
+pub fn cell_of(lattice: &[f64], symprec: f64, periodic: &[u8]) -> Cell
+    requires { ⌜ (length (now lattice) ≡ 9) × (length (now periodic) ≡ 3) ⌝ }
+    ensures { λ r. ⌜ r ≡ cellOf (now (lattice .entry)) symprec (now (periodic .entry)) ⌝ }
+{
+    let l = nine(lattice);
+    let f = flags(periodic);
+    Cell {
+        lattice: l,
+        symprec: symprec,
+        periodic: f,
+    }
+}
+
+// Whether the cell fits, and the pair has two slots.
+fn call_fits(len_lattice: usize, len_periodic: usize, len_pair: usize) -> bool
+    ensures { λ r. ⌜ r ≡ callFits «len_lattice» «len_periodic» «len_pair» ⌝ }
+{
+    if cell_fits(len_lattice, len_periodic) {
+        return len_pair == 2;
+    }
+    false
 }
 
 fn put(p: Pair, pair: &mut [usize])
@@ -103,19 +135,16 @@ pub extern "C" fn gf_compute_permutation(
     rot_atom: &mut [i64],
     lattice: &[f64],
     symprec: f64,
+    periodic: &[u8],
     pos: &[f64],
     rot_pos: &[f64],
     pair: &mut [usize],
     num_pos: usize,
 ) -> u8
-    ensures { λ r. ⌜ (r, now («rot_atom» .exit), now (pair .exit)) ≡ permutation (now («rot_atom» .entry)) (now (lattice .entry)) symprec (now (pos .entry)) (now («rot_pos» .entry)) (now (pair .entry)) «num_pos» ⌝ }
+    ensures { λ r. ⌜ (r, now («rot_atom» .exit), now (pair .exit)) ≡ permutation (now («rot_atom» .entry)) (now (lattice .entry)) symprec (now (periodic .entry)) (now (pos .entry)) (now («rot_pos» .entry)) (now (pair .entry)) «num_pos» ⌝ }
 {
-    if cell_fits(lattice.len(), pair.len()) {
-        let l = nine(lattice);
-        let cell = Cell {
-            lattice: l,
-            symprec: symprec,
-        };
+    if call_fits(lattice.len(), periodic.len(), pair.len()) {
+        let cell = cell_of(lattice, symprec, periodic);
         let m = cells::compute_permutation(rot_atom, cell, pos, rot_pos, num_pos);
         tell(m, pair);
         return cells::matching_number(m);

@@ -1,6 +1,5 @@
 // C name of the matcher that knows when there is no match. A slice is passed as a pointer and its length; include/gullyfork.h says the rest.
 ghost use Rattle.capi_finding.specs.Finding.{Finds};
-use distances::Cell;
 use tables::limits::LIMIT2;
 
 // Which position each rotated position comes from: 0 if a bijection of near pairs was found, 72 if none exists, and then marks has 1 for each member of a group of
@@ -11,18 +10,15 @@ pub extern "C" fn gf_find_permutation(
     marks: &mut [u8],
     lattice: &[f64],
     symprec: f64,
+    periodic: &[u8],
     pos: &[f64],
     rot_pos: &[f64],
     num_pos: usize,
 ) -> u8
-    ensures { λ r. ⌜ Finds (now («rot_atom» .entry)) (now (marks .entry)) (now (lattice .entry)) symprec (now (pos .entry)) (now («rot_pos» .entry)) «num_pos» (r, now («rot_atom» .exit), now (marks .exit)) ⌝ }
+    ensures { λ r. ⌜ Finds (now («rot_atom» .entry)) (now (marks .entry)) (now (lattice .entry)) symprec (now (periodic .entry)) (now (pos .entry)) (now («rot_pos» .entry)) «num_pos» (r, now («rot_atom» .exit), now (marks .exit)) ⌝ }
 {
-    if lattice.len() == 9 {
-        let l = capi_cells::nine(lattice);
-        let cell = Cell {
-            lattice: l,
-            symprec: symprec,
-        };
+    if capi_cells::cell_fits(lattice.len(), periodic.len()) {
+        let cell = capi_cells::cell_of(lattice, symprec, periodic);
         let f = finding::find_permutation(rot_atom, marks, cell, pos, rot_pos, num_pos);
         return finding::finding_number(f);
     }

@@ -1,6 +1,6 @@
--- Sheets 8, 9 and 10 of document 01, and values of document 02, A.3, by computation, whatever the slots held. Assumes nothing.
+-- Sheets 8, 9 and 10 of document 01, and values of document 02, A.3 and A.9, by computation, whatever the slots held. Assumes nothing.
 use mathlib.Core.Path.{_≡_, refl}
-use mathlib.Core.Bool.{false}
+use mathlib.Core.Bool.{Bool, true, false}
 use mathlib.Core.List.{List, [], _∷_}
 use lib.IntN.{ℤ, pos, negsuc}
 use lib.Ieee.{Float, nan, inf, binary64, ofBits, add, sub, mul, lt, isNan, round}
@@ -25,10 +25,17 @@ half64 = ofBits binary64 0x3fe0_0000_0000_0000
 abbrev eighth : Float
 eighth = ofBits binary64 0x3fc0_0000_0000_0000
 
--- the unit lattice, with a tolerance
+-- along all three axes
+abbrev everywhere : List Bool
+everywhere = true ∷ true ∷ true ∷ []
+
+-- the unit lattice, with a tolerance; the cell repeats along all axes, or along those that are named
+abbrev unitSlab : Float → List Bool → Cell
+unitSlab symprec periodic =
+    record { lattice = one64 ∷ zero64 ∷ zero64 ∷ zero64 ∷ one64 ∷ zero64 ∷ zero64 ∷ zero64 ∷ one64 ∷ []; symprec = symprec; periodic = periodic }
+
 abbrev pub unitCell : Float → Cell
-unitCell symprec =
-    record { lattice = one64 ∷ zero64 ∷ zero64 ∷ zero64 ∷ one64 ∷ zero64 ∷ zero64 ∷ zero64 ∷ one64 ∷ []; symprec = symprec }
+unitCell symprec = unitSlab symprec everywhere
 
 -- a position with the first coordinate x, the rest 0, before more positions
 abbrev pub at-x : Float → List Float → List Float
@@ -93,7 +100,7 @@ no-tolerance old = refl
 -- a lattice with the diagonal a, b, 1
 abbrev diagonal : Float → Float → Float → Cell
 diagonal a b symprec =
-    record { lattice = a ∷ zero64 ∷ zero64 ∷ zero64 ∷ b ∷ zero64 ∷ zero64 ∷ zero64 ∷ one64 ∷ []; symprec = symprec }
+    record { lattice = a ∷ zero64 ∷ zero64 ∷ zero64 ∷ b ∷ zero64 ∷ zero64 ∷ zero64 ∷ one64 ∷ []; symprec = symprec; periodic = everywhere }
 
 -- NaN in the second row: no number, although the first component alone is longer than the tolerance
 pub nan-lattice : (old : ℤ)
@@ -106,3 +113,24 @@ pub infinite-lattice : (old : ℤ)
     → computePermutation (old ∷ []) (diagonal (inf false) one64 eighth) (at-x half64 []) (at-x zero64 []) 1 ≡ (NotMatched, negsuc 0 ∷ [])
 unfolding computePermutation judged answered searched placed placedTo times place lowest takenAt noneAt hasNone firstNone allFilled allOf distance distance2 squares ofBits add sub mul lt isNan nearestWhole sqrt round
 infinite-lattice old = refl
+
+-- ---- slabs (document 02, A.9): first coordinates 0.9375 against 0.0625, tolerance 0.25
+
+abbrev quarter : Float
+quarter = ofBits binary64 0x3fd0_0000_0000_0000
+
+abbrev high : List Float
+high = at-x (ofBits binary64 0x3fee_0000_0000_0000) []
+
+abbrev low : List Float
+low = at-x (ofBits binary64 0x3fb0_0000_0000_0000) []
+
+-- near where the first axis repeats, though the others do not
+pub across-the-edge : (old : ℤ) → computePermutation (old ∷ []) (unitSlab quarter (true ∷ false ∷ false ∷ [])) high low 1 ≡ (Matched, pos 0 ∷ [])
+unfolding computePermutation judged answered searched placed placedTo times place lowest takenAt noneAt hasNone firstNone allFilled allOf distance distance2 squares ofBits add sub mul lt isNan nearestWhole sqrt round
+across-the-edge old = refl
+
+-- far where it does not, though the others do
+pub at-the-edge : (old : ℤ) → computePermutation (old ∷ []) (unitSlab quarter (false ∷ true ∷ true ∷ [])) high low 1 ≡ (NotMatched, negsuc 0 ∷ [])
+unfolding computePermutation judged answered searched placed placedTo times place lowest takenAt noneAt hasNone firstNone allFilled allOf distance distance2 squares ofBits add sub mul lt isNan nearestWhole sqrt round
+at-the-edge old = refl

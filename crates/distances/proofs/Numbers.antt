@@ -20,8 +20,8 @@ use Rattle.common.specs.Whole.{nearestWhole}
 use Rattle.common.specs.NearestWhole.{gap, NearestWhole, whole-is-nearest}
 use Rattle.common.specs.Root.{roundedRoot, sqrt}
 use Rattle.distances.specs.declared.Distance.the-variants.{Near, Far, NoNumber}
-use Rattle.distances.specs.Near.{wrapped, dot, squares, told}
-use Rattle.distances.specs.Reach.{plus, Rest, Plain, Early, EarlyOf, Reaches}
+use Rattle.distances.specs.Near.{wrapped, difference, dot, squares, told}
+use Rattle.distances.specs.Reach.{plus, Rest, Rests, Plain, Early, EarlyOf, everywhere, OnlyIf, Reaches}
 use Rattle.distances.proofs.Rounded.{le-cross, own-round, round-plus, number, round-number}
 use Rattle.distances.proofs.Sums.{mul-plus, add-plus}
 use Rattle.distances.proofs.Squares.{zero-plus, sum-plus, first-row, too-long}
@@ -258,6 +258,24 @@ rest-of (fin s m e) F =
 pub wrapped-rest : (a b : Float) → Rest (wrapped a b)
 wrapped-rest a b = rest-of (sub binary64 a b) (sub-fits binary64 a b)
 
+-- along an axis that repeats
+difference-rest : (b : Bool) (x y : Float) → b ≡ true → Rest (difference b x y)
+difference-rest b x y e = rw e (wrapped-rest x y)
+
+-- each of the three repeats
+each-repeats : (a b c : Bool) → (a && (b && c)) ≡ true → (a ≡ true) × (b ≡ true) × (c ≡ true)
+each-repeats true true true e = (refl, refl, refl)
+each-repeats true true false e = absurd (false≢true e)
+each-repeats true false c e = absurd (false≢true e)
+each-repeats false b c e = absurd (false≢true e)
+
+-- the three differences of a cell that repeats along all axes
+pub rests-of : (f : List Bool) (x y z a b c d g h : Float) → x ≡ difference (getD f 0 false) a b → y ≡ difference (getD f 1 false) c d → z ≡ difference (getD f 2 false) g h
+    → everywhere f ≡ true → Rest x × Rest y × Rest z
+rests-of f x y z a b c d g h X Y Z e =
+    let (p, q, r) = each-repeats (getD f 0 false) (getD f 1 false) (getD f 2 false) e in
+    (subst Rest (sym X) (difference-rest (getD f 0 false) a b p), subst Rest (sym Y) (difference-rest (getD f 1 false) c d q), subst Rest (sym Z) (difference-rest (getD f 2 false) g h r))
+
 -- ---- rows of finite numbers
 
 -- a finite number times a rest that is a number
@@ -360,6 +378,10 @@ pub never-early : (square p q r s t u : Float) → Early square (div binary64 (o
 unfolding div ofBits
 never-early square p q r s t u = record { decides = λ x h. absurd (nan-below x h) }
 
+pub never-only : (repeats : Bool) → OnlyIf repeats (div binary64 (ofBits binary64 0) (ofBits binary64 0))
+unfolding div ofBits
+never-only repeats = λ x h. absurd (nan-below x h)
+
 -- ---- what the squares tell
 
 -- NaN has the root NaN
@@ -381,10 +403,11 @@ module _ (s square sure : Float) (S : T (fits binary64 s)) (R : Reaches s square
   sum-number-of l x y z X Y Z early E h = (sum-plus _ _ _, first-decides x y z X Y Z _ _ _ _ _ _ _ _ _ (E .decides _ h .1, E .decides _ h .2) early h)
 
   -- the first row alone is too long
-  pub first-far : (l : List Float) (x y z a early : Float) → EarlyOf l square early → Rest x × Rest y × Rest z → a ≡ dot (getD l 0 nan) (getD l 1 nan) (getD l 2 nan) x y z
+  pub first-far : (l : List Float) (x y z a early : Float) → EarlyOf l square early → Rests early x y z → a ≡ dot (getD l 0 nan) (getD l 1 nan) (getD l 2 nan) x y z
       → lt early (add binary64 (ofBits binary64 0) (mul binary64 a a)) ≡ true → Far ≡ told (sqrt binary64 (squares l x y z)) s
-  first-far l x y z a early E (X, Y, Z) e h =
+  first-far l x y z a early E R′ e h =
       let q = E .decides _ h .0 in
+      let (X, Y, Z) = R′ _ h in
       let g : lt square (add binary64 (ofBits binary64 0) (mul binary64 a a)) ≡ true = subst (λ (w : Float). lt w (add binary64 (ofBits binary64 0) (mul binary64 a a)) ≡ true) q h in
       let (p, n) = sum-number-of l x y z X Y Z early E (subst (λ (v : Float). lt early (add binary64 (ofBits binary64 0) (mul binary64 v v)) ≡ true) e h) in
       told-far (sqrt binary64 (squares l x y z)) s (is-number _ (root-number _ p n)) (first-row s square sure S R l x y z a e g)
@@ -392,3 +415,6 @@ module _ (s square sure : Float) (S : T (fits binary64 s)) (R : Reaches s square
 -- the same of numbers that are equal
 pub early-moved : (l : List Float) (q r e f : Float) → r ≡ q → f ≡ e → EarlyOf l q e → EarlyOf l r f
 early-moved l q r e f h g E = subst (λ (x : Float). EarlyOf l x f) (sym h) (subst (λ (y : Float). EarlyOf l q y) (sym g) E)
+
+pub only-moved : (a b : Bool) (e f : Float) → a ≡ b → f ≡ e → OnlyIf a e → OnlyIf b f
+only-moved a b e f h g O = subst (λ (c : Bool). OnlyIf c f) h (subst (λ (y : Float). OnlyIf a y) (sym g) O)

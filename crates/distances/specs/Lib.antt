@@ -1,3 +1,4 @@
 pub mod Near
 pub mod Told
 pub mod Reach
+pub mod Slabs

@@ -15,6 +15,10 @@ use Rattle.distances.specs.declared.Distance.the-variants.{Near, Far, No
 abbrev pub wrapped : Float → Float → Float
 wrapped a b = let d = sub binary64 a b in sub binary64 d (nearestWhole d)
 
+-- the difference on an axis: along one that does not repeat it is whole (document 02, A.9)
+abbrev pub difference : Bool → Float → Float → Float
+difference repeats a b = cond repeats (wrapped a b) (sub binary64 a b)
+
 -- 0.0 + a x + b y + c z, in that order
 abbrev pub dot : Float → Float → Float → Float → Float → Float → Float
 dot a b c x y z = add binary64 (add binary64 (add binary64 (ofBits binary64 0) (mul binary64 a x)) (mul binary64 b y)) (mul binary64 c z)
@@ -28,7 +32,7 @@ squares l x y z =
 -- the summed squares for position i of pos and position j of rot
 unfoldable pub distance2 : Cell → List Float → List Float → ℕ → ℕ → Float
 distance2 cell pos rot i j =
-    let axis : ℕ → Float = λ k. wrapped (getD pos (i * 3 + k) nan) (getD rot (j * 3 + k) nan) in
+    let axis : ℕ → Float = λ k. difference (getD (cell .periodic) k false) (getD pos (i * 3 + k) nan) (getD rot (j * 3 + k) nan) in
     squares (cell .lattice) (axis 0) (axis 1) (axis 2)
 
 -- What a distance d is to a tolerance. `lt` is false where a NaN stands, so against a NaN tolerance every distance that is a number is far.

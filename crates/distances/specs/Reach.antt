@@ -1,6 +1,6 @@
 -- What the matcher works out once from the tolerance and the lattice, and what it may be used for. Assumes nothing.
 use mathlib.Core.Path.{_≡_}
-use mathlib.Core.Bool.{Bool, true, not}
+use mathlib.Core.Bool.{Bool, true, false, not, _&&_}
 use mathlib.Core.List.{List}
 use Prim.Native.Nat.{_*_, _≤_}
 use lib.Dec.{T}
@@ -39,7 +39,20 @@ pub record Early (square early p q r s t u : Float) : Type 0 where
 abbrev pub EarlyOf : List Float → Float → Float → Type 0
 EarlyOf l square early = Early square early (getD l 3 nan) (getD l 4 nan) (getD l 5 nan) (getD l 6 nan) (getD l 7 nan) (getD l 8 nan)
 
--- both, of a cell
+-- a cell repeats along all three axes
+abbrev pub everywhere : List Bool → Bool
+everywhere periodic = getD periodic 0 false && (getD periodic 1 false && getD periodic 2 false)
+
+-- where `early` is below something, the cell repeats along all axes
+abbrev pub OnlyIf : Bool → Float → Type 0
+OnlyIf repeats early = (x : Float) → lt early x ≡ true → repeats ≡ true
+
+-- and then the differences are rests
+abbrev pub Rests : Float → Float → Float → Float → Type 0
+Rests early x y z = (w : Float) → lt early w ≡ true → Rest x × Rest y × Rest z
+
+-- all of a cell
 pub record Fit (cell : Cell) (reach : Reach) : Type 0 where
   pub reaches : Reaches (cell .symprec) (reach .square) (reach .sure)
   pub early-is : EarlyOf (cell .lattice) (reach .square) (reach .early)
+  pub only-if : OnlyIf (everywhere (cell .periodic)) (reach .early)

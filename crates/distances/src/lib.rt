@@ -5,14 +5,15 @@ ghost use lib.Dec.{T};
 ghost use lib.ListN.{length};
 ghost use lib.Ieee.{binary64, mul, lt};
 ghost use Rattle.common.specs.Root.{sqrt as rootOf};
-ghost use Rattle.distances.specs.Near.{wrapped as wrappedOf, dot as dotOf, squares, told, isNear, near as nearOf, distance as distanceOf};
-ghost use Rattle.distances.specs.Reach.{plus, Rest, Early, EarlyOf, Reaches, Fit};
+ghost use Rattle.distances.specs.Near.{wrapped as wrappedOf, difference as differenceOf, dot as dotOf, squares, told, isNear, near as nearOf, distance as distanceOf};
+ghost use Rattle.distances.specs.Reach.{plus, Rests, Early, EarlyOf, everywhere as everywhereOf, OnlyIf, Reaches, Fit};
 
-// A crystal's cell: the lattice's nine numbers, row after row, and the tolerance. Component k of a difference is row k times the difference of the coordinates,
-// so the basis vectors stand in the columns.
+// A crystal's cell: the lattice's nine numbers, row after row, the tolerance, and along which axes the cell repeats. Component k of a difference is row k times the
+// difference of the coordinates, so the basis vectors stand in the columns; axis k is coordinate k.
 pub struct Cell {
     pub lattice: [f64; 9],
     pub symprec: f64,
+    pub periodic: [bool; 3],
 }
 
 // What a distance is to the tolerance: below it, not below it, or NaN.
@@ -50,6 +51,16 @@ fn wrapped(a: f64, b: f64) -> f64
     d - common::round(d)
 }
 
+// The difference on an axis: less its own rounding where the cell repeats along it, whole where it does not.
+fn difference(repeats: bool, a: f64, b: f64) -> f64
+    ensures { λ r. ⌜ r ≡ differenceOf repeats a b ⌝ }
+{
+    if repeats {
+        return wrapped(a, b);
+    }
+    a - b
+}
+
 // 0.0 + a x + b y + c z, in that order.
 fn dot(a: f64, b: f64, c: f64, x: f64, y: f64, z: f64) -> f64
     ensures { λ r. ⌜ r ≡ dotOf a b c x y z ⌝ }
@@ -65,6 +76,19 @@ pub struct Reach {
     pub early: f64,
 }
 
+// Whether the cell repeats along all three axes.
+fn everywhere(periodic: [bool; 3]) -> bool
+    ensures { λ r. ⌜ r ≡ everywhereOf periodic ⌝ }
+{
+    if periodic[0] {
+        if periodic[1] {
+            return periodic[2];
+        }
+        return false;
+    }
+    false
+}
+
 // The tolerance's square where the second and the third row of the lattice hold finite numbers only, so that no component of a difference is NaN by them;
 // otherwise NaN, which nothing is above. An infinity or a NaN times 0.0 is NaN.
 fn early_of(square: f64, p: f64, q: f64, r: f64, s: f64, t: f64, u: f64) -> f64
@@ -75,6 +99,17 @@ fn early_of(square: f64, p: f64, q: f64, r: f64, s: f64, t: f64, u: f64) -> f64
         return square;
     }
     0.0 / 0.0
+}
+
+// `early_of` in a cell that repeats along all axes, where no difference is larger than 1; NaN in any other.
+fn early_in(repeats: bool, square: f64, l: [f64; 9]) -> f64
+    ensures { λ e. ⌜ EarlyOf l square e × OnlyIf repeats e ⌝ }
+{
+    if repeats {
+        return early_of(square, l[3], l[4], l[5], l[6], l[7], l[8]);
+    }
+    let never = 0.0 / 0.0;
+    never
 }
 
 // The squares of a tolerance, with `early`.
@@ -104,7 +139,8 @@ pub fn reach_of(cell: Cell) -> Reach
 {
     let l = cell.lattice;
     let square = cell.symprec * cell.symprec;
-    let early = early_of(square, l[3], l[4], l[5], l[6], l[7], l[8]);
+    let f = cell.periodic;
+    let early = early_in(everywhere(f), square, l);
     with_sure(cell.symprec, square, early)
 }
 
@@ -130,9 +166,9 @@ fn below(d2: f64, symprec: f64, reach: Reach) -> Distance
 }
 
 // What the length of the difference (x, y, z) in the lattice l is to the tolerance: component k of it is row k times (x, y, z). The first component alone can be
-// too long, and in a lattice that is finite below its first row no other one makes the length NaN then.
+// too long, and in a cell that repeats along all axes, with a lattice that is finite below its first row, no other one makes the length NaN then.
 fn short(l: [f64; 9], symprec: f64, reach: Reach, x: f64, y: f64, z: f64) -> Distance
-    requires { ⌜ Reaches symprec (reach .square) (reach .sure) × EarlyOf l (reach .square) (reach .early) × (Rest x × Rest y × Rest z) ⌝ }
+    requires { ⌜ Reaches symprec (reach .square) (reach .sure) × EarlyOf l (reach .square) (reach .early) × Rests (reach .early) x y z ⌝ }
     ensures { λ r. ⌜ r ≡ told (rootOf binary64 (squares l x y z)) symprec ⌝ }
 {
     let a = dot(l[0], l[1], l[2], x, y, z);
@@ -159,9 +195,10 @@ pub fn distance_of(
 {
     let a = i * 3;
     let b = j * 3;
-    let x = wrapped(pos[a], rot_pos[b]);
-    let y = wrapped(pos[a + 1], rot_pos[b + 1]);
-    let z = wrapped(pos[a + 2], rot_pos[b + 2]);
+    let f = cell.periodic;
+    let x = difference(f[0], pos[a], rot_pos[b]);
+    let y = difference(f[1], pos[a + 1], rot_pos[b + 1]);
+    let z = difference(f[2], pos[a + 2], rot_pos[b + 2]);
     let l = cell.lattice;
     short(l, cell.symprec, reach, x, y, z)
 }
@@ -199,9 +236,10 @@ pub fn near(cell: Cell, reach: Reach, pos: &[f64], rot_pos: &[f64], i: usize, j:
 {
     let a = i * 3;
     let b = j * 3;
-    let x = wrapped(pos[a], rot_pos[b]);
-    let y = wrapped(pos[a + 1], rot_pos[b + 1]);
-    let z = wrapped(pos[a + 2], rot_pos[b + 2]);
+    let f = cell.periodic;
+    let x = difference(f[0], pos[a], rot_pos[b]);
+    let y = difference(f[1], pos[a + 1], rot_pos[b + 1]);
+    let z = difference(f[2], pos[a + 2], rot_pos[b + 2]);
     let l = cell.lattice;
     shorter(l, cell.symprec, reach, x, y, z)
 }

@@ -80,6 +80,7 @@ abbrev pub unitLattice : Float → Cell
 unitLattice symprec = record {
   lattice = f64 1 ∷ f64 0 ∷ f64 0 ∷ f64 0 ∷ f64 1 ∷ f64 0 ∷ f64 0 ∷ f64 0 ∷ f64 1 ∷ [];
   symprec = symprec;
+  periodic = true ∷ true ∷ true ∷ [];
 }
 
 abbrev pub positions : List Float → List Float

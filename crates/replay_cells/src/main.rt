@@ -4,6 +4,7 @@
 // out from them. The Rust has no answer that names a pair: it counts as false, and the pair is that of the recorder's plain model.
 use capi_cells::gf_compute_permutation;
 use records::steps::after;
+use records::steps::ends;
 use records::steps::first;
 use records::steps::is;
 use records::steps::plus;
@@ -36,7 +37,6 @@ fn floats(r: &[u8], from: usize, out: &mut [f64]) {
 
 fn lattice(r: &[u8]) -> [f64; 9] {
     [
-        number(r, 8),
         number(r, 9),
         number(r, 10),
         number(r, 11),
@@ -45,10 +45,11 @@ fn lattice(r: &[u8]) -> [f64; 9] {
         number(r, 14),
         number(r, 15),
         number(r, 16),
+        number(r, 17),
     ]
 }
 
-// Reads the positions, which are as many as the record says, and matches them. The answer's number.
+// Reads the positions, which are as many as the record says, and matches them. The answer's number. The flags of the axes are the first bytes of word 8.
 fn answer(
     r: &[u8],
     slots: &mut [i64],
@@ -56,12 +57,14 @@ fn answer(
     rot_pos: &mut [f64],
     pair: &mut [usize],
 ) -> u64 {
-    let a = after(17, pos.len());
-    floats(r, 17, pos);
+    let a = after(18, pos.len());
+    floats(r, 18, pos);
     floats(r, a, rot_pos);
     let n = records::word_of(r, 3) as usize;
     let l = lattice(r);
-    wide(gf_compute_permutation(slots, &l, number(r, 7), pos, rot_pos, pair, n))
+    let f = ends(0, 64, r.len());
+    let g = ends(f, 3, r.len());
+    wide(gf_compute_permutation(slots, &l, number(r, 7), &r[f..g], pos, rot_pos, pair, n))
 }
 
 // How many slots hold something else than the words of the record from number `from` on.
@@ -108,7 +111,7 @@ fn tallied(t: Tally, r: &[u8], at: usize, m: u64, slots: &[i64], pair: [u64; 2])
 
 // The record r, with room for its slots and positions. The pair holds 7 and 7 before the call.
 fn compare(t: Counts, r: &[u8], slots: &mut [i64], pos: &mut [f64], rot_pos: &mut [f64]) -> Counts {
-    let at = after(after(17, pos.len()), rot_pos.len());
+    let at = after(after(18, pos.len()), rot_pos.len());
     let mut pair = [7usize; 2];
     let m = answer(r, slots, pos, rot_pos, &mut pair);
     let named = [pair[0] as u64, pair[1] as u64];

@@ -7,6 +7,7 @@ use records::differs;
 use records::integer_word;
 use records::steps::after;
 use records::steps::count_of;
+use records::steps::ends;
 use records::steps::first;
 use records::steps::is;
 use records::steps::plus;
@@ -144,7 +145,31 @@ fn marks_left(r: &[u8], at: usize, marks: &[u8]) -> u64 {
     mix_bytes(marks, 0)
 }
 
-// The record r, whose slices are filled; `at` is where the near slots begin.
+// The call of the record r, whose slices are filled: its answer's number. The flags of the axes are the first bytes of word 12.
+fn answer(
+    r: &[u8],
+    slots: &mut [i64],
+    marks: &mut [u8],
+    lattice: &[f64],
+    pos: &[f64],
+    rot_pos: &[f64],
+) -> u64 {
+    let n = count_of(r, 5);
+    let f = ends(0, 96, r.len());
+    let g = ends(f, count_of(r, 9), r.len());
+    wide(gf_find_permutation(
+        slots,
+        marks,
+        lattice,
+        number(r, 13),
+        &r[f..g],
+        pos,
+        rot_pos,
+        n,
+    ))
+}
+
+// The call of the record r, and what it is to leave; `at` is where the near slots begin.
 fn compare(
     t: Counts,
     r: &[u8],
@@ -155,8 +180,7 @@ fn compare(
     pos: &[f64],
     rot_pos: &[f64],
 ) -> Counts {
-    let n = count_of(r, 5);
-    let a = wide(gf_find_permutation(slots, marks, lattice, number(r, 11), pos, rot_pos, n));
+    let a = answer(r, slots, marks, lattice, pos, rot_pos);
     let got = [a, slots_left(r, at, slots), marks_left(r, at, marks)];
     let before = t.all;
     Counts {
@@ -176,10 +200,10 @@ fn fill_and_compare(
     pos: &mut [f64],
     rot_pos: &mut [f64],
 ) -> Counts {
-    let a = after(12, lattice.len());
+    let a = after(14, lattice.len());
     let b = after(a, pos.len());
     let c = after(b, rot_pos.len());
-    floats(r, 12, lattice);
+    floats(r, 14, lattice);
     floats(r, a, pos);
     floats(r, b, rot_pos);
     compare(t, r, c, slots, marks, lattice, pos, rot_pos)
@@ -195,8 +219,8 @@ fn step(t: Counts, r: &[u8]) -> Counts {
     let a = size(word_of(r, 6), 16);
     let b = size(word_of(r, 7), 16);
     let c = size(word_of(r, 8), 16);
-    let d = size(word_of(r, 9), 48);
-    let e = size(word_of(r, 10), 48);
+    let d = size(word_of(r, 10), 48);
+    let e = size(word_of(r, 11), 48);
     fill_and_compare(
         t,
         r,

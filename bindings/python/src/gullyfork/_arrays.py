@@ -109,6 +109,16 @@ def octets(a: Any, name: str) -> np.ndarray:
     return np.frombuffer(a, np.uint8) if len(a) else np.empty(0, np.uint8)
 
 
+def flags(x: Any, name: str) -> np.ndarray:
+    """A flag for each of three axes, as bytes: one for all of them, or three; True and False, or 1 and 0."""
+    a = _array(x, name)
+    if a.dtype.kind != "b" and not (a.dtype.kind in "iu" and np.isin(a, (0, 1)).all()):
+        raise TypeError(f"{name} has to be True or False, or 1 or 0, for each axis, not {x!r}")
+    if a.shape not in ((), (3,)):
+        raise ValueError(f"{name} has the shape {a.shape}: it is one flag for all axes, or three")
+    return np.full(3, a, np.uint8)
+
+
 def apart(a: np.ndarray, name: str, b: Any, other: str) -> None:
     """Raises if b shares memory with a, which is changed."""
     if isinstance(b, np.ndarray) and np.may_share_memory(a, b) and np.shares_memory(a, b):

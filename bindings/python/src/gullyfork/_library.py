@@ -13,7 +13,7 @@ from typing import Any, Dict, List, NamedTuple
 import numpy as np
 
 _HERE = os.path.dirname(os.path.abspath(__file__))
-SHARED = os.environ.get("GULLYFORK_SO") or os.path.join(_HERE, "libgullyfork.so.0")
+SHARED = os.environ.get("GULLYFORK_SO") or os.path.join(_HERE, "libgullyfork.so.1")
 HEADER = os.path.join(_HERE, "gullyfork.h")
 
 _CTYPES: Dict[str, Any] = {

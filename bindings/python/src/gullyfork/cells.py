@@ -47,10 +47,11 @@ class Pairing(NamedTuple):
         return f"positions {', '.join(map(str, self.crowded))}: these {n} have at most {n - 1} near slot{'s' if n > 2 else ''}"
 
 
-def compute_permutation(lattice: Any, symprec: float, pos: Any, rot_pos: Any) -> Match:
+def compute_permutation(lattice: Any, symprec: float, pos: Any, rot_pos: Any, *, pbc: Any = True) -> Match:
     """Which position each rotated position comes from.
 
     The basis vectors stand in the COLUMNS of lattice (3, 3), as in phonopy's `cell.T`; pos and rot_pos are (n, 3), in these vectors.
+    pbc: along which of them the cell repeats, one flag for all or three. Along one that does not, a difference is taken whole.
 
     >>> import numpy as np
     >>> match = compute_permutation(np.eye(3), 1e-5, [[0, 0, 0], [0.5, 0, 0]], [[0.5, 0, 0], [1, 0, 0]])
@@ -58,17 +59,20 @@ def compute_permutation(lattice: Any, symprec: float, pos: Any, rot_pos: Any) ->
     (True, [1, 0])
     >>> compute_permutation(np.eye(3), 1e-5, [[np.nan, 0, 0]], [[0, 0, 0]]).words
     'position 0 against slot 0: the distance is not a number'
+    >>> top, bottom = [[0, 0, 0.9375]], [[0, 0, 0.0625]]
+    >>> [compute_permutation(np.eye(3), 0.25, top, bottom, pbc=pbc).found for pbc in (True, [True, True, False])]
+    [True, False]
     """
     pos = _positions(pos, "pos")
     rot_pos = _positions(rot_pos, "rot_pos")
     n = pos.shape[0]
     slots, pair = np.empty(n, np.int64), np.empty(2, np.uintp)
     answer = run("compute_permutation", 2, read={"lattice": (lattice, (3, 3)), "pos": (pos, (n, 3)), "rot_pos": (rot_pos, (n, 3))},
-                 made={"rot_atom": slots, "pair": pair}, values={"symprec": symprec, "num_pos": n})
+                 made={"rot_atom": slots, "periodic": _arrays.flags(pbc, "pbc"), "pair": pair}, values={"symprec": symprec, "num_pos": n})
     return Match(answer == 0, slots, (int(pair[0]), int(pair[1])) if answer == _NO_NUMBER else None)
 
 
-def find_permutation(lattice: Any, symprec: float, pos: Any, rot_pos: Any) -> Pairing:
+def find_permutation(lattice: Any, symprec: float, pos: Any, rot_pos: Any, *, pbc: Any = True) -> Pairing:
     """A match whenever one exists, and that of `compute_permutation` where it finds one; otherwise who has too few places to go.
 
     Arguments as there. A NaN distance counts as far. Where several matches or groups exist any may come back. The search goes up to n
@@ -90,7 +94,7 @@ def find_permutation(lattice: Any, symprec: float, pos: Any, rot_pos: Any) -> Pa
     n = pos.shape[0]
     slots, marks = np.empty(n, np.int64), np.empty(n, np.uint8)
     answer = run("find_permutation", 2, read={"lattice": (lattice, (3, 3)), "pos": (pos, (n, 3)), "rot_pos": (rot_pos, (n, 3))},
-                 made={"rot_atom": slots, "marks": marks}, values={"symprec": symprec, "num_pos": n})
+                 made={"rot_atom": slots, "marks": marks, "periodic": _arrays.flags(pbc, "pbc")}, values={"symprec": symprec, "num_pos": n})
     return Pairing(answer == 0, slots, np.flatnonzero(marks))
 
 

@@ -1,15 +1,26 @@
+-- `distances::distance_of` meets its contract. Assumes nothing.
 use Rattle.distances.specs.Near.{distance2, distance}
-use Rattle.distances.specs.Reach.{Rest}
-use Rattle.distances.proofs.Numbers.{wrapped-rest}
-use mathlib.Core.Path.{sym, subst}
+use Rattle.distances.proofs.Numbers.{rests-of}
 use native.Mathlib.Nat.{add-zero}
 use borrow.Author.Needs.{needs}
 use Rattle.distances.proofs.distance_of.Statement.{statement}
 use Rattle.distances.proofs.distance_of.Tie as tie
-use Rattle.distances.proofs.distance_of.Reads as reads
-use Rattle.distances.proofs.distance_of.Lts as lts
-use Rattle.distances.proofs.short.Reads as short-reads
-use Rattle.distances.proofs.wrapped.Reads as wrapped-reads
+
+short-requires : tie.Need-short-requires
+short-requires c κs =
+    let s = c .before .before .before .before .before .before .before .before .before .before .before .before .before in
+    let f = s .pre .2 in (
+      f .reaches,
+      f .early-is,
+      λ w h.
+          rests-of (s .args .cell .periodic) _ _ _ _ _ _ _ _ _ (c .before .before .before .before .before .before .before .difference .ensures) (c .before .before .before .before .difference2 .ensures) (c .before .difference3 .ensures)
+          (f .only-if w h),
+    )
+
+returns : tie.Need-returns
+unfolding distance distance2
+returns c =
+    rw (add-zero, add-zero, c .short .ensures, c .before .before .difference3 .ensures, c .before .before .before .before .before .difference2 .ensures, c .before .before .before .before .before .before .before .before .difference .ensures)
 
 mul-a : tie.Need-mul-a
 mul-a c = search needs
@@ -17,103 +28,71 @@ mul-a c = search needs
 mul-b : tie.Need-mul-b
 mul-b c = search needs
 
-mul-wrapped : tie.Need-mul-wrapped
-mul-wrapped c = search needs
+array-read-difference : tie.Need-array-read-difference
+array-read-difference c = search needs
 
-shared-slice-read-wrapped : tie.Need-shared-slice-read-wrapped
-shared-slice-read-wrapped c = search needs
+mul-difference : tie.Need-mul-difference
+mul-difference c = search needs
 
-mul-wrapped-2 : tie.Need-mul-wrapped-2
-mul-wrapped-2 c = search needs
+shared-slice-read-difference : tie.Need-shared-slice-read-difference
+shared-slice-read-difference c = search needs
 
-shared-slice-read-wrapped-2 : tie.Need-shared-slice-read-wrapped-2
-shared-slice-read-wrapped-2 c = search needs
+mul-difference-2 : tie.Need-mul-difference-2
+mul-difference-2 c = search needs
 
-wrapped-requires : tie.Need-wrapped-requires
-wrapped-requires c κs = search needs
+shared-slice-read-difference-2 : tie.Need-shared-slice-read-difference-2
+shared-slice-read-difference-2 c = search needs
 
-add-wrapped : tie.Need-add-wrapped
-add-wrapped c = search needs
+difference-requires : tie.Need-difference-requires
+difference-requires c κs = search needs
 
-mul-wrapped-3 : tie.Need-mul-wrapped-3
-mul-wrapped-3 c = search needs
+array-read-difference-2 : tie.Need-array-read-difference-2
+array-read-difference-2 c = search needs
 
-shared-slice-read-wrapped-3 : tie.Need-shared-slice-read-wrapped-3
-shared-slice-read-wrapped-3 c = search needs
+add-difference : tie.Need-add-difference
+add-difference c = search needs
 
-add-wrapped-2 : tie.Need-add-wrapped-2
-add-wrapped-2 c = search needs
+mul-difference-3 : tie.Need-mul-difference-3
+mul-difference-3 c = search needs
 
-mul-wrapped-4 : tie.Need-mul-wrapped-4
-mul-wrapped-4 c = search needs
+shared-slice-read-difference-3 : tie.Need-shared-slice-read-difference-3
+shared-slice-read-difference-3 c = search needs
 
-shared-slice-read-wrapped-4 : tie.Need-shared-slice-read-wrapped-4
-shared-slice-read-wrapped-4 c = search needs
+add-difference-2 : tie.Need-add-difference-2
+add-difference-2 c = search needs
 
-wrapped-requires-2 : tie.Need-wrapped-requires-2
-wrapped-requires-2 c κs = search needs
+mul-difference-4 : tie.Need-mul-difference-4
+mul-difference-4 c = search needs
 
-add-wrapped-3 : tie.Need-add-wrapped-3
-add-wrapped-3 c = search needs
+shared-slice-read-difference-4 : tie.Need-shared-slice-read-difference-4
+shared-slice-read-difference-4 c = search needs
 
-mul-wrapped-5 : tie.Need-mul-wrapped-5
-mul-wrapped-5 c = search needs
+difference-requires-2 : tie.Need-difference-requires-2
+difference-requires-2 c κs = search needs
 
-shared-slice-read-wrapped-5 : tie.Need-shared-slice-read-wrapped-5
-shared-slice-read-wrapped-5 c = search needs
+array-read-difference-3 : tie.Need-array-read-difference-3
+array-read-difference-3 c = search needs
 
-add-wrapped-4 : tie.Need-add-wrapped-4
-add-wrapped-4 c = search needs
+add-difference-3 : tie.Need-add-difference-3
+add-difference-3 c = search needs
 
-mul-wrapped-6 : tie.Need-mul-wrapped-6
-mul-wrapped-6 c = search needs
+mul-difference-5 : tie.Need-mul-difference-5
+mul-difference-5 c = search needs
 
-shared-slice-read-wrapped-6 : tie.Need-shared-slice-read-wrapped-6
-shared-slice-read-wrapped-6 c = search needs
+shared-slice-read-difference-5 : tie.Need-shared-slice-read-difference-5
+shared-slice-read-difference-5 c = search needs
 
-wrapped-requires-3 : tie.Need-wrapped-requires-3
-wrapped-requires-3 c κs = search needs
+add-difference-4 : tie.Need-add-difference-4
+add-difference-4 c = search needs
 
-short-requires : tie.Need-short-requires
-short-requires c κs =
-    let w3 = c .before in
-    let w2 = w3 .before .before .before in
-    let w1 = w2 .before .before .before in
-    let f = w1 .before .before .before .before .before .pre .2 in
-    (f .reaches, f .early-is, (subst Rest (sym (w1 .wrapped .ensures)) (wrapped-rest _ _), subst Rest (sym (w2 .wrapped2 .ensures)) (wrapped-rest _ _), subst Rest (sym (w3 .wrapped3 .ensures)) (wrapped-rest _ _)))
+mul-difference-6 : tie.Need-mul-difference-6
+mul-difference-6 c = search needs
 
-returns : tie.Need-returns
-unfolding distance distance2
-returns c =
-    let w3 = c .before .before in
-    let w2 = w3 .before .before .before in
-    let w1 = w2 .before .before .before in
-    rw (add-zero, add-zero, c .short .ensures, w3 .wrapped3 .ensures, w2 .wrapped2 .ensures, w1 .wrapped .ensures)
+shared-slice-read-difference-6 : tie.Need-shared-slice-read-difference-6
+shared-slice-read-difference-6 c = search needs
+
+difference-requires-3 : tie.Need-difference-requires-3
+difference-requires-3 c κs = search needs
 
 pub distance-of-spec : {M : Type 1} → statement M
-distance-of-spec =
-    tie.close
-    (tie.spec
-    mul-a
-    mul-b
-    mul-wrapped
-    shared-slice-read-wrapped
-    mul-wrapped-2
-    shared-slice-read-wrapped-2
-    wrapped-requires
-    add-wrapped
-    mul-wrapped-3
-    shared-slice-read-wrapped-3
-    add-wrapped-2
-    mul-wrapped-4
-    shared-slice-read-wrapped-4
-    wrapped-requires-2
-    add-wrapped-3
-    mul-wrapped-5
-    shared-slice-read-wrapped-5
-    add-wrapped-4
-    mul-wrapped-6
-    shared-slice-read-wrapped-6
-    wrapped-requires-3
-    short-requires
-    returns)
+distance-of-spec = tie.close (tie.spec mul-a mul-b array-read-difference mul-difference shared-slice-read-difference mul-difference-2 shared-slice-read-difference-2 difference-requires array-read-difference-2 add-difference mul-difference-3 shared-slice-read-difference-3 add-difference-2 mul-difference-4 shared-slice-read-difference-4 difference-requires-2 array-read-difference-3 add-difference-3 mul-difference-5 shared-slice-read-difference-5 add-difference-4 mul-difference-6 shared-slice-read-difference-6 difference-requires-3 short-requires returns)
