@@ -1,15 +1,16 @@
 /*
- * The dispatch desk's roll: lists one, begins one, appends to one.
+ * The dispatch desk's roll: lists one, begins one, appends to one, retires a set everywhere.
  *   roll list FILE
  *   roll list FILE SET
  *   roll new FILE
  *   roll append FILE delivery SET [LABEL]
  *   roll append FILE replacement SET EARLIER [LABEL]
  *   roll append FILE retirement SET [LABEL]
+ *   roll retire FILE SET
  * A roll is replaced as a whole: the new bytes are written to a file beside it, which then takes its name, so that nobody ever finds
  * half a roll. A file that is not a roll is named and left alone. Two desks that append at the same time wait for each other.
- * With a set number the list says which set stands now for it.
- * Exit status: 0 done, 7, 8 and 9 as the library refuses, 1 everything else.
+ * With a set number the list says which set stands now for it. The button shows what it would append, and asks first.
+ * Exit status: 0 done, 7, 8, 9 and 11 as the library refuses, 1 everything else.
  */
 #include "gullyfork.h"
 
@@ -39,7 +40,8 @@ static int usage(void)
           "       roll new FILE\n"
           "       roll append FILE delivery SET [LABEL]\n"
           "       roll append FILE replacement SET EARLIER [LABEL]\n"
-          "       roll append FILE retirement SET [LABEL]\n", stderr);
+          "       roll append FILE retirement SET [LABEL]\n"
+          "       roll retire FILE SET\n", stderr);
     return 1;
 }
 
@@ -47,6 +49,19 @@ static int not_a_roll(const char *path)
 {
     fprintf(stderr, "roll: %s: not a roll (refusal 7); left as it is\n", path);
     return 7;
+}
+
+static int not_lawful(const char *path)
+{
+    fprintf(stderr, "roll: %s: the records do not agree (refusal 9): one delivers a set that was delivered before, replaces or retires a"
+            " set that was not, or replaces one a second time\n", path);
+    return 9;
+}
+
+static int full(const char *path)
+{
+    fprintf(stderr, "roll: %s: full (refusal 8): a roll has at most 1,000 records and 65,536 bytes; left as it is\n", path);
+    return 8;
 }
 
 /* all bytes of the file, at most one more than a roll has */
@@ -128,11 +143,8 @@ static int ask(const char *path, uint32_t set)
     uint8_t answer = gf_stands_now(bytes, sizeof bytes, n, set, use_set, 1);
     if (answer == GF_NOT_A_ROLL)
         return not_a_roll(path);
-    if (answer == GF_NOT_LAWFUL) {
-        fprintf(stderr, "roll: %s: the records do not agree (refusal 9): one delivers a set that was delivered before, replaces or retires a"
-                " set that was not, or replaces one a second time\n", path);
-        return answer;
-    }
+    if (answer == GF_NOT_LAWFUL)
+        return not_lawful(path);
     printf("%" PRIu32 ": ", set);
     if (answer == GF_SET_UNKNOWN)
         puts("unknown");
@@ -171,6 +183,18 @@ static void write_beside(const char *path, mode_t mode, const uint8_t *bytes, si
     }
 }
 
+/* the new roll takes the place of the old one */
+static void put_in_place(const char *path, mode_t mode, const uint8_t *bytes, size_t n)
+{
+    static char name[4096];
+    write_beside(path, mode, bytes, n, name, sizeof name);
+    if (rename(name, path) != 0) {
+        int why = errno;
+        unlink(name);
+        fail(path, strerror(why));
+    }
+}
+
 static int begin(const char *path)
 {
     static const uint8_t empty[8];
@@ -202,7 +226,7 @@ static int open_alone(const char *path, struct stat *is)
 static int append(const char *named, uint8_t kind, uint32_t set, uint32_t earlier, const char *label)
 {
     static uint8_t bytes[MOST + 1];
-    static char path[4096], name[4096];
+    static char path[4096];
     struct stat is;
     if (!realpath(named, path)) /* where a link points to */
         fail(named, strerror(errno));
@@ -215,16 +239,74 @@ static int append(const char *named, uint8_t kind, uint32_t set, uint32_t earlie
         fprintf(stderr, "roll: %s: the record breaks the rules (refusal 7): set numbers start at 1, a replacement names an earlier set,"
                 " a label has at most 255 bytes; left as it is\n", named);
     else if (answer == GF_NO_ROOM)
-        fprintf(stderr, "roll: %s: full (refusal 8): a roll has at most 1,000 records and 65,536 bytes; left as it is\n", named);
+        full(named);
     if (answer != GF_DONE)
         return answer;
-    write_beside(path, is.st_mode & 07777, bytes, count[0], name, sizeof name);
-    if (rename(name, path) != 0) {
-        int why = errno;
-        unlink(name);
-        fail(named, strerror(why));
-    }
+    put_in_place(path, is.st_mode & 07777, bytes, count[0]);
     close(fd);
+    return 0;
+}
+
+/* ---- the button */
+
+/* the roll with the retirements; how many bytes it has then, or what is said where there is none */
+static int press(const char *named, uint8_t *bytes, size_t n, uint32_t set, size_t *count)
+{
+    uint8_t answer = gf_retire_all(bytes, MOST + 1, n, set, count, 1);
+    if (answer == GF_NOT_A_ROLL)
+        return not_a_roll(named);
+    if (answer == GF_NOT_LAWFUL)
+        return not_lawful(named);
+    if (answer == GF_NO_ROOM)
+        return full(named);
+    if (answer == GF_UNKNOWN_SET)
+        fprintf(stderr, "roll: %s: set %" PRIu32 " was never delivered (refusal 11)\n", named, set);
+    return answer;
+}
+
+/* shows the retirements that stand at the end of the new roll, and asks */
+static int agreed(const char *named, const uint8_t *bytes, size_t n, size_t more)
+{
+    size_t at = 0, slots[6], records = 0, old = 0;
+    while (gf_read_roll(bytes, MOST + 1, n, at, slots, 6) == GF_DONE)
+        records++, at = slots[5];
+    printf("%s: %zu retirement%s to append:", named, more, more == 1 ? "" : "s");
+    for (at = 0; gf_read_roll(bytes, MOST + 1, n, at, slots, 6) == GF_DONE; at = slots[5])
+        if (old++ >= records - more)
+            printf(" %zu", slots[1]);
+    printf("\nappend? [y/N] ");
+    fflush(stdout);
+    int first = getchar();
+    return first == 'y' || first == 'Y';
+}
+
+/* nobody waits for the answer: the file is taken alone after it, and has to be the one that was shown */
+static int retire(const char *named, uint32_t set)
+{
+    static uint8_t seen[MOST + 1], now[MOST + 1], bytes[MOST + 1];
+    static char path[4096];
+    struct stat is;
+    size_t n = read_file(named, seen), count[1];
+    memcpy(bytes, seen, sizeof bytes);
+    int answer = press(named, bytes, n, set, count);
+    if (answer != GF_DONE)
+        return answer;
+    if (count[0] == n) {
+        printf("%s: every set linked to %" PRIu32 " has its retirement; nothing to append\n", named, set);
+        return told();
+    }
+    if (!agreed(named, bytes, count[0], (count[0] - n) / 14)) {
+        puts("left as it is");
+        return 1;
+    }
+    if (!realpath(named, path))
+        fail(named, strerror(errno));
+    int fd = open_alone(path, &is);
+    if (read_bytes(fd, named, now) != n || memcmp(now, seen, n) != 0)
+        fail(named, "changed meanwhile; left as it is");
+    put_in_place(path, is.st_mode & 07777, bytes, count[0]);
+    close(fd);
+    puts("appended");
     return 0;
 }
 
@@ -244,6 +326,8 @@ int main(int argc, char **argv)
         return list(argv[2]);
     if (argc == 4 && strcmp(argv[1], "list") == 0)
         return ask(argv[2], number(argv[3]));
+    if (argc == 4 && strcmp(argv[1], "retire") == 0)
+        return retire(argv[2], number(argv[3]));
     if (argc == 3 && strcmp(argv[1], "new") == 0)
         return begin(argv[2]);
     if (argc < 5 || strcmp(argv[1], "append") != 0)

@@ -17,7 +17,7 @@
  * ANSWERS
  *   Every call but gf_nint, gf_round and gf_sqrt takes every input and answers with a number. 0 says that its work is done. The six
  *   refusals, 1 to 6, are tried in the order of their numbers: all counts before any length, all lengths before any entry, and so on;
- *   the first that applies is answered. The calls on a roll have three more: 7 is looked at before all others, 8 and 9 after them; and
+ *   the first that applies is answered. The calls on a roll have four more: 7 is looked at before all others, then 9, 11 and 8; and
  *   gf_replace_block_fc2 has 10, after 3. A refused call has written nothing: every slice is as it was. gf_is_roll answers with true or
  *   false.
  *   Limits, beyond which a count is refused: 1,024 atoms at second order and in matching, 256 at third, 64 at fourth, and the same
@@ -90,6 +90,7 @@ extern "C" {
     ANSWER(GF_NO_ROOM, 8, "the roll would pass 1,000 records, 65,536 bytes or the lent slice") \
     ANSWER(GF_NOT_LAWFUL, 9, "a record delivers a set again, names one not delivered before it, or replaces one a second time") \
     ANSWER(GF_OFF_GRID, 10, "a number of the old block or of the new one is off the grid") \
+    ANSWER(GF_UNKNOWN_SET, 11, "the set to retire was never delivered") \
     ANSWER(GF_NOT_MATCHED, 64, "some slot is left free") \
     ANSWER(GF_DRIFT_STILL, 65, "all sums are zero") \
     ANSWER(GF_DRIFT_WORST, 66, "the worst sum is named") \
@@ -590,6 +591,17 @@ uint8_t gf_append_roll(
  * delivered by an earlier record, or replaces one already replaced, whichever set was asked for).
  */
 uint8_t gf_stands_now(const uint8_t *lent, size_t lent_len, size_t count, uint32_t set, size_t *use_set, size_t use_set_len);
+
+/*
+ * Retires a set everywhere: appends a retirement with an empty label for the set and for every set that is linked to it by replacements,
+ * earlier or later, and has no retirement of its own, by rising set number. new_count[0] is how many bytes the roll has then; the same as
+ * before where every one of them has its retirement. Each retirement takes 14 bytes.
+ *   lent       count or more; the roll grows into it, the bytes after it stay
+ *   new_count  1
+ * Refusals: 7 (no roll), then 2 (new_count), then 9 (as gf_stands_now), then 11 (the set was never delivered), then 8 (the retirements do
+ * not all fit). On each of them no byte is written.
+ */
+uint8_t gf_retire_all(uint8_t *lent, size_t lent_len, size_t count, uint32_t set, size_t *new_count, size_t new_count_len);
 
 #ifdef __cplusplus
 }

@@ -185,6 +185,41 @@ static void standing(size_t size, size_t chains, const char *how)
     printf("| %zu | %s | %.2f | %.2f | %.1f |\n", size, how, c, now, now / c);
 }
 
+/* ---- a set retired everywhere */
+
+static uint64_t press(const uint8_t *b, size_t n)
+{
+    size_t count[1] = {0};
+    (void)b;
+    return gf_retire_all(lent, MOST, n, 1, count, 1) == GF_DONE ? count[0] : 0;
+}
+
+/* the same retirements by the appender, one after the other; as many as there are records */
+static uint64_t one_by_one(const uint8_t *b, size_t n)
+{
+    size_t count[1] = {n}, many = four(b + n - 8);
+    for (size_t i = 0; i < many; i++)
+        if (gf_append_roll(lent, MOST, count[0], 3, (uint32_t)i + 1, 0, b, 0, count, 1) != GF_DONE)
+            return 0;
+    return count[0];
+}
+
+/* one chain of half the records: the button adds the other half */
+static void retiring(size_t size)
+{
+    size_t n = 8;
+    memset(lent, 0, sizeof lent);
+    for (uint32_t i = 1; i <= size / 2; i++)
+        n = grow(n, i, i - 1);
+    memcpy(copy, lent, sizeof copy);
+    uint64_t all = press(lent, n);
+    memcpy(lent, copy, sizeof copy);
+    if (all == 0 || all != one_by_one(lent, n))
+        exit(1);
+    double each = least(one_by_one, n, 50), button = least(press, n, 50);
+    printf("| %zu | %zu | %.2f | %.2f | %.1f |\n", size / 2, size / 2, each, button, button / each);
+}
+
 int main(void)
 {
     static const size_t sizes[] = {10, 100, 1000};
@@ -199,5 +234,9 @@ int main(void)
         standing(sizes[k], 5, "five");
         standing(sizes[k], 1, "one");
     }
+    puts("\n| records, one chain | retirements added | the same by gf_append_roll | gf_retire_all | ratio |");
+    puts("|---|---|---|---|---|");
+    for (int k = 0; k < 3; k++)
+        retiring(sizes[k]);
     return 0;
 }

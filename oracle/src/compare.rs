@@ -7,7 +7,7 @@ use crate::tally::Tally;
 use crate::{compare_common, compare_lists, compare_roll, compare_row_sums, compare_true, makers, port};
 
 /// Every public call, the lists of transposes, the read-outs of the true ones, the lists of swaps, whole rolls and series of edits, in the order in which they are compared.
-pub const CALLS: [&str; 37] = [
+pub const CALLS: [&str; 38] = [
     "nint",
     "round",
     "sqrt",
@@ -45,6 +45,7 @@ pub const CALLS: [&str; 37] = [
     "replace_block_fc2",
     "series of edits",
     "stands_now",
+    "retire_all",
 ];
 
 /// Of nint, round and sqrt so many patterns are tried for each call of the others.
@@ -90,6 +91,7 @@ fn run(tally: &mut Tally, r: &mut Rng, count: u64) {
         "replace_block_fc2" => compare_row_sums::run(tally, r, count, compare_row_sums::Name::ReplaceBlock),
         "series of edits" => compare_row_sums::series(tally, r, count),
         "stands_now" => compare_roll::run(tally, r, count, compare_roll::Name::StandsNow),
+        "retire_all" => compare_roll::run(tally, r, count, compare_roll::Name::RetireAll),
         _ => compare_lists::same_order(tally, r, count),
     }
 }

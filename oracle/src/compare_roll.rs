@@ -1,7 +1,7 @@
 //! The calls on a delivery roll, by their C names, beside the model in roll.rs. The slots and their order after 7 and before 8 are
 //! include/gullyfork.h's.
 use crate::rng::Rng;
-use crate::roll::{appended, held, roll_of, standing, Record, Standing, NOT_A_ROLL};
+use crate::roll::{appended, held, retired, roll_of, standing, Record, Standing, NOT_A_ROLL};
 use crate::tally::Tally;
 use crate::{c_names, values};
 
@@ -16,6 +16,7 @@ pub enum Name {
     ReadRoll,
     AppendRoll,
     StandsNow,
+    RetireAll,
 }
 
 /// A call with all that it is lent. `at` is the position of a read, `record` the record to add, its set number the set asked for.
@@ -37,6 +38,22 @@ impl Asked {
             Name::ReadRoll => self.model_read(),
             Name::AppendRoll => self.model_append(),
             Name::StandsNow => self.model_standing(),
+            Name::RetireAll => self.model_retire(),
+        }
+    }
+
+    fn model_retire(&mut self) -> u8 {
+        let answer = retired(&self.lent, self.count, self.record.set);
+        if self.slots.len() != 1 && answer != Err(NOT_A_ROLL) {
+            return WRONG_LENGTH;
+        }
+        match answer {
+            Err(number) => number,
+            Ok(bytes) => {
+                self.lent[..bytes.len()].copy_from_slice(&bytes);
+                self.slots[0] = bytes.len();
+                0
+            }
         }
     }
 
@@ -100,6 +117,7 @@ impl Asked {
                     slots.as_mut_ptr(), slots.len(),
                 ),
                 Name::StandsNow => c_names::gf_stands_now(lent.as_ptr(), lent.len(), *count, *set, slots.as_mut_ptr(), slots.len()),
+                Name::RetireAll => c_names::gf_retire_all(lent.as_mut_ptr(), lent.len(), *count, *set, slots.as_mut_ptr(), slots.len()),
             }
         }
     }
@@ -237,7 +255,8 @@ fn asked_for(r: &mut Rng, story: &[Record]) -> u32 {
 }
 
 pub fn make(r: &mut Rng, name: Name) -> Asked {
-    let story = if name == Name::StandsNow { history(r) } else { vec![] };
+    let asks = name == Name::StandsNow || name == Name::RetireAll;
+    let story = if asks { history(r) } else { vec![] };
     let mut bytes = if r.below(400) == 0 {
         at_a_limit(r)
     } else if !story.is_empty() {
@@ -248,18 +267,19 @@ pub fn make(r: &mut Rng, name: Name) -> Asked {
     };
     (0..[0, 0, 0, 1, 2][r.below(5)]).for_each(|_| if !bytes.is_empty() { damage(r, &mut bytes) });
     let mut record = any(r);
-    if name == Name::StandsNow {
+    if asks {
         record.set = asked_for(r, &story);
     }
     let (n, needs) = (bytes.len(), 14 + record.label.len());
     let spare = [needs, needs, needs + r.below(30), needs.saturating_sub(1), r.below(needs + 1), 0][r.below(6)];
+    let spare = if name == Name::RetireAll { spare + 14 * r.below(6) } else { spare };
     bytes.extend((0..spare).map(|_| r.bits() as u8));
     let count = match r.below(12) {
         0 => r.below(bytes.len() + 3),
         1 => [n.saturating_sub(1), n + 1, usize::MAX, 0][r.below(4)],
         _ => n,
     };
-    let fit = if name == Name::AppendRoll || name == Name::StandsNow { 1 } else { 6 };
+    let fit = if name == Name::AppendRoll || asks { 1 } else { 6 };
     let slots = vec![9; if r.below(16) == 0 { r.below(8) } else { fit }];
     let at = position(r, &bytes, count);
     Asked { name, lent: bytes, count, at, record, slots }

@@ -41,6 +41,7 @@ mod matching;
 mod memory;
 mod port;
 mod record;
+mod retire_records;
 mod rng;
 mod roll;
 mod roll_records;
@@ -58,7 +59,7 @@ mod wild;
 #[global_allocator]
 static HEAP: memory::Counting = memory::Counting;
 
-const USAGE: &str = "oracle record common|shifts|matching|second|compact|third|fourth|true|distribute|deltas|roll|row_sums|finding FOLDER
+const USAGE: &str = "oracle record common|shifts|matching|second|compact|third|fourth|true|distribute|deltas|roll|retire|row_sums|finding FOLDER
 oracle flip PROGRAM FOLDER COUNT
 oracle compare all|limits|CALL [SEED [COUNT]]
 oracle bench all|common|cells|fc2|fc3|fc4|tables|transposes|swaps|drift|finding [SECONDS]";
@@ -80,6 +81,7 @@ fn record(name: &str, folder: &Path) -> Outcome {
         "distribute" => slab_records::distribute(),
         "deltas" => slab_records::deltas(),
         "roll" => roll_records::replay(),
+        "retire" => retire_records::replay(),
         "row_sums" => row_sums_records::replay(),
         "finding" => finding_records::replay(),
         _ => return None,

@@ -1,5 +1,5 @@
-//! A delivery roll by the sentences of document 02, A.7 and A.8, as plain Rust: nothing here is taken from the port.
-use std::collections::HashMap;
+//! A delivery roll by the sentences of document 02, A.7, A.8 and A.12, as plain Rust: nothing here is taken from the port.
+use std::collections::{BTreeSet, HashMap};
 
 /// A record: kind 1 delivery, 2 replacement, 3 retirement.
 #[derive(Clone, Debug, PartialEq)]
@@ -21,6 +21,7 @@ pub const MOST_BYTES: usize = 65536;
 pub const NOT_A_ROLL: u8 = 7;
 pub const NO_ROOM: u8 = 8;
 pub const NOT_LAWFUL: u8 = 9;
+pub const UNKNOWN_SET: u8 = 11;
 
 impl Record {
     /// Set numbers start at 1; the earlier number is zero except for kind 2, where it is not; the label's length is one byte.
@@ -158,6 +159,39 @@ pub fn standing(lent: &[u8], count: usize, set: u32) -> Result<Standing, u8> {
     register(&records).map(|register| ask(&register, set)).ok_or(NOT_LAWFUL)
 }
 
+/// The set and every set linked to it by replacements, earlier or later, by rising number: whatever replaced one of them or was replaced by
+/// one of them joins, until none is left to join.
+fn line(register: &HashMap<u32, Noted>, set: u32) -> BTreeSet<u32> {
+    let mut line = BTreeSet::from([set]);
+    loop {
+        let joins = |(from, noted): (&u32, &Noted)| noted.replaced_by.filter(|to| line.contains(from) != line.contains(to)).map(|to| [*from, to]);
+        let more: Vec<u32> = register.iter().filter_map(joins).flatten().collect();
+        if more.is_empty() {
+            return line;
+        }
+        line.extend(more);
+    }
+}
+
+/// The first bytes of the slice with the retirements added, or the number of the refusal: 7, 9, 11, 8.
+pub fn retired(lent: &[u8], count: usize, set: u32) -> Result<Vec<u8>, u8> {
+    let roll = held(lent, count).ok_or(NOT_A_ROLL)?;
+    let records: Vec<Record> = roll.records.into_iter().map(|(_, record)| record).collect();
+    let register = register(&records).ok_or(NOT_LAWFUL)?;
+    if !register.contains_key(&set) {
+        return Err(UNKNOWN_SET);
+    }
+    let mut after = lent.to_vec();
+    let mut count = count;
+    for set in line(&register, set).into_iter().filter(|set| !register[set].retired) {
+        let bytes = appended(&after, count, Record { kind: 3, set, earlier: 0, label: vec![] })?;
+        count = bytes.len();
+        after[..count].copy_from_slice(&bytes);
+    }
+    after.truncate(count);
+    Ok(after)
+}
+
 #[cfg(test)]
 mod tests {
     use super::*;
@@ -194,6 +228,26 @@ mod tests {
             assert_eq!(says(&[&chain[..], &[last]].concat(), 9), Err(NOT_LAWFUL));
         }
         assert_eq!(standing(&[0; 7], 7, 1), Err(NOT_A_ROLL));
+    }
+
+    #[test]
+    fn retirements() {
+        let record = |kind, set, earlier| Record { kind, set, earlier, label: vec![] };
+        let made = |records: &[Record]| roll_of(records, &(0..records.len()).collect::<Vec<_>>());
+        let history = [record(1, 7, 0), record(2, 9, 7), record(1, 3, 0), record(2, 5, 9), record(3, 9, 0)];
+        let pressed = |records: &[Record], set, spare: usize| {
+            let bytes = made(records);
+            retired(&[bytes.clone(), vec![0; spare]].concat(), bytes.len(), set)
+        };
+        let all = [&history[..], &[record(3, 5, 0), record(3, 7, 0)]].concat();
+        for set in [5, 7, 9] {
+            assert_eq!(pressed(&history, set, 28), Ok(made(&all)));
+            assert_eq!(pressed(&history, set, 27), Err(NO_ROOM));
+            assert_eq!(pressed(&all, set, 0), Ok(made(&all)));
+        }
+        assert_eq!(pressed(&history, 3, 14), Ok(made(&[&history[..], &[record(3, 3, 0)]].concat())));
+        assert_eq!(pressed(&history, 4, 0), Err(UNKNOWN_SET));
+        assert_eq!(pressed(&[record(1, 1, 0), record(1, 1, 0)], 4, 0), Err(NOT_LAWFUL));
     }
 
     #[test]

@@ -618,6 +618,25 @@ static void stands_now(void) {
     CHECK(gf_stands_now(S(lent), count[0], 57, set, 2) == GF_WRONG_LENGTH);     /* 2 before 9 */
 }
 
+static void retire_all(void) {
+    uint8_t lent[8 + 14 * 5] = {0}, before[sizeof lent] = {0};
+    size_t count[] = {8};
+    const uint8_t *label = before;
+    CHECK(gf_append_roll(S(lent), count[0], 1, 41, 0, label, 0, S(count)) == GF_DONE);
+    CHECK(gf_append_roll(S(lent), count[0], 2, 7, 41, label, 0, S(count)) == GF_DONE);
+    memcpy(before, lent, sizeof lent);
+    CHECK(gf_retire_all(S(lent), count[0], 8, S(count)) == GF_UNKNOWN_SET && count[0] == 36);
+    CHECK(gf_retire_all(lent, 63, 36, 41, S(count)) == GF_NO_ROOM);      /* one of two would fit */
+    CHECK(gf_retire_all(lent, 63, 36, 41, count, 0) == GF_WRONG_LENGTH); /* 2 before 8 */
+    CHECK(gf_retire_all(S(lent), 35, 41, count, 0) == GF_NOT_A_ROLL);    /* 7 before 2 */
+    CHECK(memcmp(lent, before, sizeof lent) == 0);
+    CHECK(gf_retire_all(S(lent), 36, 7, S(count)) == GF_DONE && count[0] == 64);
+    CHECK(lent[20] == 3 && lent[21] == 7 && lent[29] == 0 && lent[30] == 3 && lent[31] == 41); /* rising, empty labels */
+    CHECK(gf_retire_all(lent, 64, 64, 41, S(count)) == GF_DONE && count[0] == 64);             /* nothing left to add */
+    CHECK(gf_append_roll(S(lent), 64, 1, 7, 0, label, 0, S(count)) == GF_DONE);
+    CHECK(gf_retire_all(S(lent), count[0], 8, S(count)) == GF_NOT_LAWFUL); /* 9 before 11 */
+}
+
 int main(void) {
     about();
     rounding();
@@ -640,6 +659,7 @@ int main(void) {
     append_roll();
     read_roll();
     stands_now();
+    retire_all();
     printf("%d of %d hold\n", checks - failures, checks);
     return failures != 0;
 }

@@ -336,6 +336,23 @@ class Roll(unittest.TestCase):
             gf.stands_now(roll[:-1], 7)
         self.assertEqual(caught.exception.number, 7)
 
+    def test_a_set_retired_everywhere(self):
+        kind, state = gf.roll.Kind, gf.roll.State
+        roll = gf.roll.EMPTY
+        for record in ((kind.DELIVERY, 7), (kind.REPLACEMENT, 5, 7), (kind.DELIVERY, 6), (kind.REPLACEMENT, 9, 5), (kind.RETIREMENT, 5)):
+            roll = gf.roll.appended(roll, *record)
+        for number in (5, 7, 9):
+            new = gf.roll.retired(roll, number)
+            self.assertEqual([tuple(r)[:4] for r in gf.roll.records(new)][5:], [(kind.RETIREMENT, 7, 0, b""), (kind.RETIREMENT, 9, 0, b"")])
+            self.assertEqual([gf.stands_now(new, k).state for k in (5, 6, 7, 9)], [state.RETIRED, state.CURRENT, state.RETIRED, state.RETIRED])
+            self.assertEqual(gf.roll.retired(new, number), new)
+        lent = np.frombuffer(roll + bytes(27), np.uint8).copy()
+        for values, number in (((len(roll), 7), 8), ((len(roll), 4), 11), ((len(roll) - 1, 7), 7)):
+            with self.assertRaises(gf.Refused) as caught:
+                gf.retire_all(lent, *values)
+            self.assertEqual(caught.exception.number, number)
+            self.assertEqual(lent.tobytes(), roll + bytes(27))
+
 
 class Threads(unittest.TestCase):
     def test_disjoint_sets(self):

@@ -352,6 +352,19 @@ class Records(unittest.TestCase):
             done += 1
         self.least(done, passed, 700)
 
+    def test_retired_everywhere(self):
+        done = passed = 0
+        for r in map(Words, records("retire")):
+            number, of_lent, slot, other, count, set, slots, length = r.ints(8)
+            lent = r.take(-(-length // 8)).view(np.uint8)[:length].copy()
+            if slots != 1:
+                passed += 1
+                continue
+            got, new = answer(lambda: gf.retire_all(lent, count, set))
+            self.assertEqual((got, checksum(lent), 9 if new is None else new, 9), (number, of_lent, slot, other))
+            done += 1
+        self.least(done, passed, 300)
+
     def test_row_sums(self):
         done = passed = 0
         for r in map(Words, records("row_sums")):

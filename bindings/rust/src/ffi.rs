@@ -366,4 +366,5 @@ extern "C" {
         new_count_len: usize,
     ) -> u8;
     pub fn gf_stands_now(lent: *const u8, lent_len: usize, count: usize, set: u32, use_set: *mut usize, use_set_len: usize) -> u8;
+    pub fn gf_retire_all(lent: *mut u8, lent_len: usize, count: usize, set: u32, new_count: *mut usize, new_count_len: usize) -> u8;
 }

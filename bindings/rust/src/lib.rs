@@ -64,10 +64,12 @@ pub enum Refusal {
     NotLawful = 9,
     /// A number of the old block or of the new one is off the grid.
     OffGrid = 10,
+    /// The set to retire was never delivered.
+    UnknownSet = 11,
 }
 
 impl Refusal {
-    /// The number of the refusal, 1 to 10.
+    /// The number of the refusal, 1 to 11.
     pub fn number(self) -> u8 {
         self as u8
     }
@@ -110,7 +112,8 @@ fn answer(number: u8) -> Result<(), Refusal> {
         8 => Refusal::NoRoom,
         9 => Refusal::NotLawful,
         10 => Refusal::OffGrid,
-        _ => unreachable!("the library answers with 0 to 10 here, not with {number}"),
+        11 => Refusal::UnknownSet,
+        _ => unreachable!("the library answers with 0 to 11 here, not with {number}"),
     })
 }
 
@@ -132,7 +135,7 @@ fn rows(length: usize, row: usize) -> usize {
 mod tests {
     use super::*;
 
-    const NUMBERS: [u8; 10] = [1, 2, 3, 4, 5, 6, 7, 8, 9, 10];
+    const NUMBERS: [u8; 11] = [1, 2, 3, 4, 5, 6, 7, 8, 9, 10, 11];
 
     #[test]
     fn numbers_come_back() {

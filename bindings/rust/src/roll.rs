@@ -94,3 +94,12 @@ pub fn stands_now(lent: &[u8], count: usize, set: u32) -> Result<Standing, Refus
         number => answer(number).map(|()| Standing::Current(use_set[0] as u32)),
     }
 }
+
+/// Retires `set` and every set linked to it by replacements, earlier or later, by the roll in the first `count` bytes, which grows inside
+/// the slice, and gives its new count. On a refusal no byte is written.
+pub fn retire_all(lent: &mut [u8], count: usize, set: u32) -> Result<usize, Refusal> {
+    let mut new_count = [0];
+    answer(call!(gf_retire_all(&mut lent, count, set, &mut new_count)))?;
+    let [long] = new_count;
+    Ok(long)
+}

@@ -180,4 +180,20 @@ fn which_set_stands_now() {
     assert_eq!(roll::stands_now(&file, retired, 7), Ok(roll::Standing::Retired));
     let twice = add(&mut file, roll::DELIVERY, 7, 0);
     assert_eq!(roll::stands_now(&file, twice, 57), Err(Refusal::NotLawful));
+    assert_eq!(roll::retire_all(&mut file, twice, 57), Err(Refusal::NotLawful));
+}
+
+#[test]
+fn a_set_retired_everywhere() {
+    let mut file = vec![0u8; 8 + 14 * 4];
+    let mut count = roll::append(&mut file, 8, roll::DELIVERY, 7, 0, b"").unwrap();
+    count = roll::append(&mut file, count, roll::REPLACEMENT, 5, 7, b"").unwrap();
+    let before = file.clone();
+    assert_eq!(roll::retire_all(&mut file, count, 6), Err(Refusal::UnknownSet));
+    assert_eq!(roll::retire_all(&mut file[..count + 27], count, 7), Err(Refusal::NoRoom));
+    assert_eq!(file, before);
+    count = roll::retire_all(&mut file, count, 7).unwrap();
+    assert_eq!(roll::retire_all(&mut file, count, 5), Ok(count));
+    let records: Vec<_> = roll::records(&file, count).map(|r| r.unwrap()).collect();
+    assert_eq!(records[2..].iter().map(|r| (r.kind, r.set, r.label.len())).collect::<Vec<_>>(), [(roll::RETIREMENT, 5, 0), (roll::RETIREMENT, 7, 0)]);
 }

@@ -1,5 +1,5 @@
--- What the C names of a delivery roll answer and leave (document 02, A.7 and A.8), on every input. A slot of a wrong length is refusal 2,
--- which comes after 7 and before 8 and 9. Assumes nothing.
+-- What the C names of a delivery roll answer and leave (document 02, A.7, A.8 and A.12), on every input. A slot of a wrong length is refusal 2,
+-- which comes after 7 and before all others. Assumes nothing.
 use mathlib.Core.Bool.{Bool, cond}
 use mathlib.Core.List.{List, [], _∷_}
 use Prim.Native.Nat.{ℕ, _+_}
@@ -7,7 +7,7 @@ use lib.Dec.{eqb}
 use lib.ListN.{length}
 use Rattle.tables.specs.Answers.{refusalNumber}
 use Rattle.roll.specs.Format.{Entry}
-use Rattle.roll.specs.Reading.{rollBytes}
+use Rattle.roll.specs.Reading.{rollBytes, holdsRoll}
 use Rattle.roll_read.specs.Calls.{itemNumber, readAt, labelAt, pastAt}
 use Rattle.roll_read.specs.declared.Item.{Item}
 use Rattle.roll_read.specs.declared.Item.the-variants.{Record, End, Refused}
@@ -15,6 +15,7 @@ use Rattle.roll_append.specs.Calls.{numberOfAppended, judgedAppend, appended}
 use Rattle.roll_append.specs.declared.Appended.{Appended}
 use Rattle.roll_append.specs.declared.Appended.the-variants.{Count, Refused as RefusedBy}
 use Rattle.standing.specs.Register.{standingNumber, standsNow}
+use Rattle.retire.specs.Press.{pressed}
 use Rattle.standing.specs.declared.Standing.{Standing}
 use Rattle.standing.specs.declared.Standing.the-variants.{Unknown, Retired, Current, Refused as NotSaid}
 
@@ -63,3 +64,9 @@ unfoldable pub setNow : List ℕ → ℕ → ℕ → List ℕ → ℕ × List �
 setNow s count x slot =
     let a = standsNow (rollBytes s count) x in
     cond (eqb (length slot) 1) (named a slot) (sevenOrTwo (standingNumber a), slot)
+
+unfoldable pub retireAll : List ℕ → ℕ → ℕ → List ℕ → ℕ × List ℕ × List ℕ
+retireAll s count x slot =
+    let (a, left) = pressed s count x in
+    let (number, new) = reported a slot in
+    cond (eqb (length slot) 1) (number, left, new) (cond (holdsRoll s count) 2 7, s, slot)

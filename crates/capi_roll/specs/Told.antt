@@ -12,7 +12,7 @@ use Rattle.tables.specs.declared.Refusal.{Refusal}
 use Rattle.tables.specs.declared.Refusal.the-variants.{NotARoll}
 use Rattle.tables.specs.Answers.{refusalNumber}
 use Rattle.roll.specs.Format.{Entry}
-use Rattle.roll.specs.Reading.{isRoll, trailerAt, entryAt, rollBytes}
+use Rattle.roll.specs.Reading.{isRoll, trailerAt, entryAt, rollBytes, holdsRoll}
 use Rattle.roll_read.specs.Calls.{itemNumber, readEntry, holdsRecord, readAt, labelAt, pastAt}
 use Rattle.roll_read.specs.Steps.{record-label, record-room, goes-on}
 use Rattle.roll_read.specs.declared.Item.{Item}
@@ -21,9 +21,10 @@ use Rattle.roll_append.specs.Calls.{numberOfAppended, judgedAppend, appended}
 use Rattle.roll_append.specs.declared.Appended.{Appended}
 use Rattle.roll_append.specs.declared.Appended.the-variants.{Count, Refused as RefusedBy}
 use Rattle.standing.specs.Register.{standingNumber, standsNow}
+use Rattle.retire.specs.Press.{pressed}
 use Rattle.standing.specs.declared.Standing.{Standing}
 use Rattle.standing.specs.declared.Standing.the-variants.{Unknown, Retired, Current, Refused as NotSaid}
-use Rattle.capi_roll.specs.Roll.{sevenOrTwo, slotsOf, told, readRoll, reported, appendRoll, named, setNow}
+use Rattle.capi_roll.specs.Roll.{sevenOrTwo, slotsOf, told, readRoll, reported, appendRoll, named, setNow, retireAll}
 
 pub is-seven : {n : ℕ} → n ≡ 7 → 7 ≡ sevenOrTwo n
 unfolding sevenOrTwo
@@ -145,3 +146,21 @@ module _ (s : List ℕ) (count x : ℕ) (slot : List ℕ) {a : Standing} (e : a 
   pub set-slot : {n m : ℕ} → (length slot ≡ 1 → ⊥) → m ≡ standingNumber a → n ≡ sevenOrTwo m → (n, slot) ≡ setNow s count x slot
   unfolding setNow
   set-slot l h k = rw (ne-eqb (length slot) 1 l) (ap (λ (y : ℕ). (y, slot)) (k ∙ ap sevenOrTwo (h ∙ ap standingNumber e)))
+
+-- ---- a set retired everywhere
+
+module _ (s : List ℕ) (count x : ℕ) (slot : List ℕ) where
+  pub retire-told : {a : Appended} {left : List ℕ} {n : ℕ} {z : List ℕ} → length slot ≡ 1 → (a, left) ≡ pressed s count x → (n, z) ≡ reported a slot
+      → (n, left, z) ≡ retireAll s count x slot
+  unfolding retireAll
+  retire-told {a} {left} l p q =
+      rw (eq-eqb (length slot) 1 l) (ap (λ (y : ℕ × List ℕ). (y .0, left, y .1)) q ∙ ap (λ (y : Appended × List ℕ). (reported (y .0) slot .0, y .1, reported (y .0) slot .1)) p)
+
+  module _ (l : length slot ≡ 1 → ⊥) {t : Bool} (h : t ≡ holdsRoll s count) where
+    pub retire-slot : t ≡ true → (2, s, slot) ≡ retireAll s count x slot
+    unfolding retireAll
+    retire-slot q = let e : holdsRoll s count ≡ true = sym h ∙ q in rw (ne-eqb (length slot) 1 l, e) refl
+
+    pub retire-seven : t ≡ false → (7, s, slot) ≡ retireAll s count x slot
+    unfolding retireAll
+    retire-seven q = let e : holdsRoll s count ≡ false = sym h ∙ q in rw (ne-eqb (length slot) 1 l, e) refl

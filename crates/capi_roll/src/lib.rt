@@ -1,4 +1,4 @@
-// C names over the crates roll, roll_read, roll_append and standing. A slice is passed as a pointer and its length; include/gullyfork.h says the rest.
+// C names over the crates roll, roll_read, roll_append, standing and retire. A slice is passed as a pointer and its length; include/gullyfork.h says the rest.
 ghost use mathlib.Core.Path.{_≡_};
 ghost use mathlib.Core.Bool.{cond};
 ghost use mathlib.Core.List.{[], _∷_};
@@ -7,7 +7,7 @@ ghost use lib.ListN.{length};
 ghost use Rattle.roll.specs.Format.{entry};
 ghost use Rattle.roll.specs.Reading.{holdsRoll};
 ghost use Rattle.roll_read.specs.Calls.{readAt};
-ghost use Rattle.capi_roll.specs.Roll.{sevenOrTwo, told, reported, named, readRoll, appendRoll, setNow};
+ghost use Rattle.capi_roll.specs.Roll.{sevenOrTwo, told, reported, named, readRoll, appendRoll, setNow, retireAll};
 use roll::numbers::wide;
 use roll_append::Appended;
 use roll_read::Item;
@@ -154,4 +154,25 @@ pub extern "C" fn gf_stands_now(lent: &[u8], count: usize, set: u32, slot: &mut 
         return name_set(a, slot);
     }
     seven_or_two(standing::standing_number(a))
+}
+
+// Retires a set and every set linked to it by replacements: 0 done, 7, 9, 11 or 8. new_count has one slot, for how many bytes the roll has
+// then.
+#[no_mangle]
+pub extern "C" fn gf_retire_all(
+    lent: &mut [u8],
+    count: usize,
+    set: u32,
+    new_count: &mut [usize],
+) -> u8
+    ensures { λ r. ⌜ (r, now (lent .exit), now («new_count» .exit)) ≡ retireAll (now (lent .entry)) count set (now («new_count» .entry)) ⌝ }
+{
+    if new_count.len() == 1 {
+        let a = retire::retire_all(lent, count, set);
+        return report(a, new_count);
+    }
+    if roll::judge::is_roll(lent, count) {
+        return 2;
+    }
+    7
 }

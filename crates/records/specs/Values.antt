@@ -1,11 +1,13 @@
 -- The numbers of a set that the recorder and the replay programs both make from a seed, what a table's entries are in
 -- a record, and the checksum over a slice. Assumes nothing.
+use mathlib.Core.Bool.{cond}
 use mathlib.Core.List.{List, [], _∷_}
 use Prim.Native.Nat.{ℕ, _+_, _*_, _%_, _^_}
 use lib.Bits.{bitAnd, bitOr}
 use lib.IntN.{ℤ, pos}
 use lib.Ieee.{Float, nan, binary64, ofBits, toBits}
-use lib.ListN.{getD}
+use lib.Dec.{ltb}
+use lib.ListN.{length, getD}
 use mir.Syntax.{w64}
 use mir.Val.{ofZ, toZ}
 use Rattle.records.specs.Words.{mixed, wordOf}
@@ -77,6 +79,10 @@ integerAt seed i = pos (drawn seed i)
 -- entry i of a table whose entries are the words of the record from number `from` on
 abbrev pub entryAt : List ℕ → ℕ → ℕ → ℤ
 entryAt r from i = toZ w64 (wordOf r ((from + i) % 2 ^ 64))
+
+-- byte k of a record, 0 past its end
+unfoldable pub byteOf : List ℕ → ℕ → ℕ
+byteOf r k = cond (ltb k (length r)) (getD r k 0) 0
 
 -- the checksum h after number i of a slice of floats, of bytes, of integers
 abbrev pub mixedFloat : List Float → ℕ → ℕ → ℕ

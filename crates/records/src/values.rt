@@ -1,10 +1,10 @@
 // The numbers of a set that the recorder and the replay programs both make from a seed, tables read from a record, and
 // the checksum over a slice.
 ghost use mathlib.Core.Path.{_≡_};
-ghost use Prim.Native.Nat.{_<_};
+ghost use Prim.Native.Nat.{_+_, _%_, _^_, _<_};
 ghost use lib.ListN.{length};
 ghost use Rattle.lists.specs.Tab.{tab, times};
-ghost use Rattle.records.specs.Values.{stirred, drawn, classOf, shapedBits, valueAt, byteAt, integerAt, entryAt, mixedFloat, mixedByte, mixedInteger};
+ghost use Rattle.records.specs.Values.{stirred, drawn, classOf, shapedBits, valueAt, byteAt, integerAt, entryAt, byteOf, mixedFloat, mixedByte, mixedInteger};
 use super::float;
 use super::float_word;
 use super::integer;
@@ -421,6 +421,28 @@ pub fn integers(r: &[u8], from: usize, out: &mut [i64])
     let mut i = 0;
     while i < out.len() {
         let x = entry(r, from, i);
+        out[i] = x;
+        i += 1;
+    }
+}
+
+// Byte k of a record, 0 past its end.
+fn byte_of(r: &[u8], k: usize) -> u8
+    ensures { λ x. ⌜ x ≡ byteOf (now (r .entry)) k ⌝ }
+{
+    if k < r.len() {
+        return r[k];
+    }
+    0
+}
+
+// Reads a slice of bytes: those of the record from byte `from` on.
+pub fn bytes(r: &[u8], from: usize, out: &mut [u8])
+    ensures { λ _. ⌜ now (out .exit) ≡ tab (length (now (out .entry))) (λ i. byteOf (now (r .entry)) ((from + i) % 2 ^ 64)) ⌝ }
+{
+    let mut i = 0;
+    while i < out.len() {
+        let x = byte_of(r, std::num::wrapping_add_usize(from, i));
         out[i] = x;
         i += 1;
     }

@@ -14,6 +14,7 @@ use records::steps::first;
 use records::steps::is;
 use records::steps::plus;
 use records::steps::size;
+use records::values::bytes;
 use records::values::fill_bytes;
 use records::values::mix_bytes;
 use records::wide;
@@ -33,24 +34,6 @@ struct Numbers {
 struct Counts {
     all: Tally,
     of: Numbers,
-}
-
-// Byte number k of the record, 0 past its end.
-fn byte(r: &[u8], k: usize) -> u8 {
-    if k < r.len() {
-        return r[k];
-    }
-    0
-}
-
-// Reads the lent slice: the bytes of the record from number `from` on.
-fn bytes(r: &[u8], from: usize, out: &mut [u8]) {
-    let mut i = 0;
-    while i < out.len() {
-        let x = byte(r, after(from, i));
-        out[i] = x;
-        i += 1;
-    }
 }
 
 // A recorded set number.

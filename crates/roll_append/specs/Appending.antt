@@ -46,7 +46,7 @@ module _ (s : List ℕ) (count : ℕ) (r : Entry) (H : holdsRoll s count ≡ tru
       let t : trailerAt b ≤ count = omega (arith, S .whole, has-count s count H) in
       records-back b (bytes-take s count B) (countOf b) h ∙ ap (λ n. take n b) (S .ends) ∙ take-take (trailerAt b) count s t
 
-  records-are : joined rs ≡ take (trailerAt b) s ++ bytesOf r
+  pub records-are : joined rs ≡ take (trailerAt b) s ++ bytesOf r
   records-are = joined-more (entriesOf b) (r ∷ []) ∙ ap₂ _++_ former (joined-one r)
 
   abbrev t : ℕ

@@ -105,7 +105,7 @@ module _ (s : List ℕ) (count : ℕ) (e : Entry) (B : Bytes s) (F : Fits e) (m 
   long-new : length new ≡ m
   long-new = ap length (sym is-new) ∙ done-says s count e m done .3
 
-  left-new : appended s count e .1 ≡ new ++ drop m s
+  pub left-new : appended s count e .1 ≡ new ++ drop m s
   unfolding appended
   left-new = ap (λ a. leaves a (withEntry old e) s) done ∙ ap (λ l. l ++ drop m s) is-new
 

@@ -4,19 +4,28 @@ use mathlib.Core.Path.{_≡_, refl, sym, ap, ap₂, _∙_, subst}
 use mathlib.Core.Bool.{Bool, true, false, not, _&&_, _||_, cond}
 use mathlib.Core.Logic.{_⊎_, inl, inr, ⊎-elim}
 use Prim.Native.Nat.{ℕ, zero, suc, _+_, _≤_, _<_}
+use native.Mathlib.Nat.{add-zero, add-suc}
 use native.Mathlib.Omega.{arith}
 use lib.Dec.{eqb}
 use borrow.Author.Tests.{eq-eqb, ne-eqb, eqb-true, eqb-false, not-true}
 use Rattle.lists.specs.Cases.{eq-or-ne}
 use Rattle.lists.specs.Tests.{every, and-fst, and-snd, not-both, split, or-true}
 use Rattle.roll.specs.Format.{Entry}
-use Rattle.standing.specs.Register.{Register, blank, noted, allowed}
+use Rattle.standing.specs.Register.{Register, blank, replaces, noted, allowed}
 use Rattle.standing.specs.Walk.{after, lawfulTo, cond-true, cond-false}
 
 -- the end of the chain of replacements from x, n steps at most
 unfoldable pub endOf : ℕ → Register → ℕ → ℕ
 endOf zero g x = x
 endOf (suc n) g x = cond (eqb (g .replacedBy x) 0) x (endOf n g (g .replacedBy x))
+
+-- where a chain that has come to y stands when a record is read too, and after the first n records
+abbrev pub moved : Entry → ℕ → ℕ
+moved r y = cond (replaces r y) (r .number) y
+
+unfoldable pub carried : (ℕ → Entry) → ℕ → ℕ → ℕ
+carried f zero x = x
+carried f (suc n) x = moved (f n) (carried f n x)
 
 or-false-fst : (a b : Bool) → (a || b) ≡ false → a ≡ false
 or-false-fst true b e = e
@@ -206,6 +215,16 @@ module _ (n : ℕ) (g : Register) (r : Entry) (p : Sound n g) (named : r .number
           (λ (h : z ≡ r .earlier → ⊥). ap (g′ .replacedBy) (cond-false (r .number) z (ne-eqb (r .earlier) z (λ q. h (sym q)))) ∙ q .elsewhere z h ∙ p .ends x)
           (eq-or-ne z (r .earlier))
 
+  -- where a chain ends with one record more
+  pub end-step : (x : ℕ) → endOf (suc n) g′ x ≡ moved r (endOf n g x)
+  end-step x = ⊎-elim two one (split (eqb (r .kind) 2))
+    where
+      one : eqb (r .kind) 2 ≡ false → endOf (suc n) g′ x ≡ moved r (endOf n g x)
+      one k = end-same g g′ (same k) (suc n) x ∙ end-more n g x (p .ends x) ∙ sym (rw k)
+
+      two : eqb (r .kind) 2 ≡ true → endOf (suc n) g′ x ≡ moved r (endOf n g x)
+      two k = replaced-end g g′ (r .earlier) (r .number) (replaced k (fresh k)) n x (p .ends x) ∙ sym (rw k)
+
   sound-more : Sound (suc n) g′
   sound-more = record { known = known′; heirs = heirs′; ends = ends′ }
 
@@ -216,3 +235,34 @@ sound f (suc n) named l =
     let before = every n (λ k. allowed (after f k) (f k)) in
     let last = allowed (after f n) (f n) in
     sound-more n (after f n) (f n) (sound f n (λ k h. named k (omega arith)) (and-fst before last l)) (named n (omega arith)) (and-snd before last l)
+
+-- one walk over the records carries the end of a chain along
+pub carried-is : (f : ℕ → Entry) (n : ℕ) → ((k : ℕ) → k < n → f k .number ≡ 0 → ⊥) → lawfulTo f n ≡ true → (x : ℕ) → carried f n x ≡ endOf n (after f n) x
+unfolding carried lawfulTo every after
+carried-is f zero named l x = sym (end-zero blank x)
+carried-is f (suc n) named l x =
+    let before = every n (λ k. allowed (after f k) (f k)) in
+    let last = allowed (after f n) (f n) in
+    let lo = and-fst before last l in
+    ap (moved (f n)) (carried-is f n (λ k h. named k (omega arith)) lo x)
+    ∙ sym (end-step n (after f n) (f n) (sound f n (λ k h. named k (omega arith)) lo) (named n (omega arith)) (and-snd before last l) x)
+
+module _ (n : ℕ) (g : Register) (p : Sound n g) where
+  -- a set and the one that replaced it have one end
+  pub linked-end : (x : ℕ) → (g .replacedBy x ≡ 0 → ⊥) → endOf n g x ≡ endOf n g (g .replacedBy x)
+  linked-end x b = sym (end-more n g x (p .ends x)) ∙ end-goes n g x b
+
+  -- the end of a delivered set is delivered
+  pub delivered-end : (m x : ℕ) → g .delivered x ≡ true → g .delivered (endOf m g x) ≡ true
+  delivered-end zero x d = ap (g .delivered) (end-zero g x) ∙ d
+  delivered-end (suc m) x d =
+      ⊎-elim (λ (b : g .replacedBy x ≡ 0). ap (g .delivered) (end-stays (suc m) g x b) ∙ d)
+      (λ (b : g .replacedBy x ≡ 0 → ⊥). ap (g .delivered) (end-goes m g x b) ∙ delivered-end m (g .replacedBy x) (p .heirs x b))
+      (eq-or-ne (g .replacedBy x) 0)
+
+  -- more steps change nothing
+  pub end-plus : (k x : ℕ) → endOf (n + k) g x ≡ endOf n g x
+  end-plus zero x = ap (λ (m : ℕ). endOf m g x) (add-zero n)
+  end-plus (suc k) x =
+      let e = end-plus k x in
+      ap (λ (m : ℕ). endOf m g x) (add-suc n k) ∙ end-more (n + k) g x (ap (g .replacedBy) e ∙ p .ends x) ∙ e

@@ -60,7 +60,7 @@ module _ (b : List ℕ) (R : isRoll b ≡ true) (L : lawful (entriesOf b) ≡ tr
   G = after (recordOf b) n
 
   -- set numbers start at 1
-  named : (k : ℕ) → k < n → recordOf b k .number ≡ 0 → ⊥
+  pub named : (k : ℕ) → k < n → recordOf b k .number ≡ 0 → ⊥
   unfolding recordOf entryAt ruledAt ruled
   named k h e =
       let at = start b k in
@@ -71,13 +71,13 @@ module _ (b : List ℕ) (R : isRoll b ≡ true) (L : lawful (entriesOf b) ≡ tr
       let l = leb-true 1 (fourAt b (at + 1)) (and-fst (leb 1 (fourAt b (at + 1))) last j) in
       absurd (omega (arith, l, e))
 
-  lawful-to : lawfulTo (recordOf b) n ≡ true
+  pub lawful-to : lawfulTo (recordOf b) n ≡ true
   lawful-to = sym (entries-lawful b) ∙ L
 
   ended : Sound n G
   ended = sound (recordOf b) n named lawful-to
 
-  sound-roll : Sound n (registerOf (entriesOf b))
+  pub sound-roll : Sound n (registerOf (entriesOf b))
   sound-roll = subst (Sound n) (sym (entries-register b)) ended
 
   is-answer : (x : ℕ) → answer (suc n) G x ≡ standsNow b x

@@ -54,7 +54,7 @@ unfolding tabFrom
 tab-from-more i zero f = ap (λ k. f k ∷ []) (sym (add-zero i))
 tab-from-more i (suc n) f = ap (λ l. f i ∷ l) (tab-from-more (suc i) n f ∙ ap (λ k. tabFrom (suc i) n f ++ (f k ∷ [])) (suc-add i n ∙ sym (add-suc i n)))
 
-tab-next : (n : ℕ) (f : ℕ → Entry) → tab (suc n) f ≡ tab n f ++ (f n ∷ [])
+pub tab-next : (n : ℕ) (f : ℕ → Entry) → tab (suc n) f ≡ tab n f ++ (f n ∷ [])
 unfolding tab
 tab-next n f = tab-from-more 0 n f ∙ ap (λ k. tabFrom 0 n f ++ (f k ∷ [])) (zero-add n)
 

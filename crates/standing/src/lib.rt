@@ -35,10 +35,10 @@ pub fn standing_number(a: Standing) -> u8
 }
 
 // What the register notes of one set.
-struct Found {
-    delivered: bool,
-    retired: bool,
-    by: usize,
+pub struct Found {
+    pub delivered: bool,
+    pub retired: bool,
+    pub by: usize,
 }
 
 // Whether the record at `at` delivers x: deliveries and replacements do.
@@ -84,7 +84,7 @@ fn either(x: bool, y: bool) -> bool
 }
 
 // What replaced x when the record at `at` is noted too.
-fn replacer(b: &[u8], at: usize, x: usize, by: usize) -> usize
+pub fn replacer(b: &[u8], at: usize, x: usize, by: usize) -> usize
     requires { ⌜ (at + 10 ≤ length (now b)) × (by < 4294967296) ⌝ }
     ensures { λ r. ⌜ (r ≡ cond (replaces (entryAt (now (b .entry)) at) x) (entryAt (now (b .entry)) at .number) by) × (r < 4294967296) ⌝ }
 {
@@ -95,7 +95,7 @@ fn replacer(b: &[u8], at: usize, x: usize, by: usize) -> usize
 }
 
 // What the register of the first n records of the roll b notes of x.
-fn look_up(b: &[u8], n: usize, x: usize) -> Found
+pub fn look_up(b: &[u8], n: usize, x: usize) -> Found
     requires { ⌜ (isRoll (now b) ≡ true) × (n ≤ countOf (now b)) ⌝ }
     ensures { λ r. ⌜ Notes (after (recordOf (now (b .entry))) n) x (r .delivered) (r .retired) (r .by) ⌝ }
 {
@@ -142,7 +142,7 @@ fn is_allowed(b: &[u8], n: usize, at: usize) -> bool
 }
 
 // Whether 9 applies to none of the n records.
-fn is_lawful(b: &[u8], n: usize) -> bool
+pub fn is_lawful(b: &[u8], n: usize) -> bool
     requires { ⌜ (isRoll (now b) ≡ true) × (n ≡ countOf (now b)) ⌝ }
     ensures { λ r. ⌜ r ≡ lawfulTo (recordOf (now (b .entry))) n ⌝ }
 {

@@ -4,7 +4,7 @@ use mathlib.Core.Path.{_≡_, refl, sym, ap, _∙_}
 use mathlib.Core.Bool.{Bool, true, false, cond, true≢false, false≢true}
 use Prim.Native.Nat.{ℕ}
 use Rattle.tables.specs.declared.Refusal.{Refusal}
-use Rattle.tables.specs.declared.Refusal.the-variants.{CountAboveLimit, WrongLength, IndexOutOfRange, BadSlab, BadRepresentative, BadShiftTables, NotARoll, NoRoom, NotLawful, OffGrid}
+use Rattle.tables.specs.declared.Refusal.the-variants.{CountAboveLimit, WrongLength, IndexOutOfRange, BadSlab, BadRepresentative, BadShiftTables, NotARoll, NoRoom, NotLawful, OffGrid, UnknownSet}
 use Rattle.tables.specs.declared.Answer.{Answer}
 use Rattle.tables.specs.declared.Answer.the-variants.{Done, Refused}
 
@@ -20,6 +20,7 @@ refusalNumber NotARoll = 7
 refusalNumber NoRoom = 8
 refusalNumber NotLawful = 9
 refusalNumber OffGrid = 10
+refusalNumber UnknownSet = 11
 
 -- the number of an answer: 0 for a call that is done
 abbrev pub numberOf : Answer → ℕ

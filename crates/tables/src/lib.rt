@@ -29,6 +29,8 @@ pub enum Refusal {
     NotLawful,
     // 10: an entry of the old block or of the incoming one is off the grid
     OffGrid,
+    // 11: a set that was never delivered is to be retired
+    UnknownSet,
 }
 
 // What a call answers: done, or the first refusal that applies.
@@ -52,6 +54,7 @@ pub fn refusal_number(r: Refusal) -> u8
         Refusal::NoRoom => 8,
         Refusal::NotLawful => 9,
         Refusal::OffGrid => 10,
+        Refusal::UnknownSet => 11,
     }
 }
 
