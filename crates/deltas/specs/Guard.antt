@@ -8,13 +8,14 @@ use native.Mathlib.Omega.{arith}
 use lib.IntN.{ℤ}
 use lib.ListN.{length, replicate}
 use lib.Ieee.{Float}
-use Rattle.lists.specs.Digits.{in-row, room}
+use Rattle.lists.specs.Digits.{in-row, room, room-power}
 use Rattle.rotations.specs.Rotation.{plusZero}
 use Rattle.tables.specs.declared.Answer.{Answer}
 use Rattle.tables.specs.declared.Answer.the-variants.{Done}
 use Rattle.tables.specs.declared.Refusal.the-variants.{CountAboveLimit, WrongLength, IndexOutOfRange}
 use Rattle.tables.specs.Answers.{isRefusal, refuseIf, is-done, after-refusal, after-done, passed}
 use Rattle.tables.specs.Conditions.{anyAbove, anyWrong, outOfRange, indexAt, Readable, IndexTable, read, or-false, not-above, not-wrong}
+use Rattle.tables.specs.Lengths.{setLength, slab-length}
 use Rattle.tables.specs.Limits.{limitList}
 use Rattle.slabs.specs.SlabLaws.{Inside, inside-slab}
 use Rattle.deltas.specs.RotateDelta.{Deltas, total, source, rotatedDeltas, countsAbove, lengths, judged, rotateDelta}
@@ -43,7 +44,7 @@ ready limit m D lengthResult lengthWork h e =
     let (f1, f2) = or-false (anyAbove limit (D .numAtom ∷ [])) _ q1 in
     let (atoms, _) = not-above limit (D .numAtom ∷ []) f1 in
     let (syms, (disps, _)) = not-above limitList (D .numSiteSym ∷ D .numDisp ∷ []) f2 in
-    let (l1, (l2, (l3, (l4, (l5, (l6, _)))))) = not-wrong (lengths D (D .numAtom ^ m) (3 ^ m) lengthResult lengthWork) q2 in
+    let (l1, (l2, (l3, (l4, (l5, (l6, _)))))) = not-wrong (lengths D (setLength 1 (D .numAtom) m) (D .numAtom ^ m) (3 ^ m) lengthResult lengthWork) q2 in
     let R : Ready D m =
     record {
       atoms-few = le-trans atoms h;
@@ -54,7 +55,7 @@ ready limit m D lengthResult lengthWork h e =
       symmetries-length = l4;
       images-fit = record { has = l5; within = q3 };
     } in
-    (R, record { result-length = l1; work-length = l6 })
+    (R, record { result-length = l1 ∙ slab-length (D .numAtom) m; work-length = l6 })
 
 -- ---- powers
 
@@ -63,12 +64,6 @@ next-power d a k = mul-assoc d (a ^ k) a ∙ ap (λ x. d * x) (sym (pow-suc a k)
 
 one-power : (a : ℕ) → a ≡ a ^ 1
 one-power a = sym (pow-suc a 0 ∙ ap (λ x. x * a) (pow-zero a) ∙ one-mul a)
-
--- n · a · … · a
-room-power : (a k n : ℕ) → room a k n ≡ n * a ^ k
-unfolding room
-room-power a zero n = sym (ap (λ x. n * x) (pow-zero a) ∙ mul-one n)
-room-power a (suc k) n = room-power a k (n * a) ∙ mul-assoc n a (a ^ k) ∙ ap (λ x. n * x) (mul-comm a (a ^ k) ∙ sym (pow-suc a k))
 
 pub square : (a : ℕ) → a * a ≡ a ^ 2
 square a = ap (λ x. x * a) (one-power a) ∙ sym (pow-suc a 1)
@@ -146,11 +141,13 @@ counts-small limit numAtom numSiteSym numDisp e =
 
 pub judged-is : {q1 q2 q3 : Bool} (limit m : ℕ) (D : Deltas) (lengthResult lengthWork b : ℕ) → b ≡ D .numAtom ^ m
     → q1 ≡ countsAbove limit (D .numAtom) (D .numSiteSym) (D .numDisp)
-    → q2 ≡ anyWrong (lengths D b (3 ^ m) lengthResult lengthWork) → q3 ≡ outOfRange (D .numAtom) (D .rotMapSyms)
+    → q2 ≡ anyWrong (lengths D (b * (3 * 3 ^ m)) b (3 ^ m) lengthResult lengthWork) → q3 ≡ outOfRange (D .numAtom) (D .rotMapSyms)
     → refuseIf q1 CountAboveLimit (refuseIf q2 WrongLength (refuseIf q3 IndexOutOfRange Done)) ≡ judged limit m D lengthResult lengthWork
 unfolding judged
 judged-is limit m D lengthResult lengthWork b eb e1 e2 e3 =
-    let e : _ ≡ anyWrong (lengths D (D .numAtom ^ m) (3 ^ m) lengthResult lengthWork) = e2 ∙ ap (λ x. anyWrong (lengths D x (3 ^ m) lengthResult lengthWork)) eb in
+    let e : _ ≡ anyWrong (lengths D (setLength 1 (D .numAtom) m) (D .numAtom ^ m) (3 ^ m) lengthResult lengthWork) =
+    e2 ∙ ap (λ x. anyWrong (lengths D (x * (3 * 3 ^ m)) x (3 ^ m) lengthResult lengthWork)) eb
+    ∙ ap (λ s. anyWrong (lengths D s (D .numAtom ^ m) (3 ^ m) lengthResult lengthWork)) (sym (slab-length (D .numAtom) m)) in
     rw (e1, e, e3)
 
 -- ---- the call

@@ -7,6 +7,7 @@ use lib.Ieee.{Float, nan}
 use Rattle.lists.specs.Tab.{getD-tab}
 use Rattle.lists.specs.Digits.{in-row}
 use Rattle.blocks.specs.Block.{block, block-of, place-of}
+use Rattle.tables.specs.Lengths.{setLength, slab-length}
 use Rattle.rotations.specs.Rotation.{rotated}
 use Rattle.deltas.specs.RotateDelta.{Deltas, total, source, rotatedDelta, summed, number, rotatedDeltas}
 use Rattle.deltas.specs.Rows.{imageOf, source-next, source-of-one}
@@ -18,7 +19,7 @@ unfolding rotatedDeltas
 result-number D m b k p hb hk hp =
     let w = 3 ^ m in
     let h = in-row 3 w k p hk hp in
-    getD-tab (D .numAtom ^ m * (3 * w)) (number D m) (b * (3 * w) + (k * w + p)) nan (in-row (D .numAtom ^ m) (3 * w) b (k * w + p) hb h)
+    getD-tab (setLength 1 (D .numAtom) m) (number D m) (b * (3 * w) + (k * w + p)) nan (rw (slab-length (D .numAtom) m) (in-row (D .numAtom ^ m) (3 * w) b (k * w + p) hb h))
     ∙ rw (block-of (3 * w) b (k * w + p) h, place-of (3 * w) b (k * w + p) h, block-of w k p hp, place-of w k p hp) refl
 
 -- The rotated delta of pair n, displacement n / numSiteSym with site symmetry s = n % numSiteSym: that displacement's block for the images of the atoms

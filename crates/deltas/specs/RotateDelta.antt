@@ -14,6 +14,7 @@ use Rattle.tables.specs.declared.Answer.the-variants.{Done}
 use Rattle.tables.specs.declared.Refusal.the-variants.{CountAboveLimit, WrongLength, IndexOutOfRange}
 use Rattle.tables.specs.Answers.{after, refuseIf}
 use Rattle.tables.specs.Conditions.{anyAbove, anyWrong, outOfRange, indexAt}
+use Rattle.tables.specs.Lengths.{setLength}
 use Rattle.tables.specs.Limits.{limit3, limit4, limitList}
 
 -- What a call brings beside the result and the work slice. deltas has one set for each displacement, one after the other. Site symmetry s has
@@ -66,9 +67,9 @@ numberIn D m t b p = summed D m t b (p / 3 ^ m) (p % 3 ^ m)
 abbrev pub number : Deltas → ℕ → ℕ → Float
 number D m q = numberIn D m (total D) (q / (3 * 3 ^ m)) (q % (3 * 3 ^ m))
 
--- the whole result; without a pair it is +0.0 everywhere
+-- the whole result, the slab of one first atom; without a pair it is +0.0 everywhere
 unfoldable pub rotatedDeltas : Deltas → ℕ → List Float
-rotatedDeltas D m = tab (D .numAtom ^ m * (3 * 3 ^ m)) (number D m)
+rotatedDeltas D m = tab (setLength 1 (D .numAtom) m) (number D m)
 
 -- ---- refusals
 
@@ -76,10 +77,11 @@ rotatedDeltas D m = tab (D .numAtom ^ m * (3 * 3 ^ m)) (number D m)
 abbrev pub countsAbove : ℕ → ℕ → ℕ → ℕ → Bool
 countsAbove limit numAtom numSiteSym numDisp = anyAbove limit (numAtom ∷ []) || anyAbove limitList (numSiteSym ∷ numDisp ∷ [])
 
--- 2: the length of each slice and the one stated for it; a block of the deltas has w numbers, and there are b of them for each displacement
-abbrev pub lengths : Deltas → ℕ → ℕ → ℕ → ℕ → List (ℕ × ℕ)
-lengths D b w lengthResult lengthWork =
-    (lengthResult, b * (3 * w))
+-- 2: the length of each slice and the one stated for it, `stated` for the result; a block of the deltas has w numbers, and there are b of them
+-- for each displacement
+abbrev pub lengths : Deltas → ℕ → ℕ → ℕ → ℕ → ℕ → List (ℕ × ℕ)
+lengths D stated b w lengthResult lengthWork =
+    (lengthResult, stated)
     ∷ (length (D .deltas), D .numDisp * b * w)
     ∷ (length (D .invU), 3 * total D)
     ∷ (length (D .siteSymCart), D .numSiteSym * 9)
@@ -90,7 +92,7 @@ lengths D b w lengthResult lengthWork =
 unfoldable pub judged : ℕ → ℕ → Deltas → ℕ → ℕ → Answer
 judged limit m D lengthResult lengthWork =
     refuseIf (countsAbove limit (D .numAtom) (D .numSiteSym) (D .numDisp)) CountAboveLimit
-    (refuseIf (anyWrong (lengths D (D .numAtom ^ m) (3 ^ m) lengthResult lengthWork)) WrongLength
+    (refuseIf (anyWrong (lengths D (setLength 1 (D .numAtom) m) (D .numAtom ^ m) (3 ^ m) lengthResult lengthWork)) WrongLength
     (refuseIf (outOfRange (D .numAtom) (D .rotMapSyms)) IndexOutOfRange Done))
 
 -- ---- the calls: the answer, the result and the work slice

@@ -15,6 +15,7 @@ use Rattle.lists.specs.Tab.{tab, length-tab, getD-tab, is-tab, fill-more, times
 use Rattle.lists.specs.Cases.{eq-or-ne, lt-or-le}
 use Rattle.blocks.specs.Block.{block, putBlock, length-putBlock, getD-block, put-inside, put-outside, block-of, place-of}
 use Rattle.tables.specs.Conditions.{indexAt}
+use Rattle.tables.specs.Lengths.{setLength, slab-length}
 use Rattle.rotations.specs.Rotation.{plusZero, rotated}
 use Rattle.deltas.specs.RotateDelta.{Deltas, total, source, rotatedDelta, summed, numberIn, number, rotatedDeltas}
 
@@ -275,7 +276,9 @@ rows-all D k size pos e =
     let a = D .numAtom in
     let w = 3 ^ suc k in
     let P = all-rows D (suc k) (a ^ k) size pos a in
-    is-tab nan (a ^ suc k * (3 * w)) (number D (suc k)) _ (P .len ∙ e) (λ q l.
+    let long = slab-length a (suc k) in
+    is-tab nan (setLength 1 a (suc k)) (number D (suc k)) _ (P .len ∙ e ∙ sym long) (λ q l′.
+    let l : q < a ^ suc k * (3 * w) = rw long at l′ in
     let h : q / (3 * w) < a * a ^ k = subst (λ (x : ℕ). q / (3 * w) < x) (pow-suc a k ∙ mul-comm (a ^ k) a) (div-lt-iff-lt-mul (omega arith) .1 l) in
     P .before q (subst (λ (x : ℕ). q < x) (sym e) l) h)
 

@@ -47,7 +47,7 @@ pub fn lengths_wrong(
     num_disp: usize,
 ) -> bool
     requires { ⌜ (b ≤ 262144) × (w ≤ 27) × («num_atom» ≤ 256) × («num_site_sym» ≤ 1024) × («num_disp» ≤ 1024) ⌝ }
-    ensures { λ r. ⌜ r ≡ anyWrong (lengths (deltasOf (now (deltas .entry)) (now («inv_u» .entry)) (now («site_sym_cart» .entry)) (now («rot_map_syms» .entry)) «num_atom» «num_site_sym» «num_disp») b w (length (now (result .entry))) (length (now («rot_delta» .entry)))) ⌝ }
+    ensures { λ r. ⌜ r ≡ anyWrong (lengths (deltasOf (now (deltas .entry)) (now («inv_u» .entry)) (now («site_sym_cart» .entry)) (now («rot_map_syms» .entry)) «num_atom» «num_site_sym» «num_disp») (b * (3 * w)) b w (length (now (result .entry))) (length (now («rot_delta» .entry)))) ⌝ }
 {
     let total = num_disp * num_site_sym;
     if result.len() != b * (3 * w) {

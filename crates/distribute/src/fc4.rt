@@ -5,8 +5,8 @@ ghost use mathlib.Core.List.{List};
 ghost use Prim.Native.Nat.{_+_, _*_, _≤_};
 ghost use lib.ListN.{length};
 ghost use lib.Ieee.{Float};
-ghost use Rattle.lists.specs.Digits.{room};
 ghost use Rattle.tables.specs.Conditions.{IndexTable};
+ghost use Rattle.tables.specs.Lengths.{setLength};
 ghost use Rattle.rotations.specs.Rotation.{coefficients, rotated};
 ghost use Rattle.slabs.specs.Slab.{moveBlock, move};
 ghost use Rattle.slabs.specs.SlabLaws.{Inside};
@@ -86,7 +86,7 @@ fn fill_slab(
 
 // The length stated for the set, where the counts are within the limit.
 fn stated_length(num_atom: usize, num_first: usize) -> usize
-    ensures { λ r. ⌜ («num_atom» ≤ 64 → «num_first» ≤ 64 → r ≡ room 3 4 (room «num_atom» 3 «num_first»)) ⌝ }
+    ensures { λ r. ⌜ («num_atom» ≤ 64 → «num_first» ≤ 64 → r ≡ setLength «num_first» «num_atom» 3) ⌝ }
 {
     if num_atom > tables::limits::LIMIT4 {
         return 0;

@@ -17,6 +17,7 @@ use Rattle.tables.specs.declared.Answer.the-variants.{Done}
 use Rattle.tables.specs.declared.Refusal.the-variants.{CountAboveLimit, WrongLength, IndexOutOfRange, BadRepresentative}
 use Rattle.tables.specs.Answers.{after, refuseIf}
 use Rattle.tables.specs.Conditions.{anyAbove, anyWrong, outOfRange, indexAt}
+use Rattle.tables.specs.Lengths.{setLength}
 use Rattle.tables.specs.Limits.{limit2, limitList}
 
 -- What a call brings beside the set, the work slice and the counts num_first and num_rot. Position i of the list is atom atomList[i], and the set has its blocks in row
@@ -94,7 +95,7 @@ countsAbove numPos numFirst numRot lengthList = anyAbove limit2 (numPos ∷ numF
 -- 2: the length of each slice and the one stated for it
 abbrev pub lengths : Distribution → ℕ → ℕ → ℕ → ℕ → List (ℕ × ℕ)
 lengths D numFirst numRot lengthFc lengthWork =
-    (lengthFc, numFirst * D .numPos * 9)
+    (lengthFc, setLength numFirst (D .numPos) 1)
     ∷ (length (D .fcIndices), length (D .atomList))
     ∷ (length (D .rCarts), numRot * 9)
     ∷ (length (D .permutations), numRot * D .numPos)

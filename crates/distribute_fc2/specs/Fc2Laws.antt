@@ -23,6 +23,7 @@ use Rattle.tables.specs.declared.Refusal.the-variants.{CountAboveLimit, WrongLe
 use Rattle.tables.specs.declared.Answer.{Answer}
 use Rattle.tables.specs.Answers.{isRefusal, after, refuseIf, passed, is-done, after-refusal, after-done}
 use Rattle.tables.specs.Conditions.{anyAbove, anyWrong, outOfRange, nat, indexAt, Readable, IndexTable, read, or-false, not-above, not-wrong}
+use Rattle.tables.specs.Lengths.{set-length2}
 use Rattle.tables.specs.Limits.{limit2, limitList}
 use Rattle.distribute_fc2.specs.Fc2.{Distribution, addBlock, addRow, lastOf, distributeAtom, distributed, listed, represented, badRepresentative, countsAbove, lengths, entriesOut, judged, distributeFc2}
 
@@ -84,7 +85,7 @@ ready D numFirst numRot lengthFc lengthWork e =
       numFirst = numFirst;
       numRot = numRot;
       list-few = few;
-      set-length = l1;
+      set-length = l1 ∙ set-length2 numFirst (D .numPos);
       rotations-length = l3;
       list-fit = record { has = refl; within = r1 };
       rows-fit = record { has = l2; within = r2 };

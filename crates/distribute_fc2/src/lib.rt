@@ -1,5 +1,5 @@
 // distribute_fc2: the blocks of the listed atoms, each added from the rotated blocks of the atom that represents it.
-use lines::nine::added;
+use nines::added;
 use tables::Answer;
 use tables::Refusal;
 use tables::atoms::SuperAtom;

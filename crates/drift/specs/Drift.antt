@@ -12,6 +12,7 @@ use Rattle.tables.specs.declared.Answer.the-variants.{Done, Refused as RefusedB
 use Rattle.tables.specs.declared.Refusal.the-variants.{CountAboveLimit, WrongLength}
 use Rattle.tables.specs.Answers.{refuseIf}
 use Rattle.tables.specs.Conditions.{anyAbove, anyWrong}
+use Rattle.tables.specs.Lengths.{setLength}
 use Rattle.tables.specs.Limits.{limit2}
 use Rattle.lines.specs.Nine.{plusZero}
 use Rattle.fc2.specs.Full.{rowSum, columnSum}
@@ -120,7 +121,7 @@ placed n xs NoNumber = reportAt n NoNumber (firstOf (sums n) (λ r. isNan (sumAt
 
 -- what is refused: more than 1,024 atoms; a set of another length than n × n × 9
 abbrev pub judgedDrift : ℕ → ℕ → Answer
-judgedDrift len n = refuseIf (anyAbove limit2 (n ∷ [])) CountAboveLimit (refuseIf (anyWrong ((len, n * n * 9) ∷ [])) WrongLength Done)
+judgedDrift len n = refuseIf (anyAbove limit2 (n ∷ [])) CountAboveLimit (refuseIf (anyWrong ((len, setLength n n 1) ∷ [])) WrongLength Done)
 
 -- the call's answer
 unfoldable pub driftReport : List Float → ℕ → DriftAnswer

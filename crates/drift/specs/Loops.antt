@@ -2,7 +2,7 @@
 use mathlib.Core.Path.{_≡_}
 use mathlib.Core.List.{List, []}
 use mathlib.Core.Bool.{true, false, cond}
-use Prim.Native.Nat.{ℕ, _+_, _*_, _<_}
+use Prim.Native.Nat.{ℕ, _+_, _*_, _≤_, _<_}
 use lib.ListN.{length, getD}
 use lib.Ieee.{Float, lt, ne, eq}
 use Rattle.lists.specs.Tab.{times}
@@ -31,13 +31,18 @@ lookLine q s c = times 9 (λ p. look (q * 9 + p) (sumIn s p)) c
 unfoldable pub lookLines : ℕ → ℕ → ℕ → ℕ → List Float → Seen → Seen
 lookLines first apart step n xs c = times n (λ i. lookLine (first + i) (lineSums (i * apart) step n xs zeros)) c
 
+-- row i
+abbrev pub lookRow : ℕ → List Float → ℕ → Seen → Seen
+lookRow n xs i c = lookLine (0 + i) (lineSums (i * n) 1 n xs zeros) c
+
 -- the rows, and then the columns
 unfoldable pub scanned : ℕ → List Float → Seen
 scanned n xs = lookLines n 1 n n xs (lookLines 0 n 1 n xs start)
 
--- cs holds the sums of the n columns over the first i rows
-pub record Summed (n i : ℕ) (xs : List Float) (cs : List Sums) : Type 0 where
-  pub long : length cs ≡ 1024
+-- cs, which has m places, holds the sums of the n columns over the first i rows
+pub record Summed (n m i : ℕ) (xs : List Float) (cs : List Sums) : Type 0 where
+  pub fits : n ≤ m
+  pub long : length cs ≡ m
   pub column : (j : ℕ) → j < n → getD cs j [] ≡ lineSums j n i xs zeros
 
 -- the nine sums that cs holds for each of n columns are looked at

@@ -7,6 +7,7 @@ use lib.Ieee.{Float, nan, add, lt, eq, isNan, ofBits, binary64}
 use Rattle.lists.specs.Tab.{times}
 use Rattle.lists.specs.Tests.{every, some}
 use Rattle.lists.specs.Digits.{horner}
+use Rattle.tables.specs.Lengths.{setLength}
 use Rattle.lines.specs.Nine.{plusZero}
 use Rattle.places.specs.Places.{at, address}
 use Rattle.places.specs.Whole.{whole}
@@ -31,20 +32,20 @@ withBoth r x q y = set (with r x) q y
 
 -- no atoms, and no drift: a still report says rows
 none-still : driftReport [] 0 ≡ Report (record { drift = Still; along = Rows; atom = 0; k = 0; l = 0 })
-unfolding driftReport driftOf some every
+unfolding driftReport setLength driftOf some every
 none-still = refl
 
 -- 1 in blocks (0, 0) and (1, 0), at directions 1 and 2: both row sums are 1, the sum of column 0 is 2
 column-worst : driftReport (withBoth 5 one 23 one) 2 ≡ Report (record { drift = Worst two; along = Columns; atom = 0; k = 1; l = 2 })
-unfolding driftReport driftOf some every worst firstOf times sumAt lineSum rowSum columnSum entry at address horner whole absolute isZero isNan lt eq add ofBits
+unfolding driftReport setLength driftOf some every worst firstOf times sumAt lineSum rowSum columnSum entry at address horner whole absolute isZero isNan lt eq add ofBits
 column-worst = refl
 
 -- 1 in block (1, 0): row 1 and column 0 share the worst, and the row goes first
 row-first : driftReport (with 22 one) 2 ≡ Report (record { drift = Worst one; along = Rows; atom = 1; k = 1; l = 1 })
-unfolding driftReport driftOf some every worst firstOf times sumAt lineSum rowSum columnSum entry at address horner whole absolute isZero isNan lt eq add ofBits
+unfolding driftReport setLength driftOf some every worst firstOf times sumAt lineSum rowSum columnSum entry at address horner whole absolute isZero isNan lt eq add ofBits
 row-first = refl
 
 -- NaN in block (1, 0): the row goes first, although the column's atom is lower
 none-first : driftReport (withBoth 22 nan 0 two) 2 ≡ Report (record { drift = NoNumber; along = Rows; atom = 1; k = 1; l = 1 })
-unfolding driftReport driftOf some every worst firstOf times sumAt lineSum rowSum columnSum entry at address horner whole absolute isZero isNan lt eq add ofBits
+unfolding driftReport setLength driftOf some every worst firstOf times sumAt lineSum rowSum columnSum entry at address horner whole absolute isZero isNan lt eq add ofBits
 none-first = refl

@@ -13,6 +13,7 @@ use Rattle.tables.specs.declared.Answer.the-variants.{Done}
 use Rattle.tables.specs.declared.Refusal.the-variants.{CountAboveLimit, WrongLength}
 use Rattle.tables.specs.Answers.{after, refuseIf}
 use Rattle.tables.specs.Conditions.{anyAbove, anyWrong}
+use Rattle.tables.specs.Lengths.{setLength}
 use Rattle.tables.specs.Limits.{limit2, limitLevel}
 use Rattle.places.specs.Places.{atom, dir, at, fill as fillPlaces}
 use Rattle.places.specs.Whole.{whole}
@@ -61,11 +62,11 @@ oneLevel n xs = pairAverages n (withoutRowDrift n (withoutColumnDrift n xs))
 unfoldable pub symmetrized : ℕ → ℕ → List Float → List Float
 symmetrized n level xs = onSiteBlocks n (times level (λ _. oneLevel n) xs)
 
--- what is refused: more than 1,024 atoms or 1,000 levels; a set of another length than n × n × 9
+-- what is refused: more than 1,024 atoms or 1,000 levels; a set of another length than a full set's
 abbrev pub judgedFull : ℕ → ℕ → ℕ → Answer
 judgedFull len n level =
     refuseIf (anyAbove limit2 (n ∷ []) || anyAbove limitLevel (level ∷ [])) CountAboveLimit
-    (refuseIf (anyWrong ((len, n * n * 9) ∷ [])) WrongLength
+    (refuseIf (anyWrong ((len, setLength n n 1) ∷ [])) WrongLength
     Done)
 
 -- the call: what it answers, and the set that it leaves

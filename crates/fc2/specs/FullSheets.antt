@@ -8,7 +8,8 @@ use lib.Ieee.{Float, nan, add, div, neg, ofBits, binary64}
 use Rattle.lists.specs.Tab.{tab, tabFrom, times}
 use Rattle.blocks.specs.Block.{block}
 use Rattle.tables.specs.declared.Answer.the-variants.{Done}
-use Rattle.lists.specs.Digits.{horner, room, rest, digits}
+use Rattle.tables.specs.Lengths.{setLength}
+use Rattle.lists.specs.Digits.{horner, rest, digits}
 use Rattle.places.specs.Places.{address, size, legsOf, place, at, fill as fillPlaces}
 use Rattle.places.specs.Whole.{whole}
 use Rattle.lines.specs.Nine.{plusZero, half}
@@ -30,7 +31,7 @@ abbrev minusThree : Float
 minusThree = ofBits binary64 0xC008_0000_0000_0000
 
 one-atom : (level : ℕ) (xs : List Float) → symmetrized 1 level xs ≡ replicate 9 minusZero
-unfolding symmetrized onSiteBlocks fill fillPlaces whole place legsOf rest digits size room tab tabFrom offSiteSum times ofBits div neg add
+unfolding symmetrized onSiteBlocks fill fillPlaces whole place legsOf rest digits size setLength tab tabFrom offSiteSum times ofBits div neg add
 one-atom level xs = refl
 
 -- 3: one atom, any level that is not refused, whatever the set holds: nine times -0.0
@@ -42,7 +43,7 @@ fromOther : List Float → List Float
 fromOther b = nine (λ p. half (neg (add binary64 (add binary64 plusZero (getD b p nan)) (add binary64 plusZero (getD b (acrossDiagonal p) nan)))))
 
 from-other : (xs : List Float) → block 9 0 (symmetrized 2 0 xs) ≡ fromOther (block 9 1 xs)
-unfolding fromOther block symmetrized onSiteBlocks fill fillPlaces whole place legsOf rest digits size room tab tabFrom offSiteSum times entry at address horner
+unfolding fromOther block symmetrized onSiteBlocks fill fillPlaces whole place legsOf rest digits size setLength tab tabFrom offSiteSum times entry at address horner
 from-other xs = refl
 
 abbrev sheet4-given : List Float

@@ -12,6 +12,7 @@ use Rattle.tables.specs.declared.Answer.the-variants.{Done}
 use Rattle.tables.specs.declared.Refusal.the-variants.{CountAboveLimit, WrongLength}
 use Rattle.tables.specs.Answers.{isRefusal, passed, after-done, after-refusal, is-done}
 use Rattle.tables.specs.Conditions.{anyAbove, anyWrong, or-false, not-above, not-wrong}
+use Rattle.tables.specs.Lengths.{setLength, set-length2}
 use Rattle.tables.specs.Limits.{limit2, limitLevel}
 use Rattle.lines.specs.Nine.{inverse}
 use Rattle.lines.specs.Lines.{rowDrifts, Sized}
@@ -72,12 +73,12 @@ module _ (a : Answer) (xs : List Float) (n level : ℕ) (e : a ≡ judgedFull (l
   pub sized : isRefusal a ≡ false → Sized n n (length xs)
   sized h =
       let (c, r) = passed (anyAbove limit2 (n ∷ []) || anyAbove limitLevel (level ∷ [])) CountAboveLimit _ (sym e ∙ is-done a h) in
-      let (l, _) = passed (anyWrong ((length xs, n * n * 9) ∷ [])) WrongLength Done r in
+      let (l, _) = passed (anyWrong ((length xs, setLength n n 1) ∷ [])) WrongLength Done r in
       let small = not-above limit2 (n ∷ []) (or-false (anyAbove limit2 (n ∷ [])) (anyAbove limitLevel (level ∷ [])) c .0) .0 in
       record {
         few = small;
         small = small;
-        long = not-wrong ((length xs, n * n * 9) ∷ []) l .0;
+        long = not-wrong ((length xs, setLength n n 1) ∷ []) l .0 ∙ set-length2 n n;
       }
 
   pub call-refused : isRefusal a ≡ true → (a, xs) ≡ permTransSymmetrizeFc xs n level
@@ -91,5 +92,5 @@ module _ (a : Answer) (xs : List Float) (n level : ℕ) (e : a ≡ judgedFull (l
 -- a call within the limits, with a set of the stated length, is done
 pub call-within : (xs : List Float) (n level : ℕ) → n ≤ 1024 → level ≤ 1000 → length xs ≡ n * n * 9 → permTransSymmetrizeFc xs n level ≡ (Done, symmetrized n level xs)
 call-within xs n level h g e =
-    let j : judgedFull (length xs) n level ≡ Done = rw (le-ltb 1024 n h, le-ltb 1000 level g, eq-eqb (length xs) (n * n * 9) e) refl in
+    let j : judgedFull (length xs) n level ≡ Done = rw (le-ltb 1024 n h, le-ltb 1000 level g, eq-eqb (length xs) (setLength n n 1) (e ∙ sym (set-length2 n n))) refl in
     sym (call-done Done xs n level (sym j) refl)

@@ -1,6 +1,6 @@
 // The full symmetrizer of second order (fc2.rs, perm_trans_symmetrize_fc).
 use crate::columns::column_drift;
-use lines::nine::balance;
+use nines::balance;
 use places::full2;
 use tables::Answer;
 use tables::Refusal;

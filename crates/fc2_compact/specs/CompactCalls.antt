@@ -7,11 +7,11 @@ use native.Mathlib.Omega.{arith}
 use lib.Dec.{ltb}
 use lib.Ieee.{Float}
 use lib.ListN.{length, replicate}
-use Rattle.lists.specs.Digits.{room}
 use Rattle.tables.specs.declared.Answer.{Answer}
 use Rattle.tables.specs.declared.Answer.the-variants.{Done}
 use Rattle.tables.specs.declared.Refusal.the-variants.{CountAboveLimit}
 use Rattle.tables.specs.Answers.{isRefusal, after, is-done, after-refusal, after-done, passed}
+use Rattle.tables.specs.Lengths.{set-length2}
 use Rattle.tables.specs.Limits.{limit2, limitLevel}
 use Rattle.tables.specs.Compact.{ShiftTables, shiftsOf, done-compact}
 use Rattle.fc2_passes.specs.Passes.{transposed, averaged}
@@ -20,13 +20,9 @@ use Rattle.fc2_passes.specs.Code.{Ready}
 
 -- a call that is not refused has what its work asks
 pub ready-of : (l : List Float) (T : ShiftTables) (w : List ℕ) → judged2 l T w ≡ Done → Ready T (length l)
-unfolding room
 ready-of l T w e =
     let C = done-compact limit2 1 (length l) 1 (length w) T e in
-    record { fit = C .fit; rules = C .rules; has = C .set-length ∙ nine (T .nPatom) (T .nSatom) }
-  where
-    nine : (p n : ℕ) → p * n * 3 * 3 ≡ p * n * 9
-    nine p n = omega arith
+    record { fit = C .fit; rules = C .rules; has = C .set-length ∙ set-length2 (T .nPatom) (T .nSatom) }
 
 -- what a call leaves that is refused, and one that is done
 module _ {A B : Type 0} {a b : Answer} (new old : A) (clear work : B) where

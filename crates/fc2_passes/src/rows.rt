@@ -7,7 +7,7 @@ ghost use Rattle.tables.specs.Shifts.{p2sAt};
 ghost use Rattle.tables.specs.Compact.{shiftTables, shiftsOf};
 ghost use Rattle.fc2_passes.specs.Passes.{withoutRowDrift, onSite};
 ghost use Rattle.fc2_passes.specs.Code.{Ready};
-use lines::nine::balance;
+use nines::balance;
 use tables::atoms::PrimAtom;
 use tables::atoms::p2s_at;
 

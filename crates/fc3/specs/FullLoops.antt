@@ -10,7 +10,7 @@ use mathlib.Core.List.{List, [], _∷_}
 use lib.ListN.{length}
 use lib.Ieee.{Float, nan}
 use borrow.Author.Tests.{lt-ltb, le-ltb, eq-eqb, ne-eqb}
-use Rattle.lists.specs.Tab.{times, times-add, times-nest, times-same, times-idle, times-tail, times-head, times-both, times-swap}
+use Rattle.lists.specs.Tab.{times, times-add, times-nest, times-idle, times-tail, times-head, times-both, times-swap}
 use Rattle.lists.specs.Elements.{All, pick}
 use Rattle.lists.specs.Digits.{horner, room, in-row}
 use Rattle.lists.specs.Members.{In}
@@ -20,6 +20,7 @@ use Rattle.tables.specs.declared.Answer.the-variants.{Done, Refused}
 use Rattle.tables.specs.declared.Refusal.the-variants.{CountAboveLimit, WrongLength}
 use Rattle.tables.specs.Answers.{isRefusal, after, is-done, passed, after-refusal, after-done}
 use Rattle.tables.specs.Conditions.{not-above, not-wrong}
+use Rattle.tables.specs.Lengths.{setLength, set-length3}
 use Rattle.places.specs.Places.{size}
 use Rattle.places.specs.Permutations.{six, six-group}
 use Rattle.places.specs.Whole.{whole, whole-laws, size-whole}
@@ -30,7 +31,7 @@ use Rattle.orbits.specs.Groups.{groupBlocks, meanBlock, spreadBlock, Distinct}
 use Rattle.orbits.specs.Symmetric.{symmetrized}
 use Rattle.orbits.specs.GroupLoop.{worked, firstVisit, isFirst, visit-first, visit-later, lowest-leaves}
 use Rattle.orbits.proofs.AnyOrder.{visits-commute}
-use Rattle.fc3_groups.specs.Mean.{mean6, Blocks6}
+use Rattle.fc3_means.specs.Mean.{mean6, Blocks6}
 use Rattle.fc3_groups.specs.Repeated.{FirstTwo, LastTwo}
 use Rattle.fc3.specs.Loops.{plain3, six-same}
 use Rattle.fc3.specs.Symmetrize.{judgedFull3, setPermutationSymmetryFc3}
@@ -157,13 +158,13 @@ module _ (n a b c : ℕ) (ha : a < n) (hb : b < n) (hc : c < n) where
 unfoldable pub groupAt : ℕ → ℕ → ℕ → ℕ → List Float → List Float
 groupAt n a b c = worked mean6 2 six (whole n) (full3At n a b c)
 
--- the groups of b and c with the atoms from, .., to - 1
-unfoldable pub bunchOf : ℕ → ℕ → ℕ → ℕ → ℕ → List Float → List Float
-bunchOf n from to b c xs = times (to - from) (λ i. groupAt n (from + i) b c) xs
+-- the groups of a and b with each c from b on
+unfoldable pub lineOf : ℕ → ℕ → ℕ → List Float → List Float
+lineOf n a b xs = times (n - b) (λ i. groupAt n a b (b + i)) xs
 
--- the same with each c from b on
+-- the same with the first atoms from, .., to - 1
 unfoldable pub rowOf : ℕ → ℕ → ℕ → ℕ → List Float → List Float
-rowOf n from to b xs = times (n - b) (λ i. bunchOf n from to b (b + i)) xs
+rowOf n from to b xs = times (to - from) (λ i. lineOf n (from + i) b) xs
 
 -- the same with each b; of the atoms only those up to b
 unfoldable pub tileOf : ℕ → ℕ → ℕ → List Float → List Float
@@ -196,7 +197,7 @@ module _ (n : ℕ) where
       let g = group-six n a b c ha hb (omega arith) in
       visit-later mean6 2 six (whole n) (full3At n a b c) (full3At n a c b) xs (rw g (inr (inl refl))) (last-lt n c b a hb h)
 
-  -- ---- the atoms of a tile may be taken last
+  -- ---- the atoms of a tile may be taken after b
 
   commute : (p q : ℕ) → p < n * n * n → q < n * n * n → (xs : List Float) → visitAt n p (visitAt n q xs) ≡ visitAt n q (visitAt n p xs)
   commute p q hp hq xs = unfold whole room in visits-commute mean6 (whole n) (whole-laws n) 2 six six-group p q hp hq xs
@@ -212,40 +213,37 @@ module _ (n : ℕ) where
     in-tile : (i b c : ℕ) → i < to - from → b < n → c < n → full3At n (from + i) b c < n * n * n
     in-tile i b c hi hb hc = at-below (from + i) b c (omega arith) hb hc
 
-    inner-last : (xs : List Float) → times (to - from) (λ i. slabOf n (from + i)) xs ≡ times n (λ b. times n (λ c. times (to - from) (λ i. at i b c))) xs
+    b-first : (xs : List Float) → times (to - from) (λ i. slabOf n (from + i)) xs ≡ times n (λ b. times (to - from) (λ i. times n (λ c. at i b c))) xs
     unfolding slabOf
-    inner-last xs =
-        let m = to - from in
-        times-swap m n (λ i b. times n (λ c. at i b c)) xs
+    b-first xs =
+        times-swap (to - from) n (λ i b. times n (λ c. at i b c)) xs
         (λ i b k d hi hb hk hd ys. times-both n n (λ c. at i b c) (λ c. at k d c) ys (λ c e hc he zs. commute (full3At n (from + i) b c) (full3At n (from + k) d e) (in-tile i b c hi hb hc) (in-tile k d e hk hd he) zs))
-        ∙ times-same n (λ b. times m (λ i. times n (λ c. at i b c))) (λ b. times n (λ c. times m (λ i. at i b c))) xs (λ b hb ys.
-        times-swap m n (λ i c. at i b c) ys (λ i c k e hi hc hk he zs. commute (full3At n (from + i) b c) (full3At n (from + k) b e) (in-tile i b c hi hb hc) (in-tile k b e hk hb he) zs))
 
     -- and of all visits only those of sorted atoms do anything
-    all-bunch : (b c : ℕ) → from ≤ b → b ≤ c → c < n → (xs : List Float) → times (to - from) (λ i. at i b c) xs ≡ bunchOf n from (min to (b + 1)) b c xs
-    unfolding bunchOf
-    all-bunch b c h l hc xs =
-        times-head (min to (b + 1) - from) (to - from) (λ i. at i b c) (λ i. groupAt n (from + i) b c) xs (omega arith)
-        (λ i g hi ys. at-first-above (from + i) b c (omega arith) (omega arith) hc ys) (λ i hi ys. at-sorted (from + i) b c (record { ab = omega arith; bc = l; last = hc }) ys)
+    all-line : (a b : ℕ) → a ≤ b → b < n → (xs : List Float) → times n (λ c. visitAt n (full3At n a b c)) xs ≡ lineOf n a b xs
+    unfolding lineOf
+    all-line a b h hb xs =
+        times-tail b n (λ c. visitAt n (full3At n a b c)) (λ c. groupAt n a b c) xs (omega arith)
+        (λ c hc ys. at-last-above a b c hc (omega arith) hb ys) (λ c l hc ys. at-sorted a b c (record { ab = h; bc = l; last = hc }) ys)
 
-    all-row : (b : ℕ) → from ≤ b → b < n → (xs : List Float) → times n (λ c. times (to - from) (λ i. at i b c)) xs ≡ rowOf n from (min to (b + 1)) b xs
+    all-row : (b : ℕ) → from ≤ b → b < n → (xs : List Float) → times (to - from) (λ i. times n (λ c. at i b c)) xs ≡ rowOf n from (min to (b + 1)) b xs
     unfolding rowOf
     all-row b h hb xs =
-        times-tail b n (λ c. times (to - from) (λ i. at i b c)) (λ c. bunchOf n from (min to (b + 1)) b c) xs (omega arith)
-        (λ c hc ys. times-idle (to - from) (λ i. at i b c) ys (λ i hi zs. at-last-above (from + i) b c hc (omega arith) hb zs)) (λ c l hc ys. all-bunch b c h l hc ys)
+        times-head (min to (b + 1) - from) (to - from) (λ i. times n (λ c. at i b c)) (λ i. lineOf n (from + i) b) xs (omega arith)
+        (λ i g hi ys. times-idle n (λ c. at i b c) ys (λ c hc zs. at-first-above (from + i) b c (omega arith) (omega arith) hc zs)) (λ i hi ys. all-line (from + i) b (omega arith) hb ys)
 
-    all-tile : (xs : List Float) → times n (λ b. times n (λ c. times (to - from) (λ i. at i b c))) xs ≡ tileOf n from to xs
+    all-tile : (xs : List Float) → times n (λ b. times (to - from) (λ i. times n (λ c. at i b c))) xs ≡ tileOf n from to xs
     unfolding tileOf
     all-tile xs =
-        times-tail from n (λ b. times n (λ c. times (to - from) (λ i. at i b c))) (λ b. rowOf n from (min to (b + 1)) b) xs (omega arith)
-        (λ b hb ys. times-idle n (λ c. times (to - from) (λ i. at i b c)) ys (λ c hc zs. times-idle (to - from) (λ i. at i b c) zs (λ i hi ws. at-first-above (from + i) b c (omega arith) (omega arith) hc ws)))
+        times-tail from n (λ b. times (to - from) (λ i. times n (λ c. at i b c))) (λ b. rowOf n from (min to (b + 1)) b) xs (omega arith)
+        (λ b hb ys. times-idle (to - from) (λ i. times n (λ c. at i b c)) ys (λ i hi zs. times-idle n (λ c. at i b c) zs (λ c hc ws. at-first-above (from + i) b c (omega arith) (omega arith) hc ws)))
         (λ b l hb ys. all-row b l hb ys)
 
     -- one tile more
     pub tile-more : (x : List Float) {y z : List Float} → y ≡ times from (slabOf n) x → z ≡ tileOf n from to y → z ≡ times to (slabOf n) x
     tile-more x e f =
         let t : from + (to - from) ≡ to = omega arith in
-        f ∙ ap (tileOf n from to) e ∙ sym (inner-last (times from (slabOf n) x) ∙ all-tile (times from (slabOf n) x))
+        f ∙ ap (tileOf n from to) e ∙ sym (b-first (times from (slabOf n) x) ∙ all-tile (times from (slabOf n) x))
         ∙ sym (times-add from (to - from) (slabOf n) x) ∙ ap (λ k. times k (slabOf n) x) t
 
   -- THE LOOPS OVER SORTED ATOMS LEAVE THE SYMMETRIZED SET
@@ -291,11 +289,11 @@ module _ {n a b c : ℕ} (s : Sorted n a b c) {b0 b1 b2 b3 b4 b5 : ℕ} (F : Fou
         in5 = at b5 (F .cba) (block-below n n c (b ∷ a ∷ []) hc (hb, (ha, tt)));
       }
     where
-      in-set : (q : ℕ) → q < room n 2 n → q * 27 + 27 ≤ room 3 3 (room n 2 n)
+      in-set : (q : ℕ) → q < room n 2 n → q * 27 + 27 ≤ n * n * n * 27
       in-set q h = unfold room in omega arith
 
       at : (q : ℕ) {k : ℕ} → q ≡ k → k < room n 2 n → q * 27 + 27 ≤ lenSet
-      at q {k} e h = rw (R .set-length, size-whole n 2) (in-set q (rw e h))
+      at q {k} e h = rw (R .set-length ∙ size-whole n 2 ∙ set-length3 n n) (in-set q (rw e h))
 
   -- three blocks in rising order
   rise : (x y z : ℕ) → x < y → y < z → Distinct (x ∷ y ∷ z ∷ [])
@@ -342,12 +340,6 @@ small3 n h =
     let h3 : n * n * n ≤ 256 * 256 * 256 = mul-le-mul h2 h in
     (omega arith, omega arith)
 
-full-size : (n : ℕ) → size (whole n) 2 ≡ n * n * n * 27
-full-size n = size-whole n 2 ∙ go n
-  where
-    go : (n : ℕ) → room 3 3 (room n 2 n) ≡ n * n * n * 27
-    go n = unfold room in omega arith
-
 -- the guard by its two tests
 module _ (lenSet n : ℕ) where
   pub judged-above : limit3 < n → Refused CountAboveLimit ≡ judgedFull3 lenSet n
@@ -356,11 +348,11 @@ module _ (lenSet n : ℕ) where
 
   pub judged-wrong : n ≤ limit3 → (lenSet ≡ n * n * n * 27 → ⊥) → Refused WrongLength ≡ judgedFull3 lenSet n
   unfolding judgedFull3
-  judged-wrong h d = simp (le-ltb _ _ h, ne-eqb _ _ d)
+  judged-wrong h d = simp (le-ltb _ _ h, set-length3 n n, ne-eqb _ _ d)
 
   pub judged-done : n ≤ limit3 → lenSet ≡ n * n * n * 27 → Done ≡ judgedFull3 lenSet n
   unfolding judgedFull3
-  judged-done h e = simp (le-ltb _ _ h, eq-eqb _ _ e)
+  judged-done h e = simp (le-ltb _ _ h, set-length3 n n, eq-eqb _ _ e)
 
 module _ (set : List Float) (n : ℕ) (a : Answer) (e : a ≡ judgedFull3 (length set) n) where
   -- what the call leaves, by the guard's answer
@@ -377,8 +369,8 @@ module _ (set : List Float) (n : ℕ) (a : Answer) (e : a ≡ judgedFull3 (lengt
       let (q1, e1) = passed _ _ _ (sym e ∙ is-done a r) in
       let (q2, e2) = passed _ _ _ e1 in
       let (h, _) = not-above limit3 (n ∷ []) q1 in
-      let (ls, _) = not-wrong ((length set, n * n * n * 27) ∷ []) q2 in
-      record { atoms = h; set-length = ls ∙ sym (full-size n) }
+      let (ls, _) = not-wrong ((length set, setLength n n 2) ∷ []) q2 in
+      record { atoms = h; set-length = ls ∙ sym (size-whole n 2) }
 
   pub full-done : isRefusal a ≡ false → {new : List Float} → new ≡ slabsOf n set → _≡_ {A = Answer × List Float} (Done, new) (setPermutationSymmetryFc3 set n)
   unfolding setPermutationSymmetryFc3

@@ -20,6 +20,7 @@ use Rattle.tables.specs.declared.Answer.the-variants.{Done}
 use Rattle.tables.specs.Answers.{isRefusal, after, is-done, refused-call, done-call}
 use Rattle.tables.specs.Conditions.{Readable, indexAt, read}
 use Rattle.tables.specs.Compact.{ShiftTables, shiftsOf, Compact, judgedCompact, done-compact, p2s-is}
+use Rattle.tables.specs.Lengths.{setLength, set-length3}
 use Rattle.places.specs.Places.{size}
 use Rattle.places.specs.Permutations.{six, six-group}
 use Rattle.places.specs.Addresses.{storedBlock, fits3, block-below}
@@ -30,7 +31,7 @@ use Rattle.orbits.specs.Groups.{groupBlocks, meanBlock, spreadBlock}
 use Rattle.orbits.specs.Spread.{setAll}
 use Rattle.orbits.specs.Symmetric.{symmetrized}
 use Rattle.orbits.specs.GroupLoop.{State, worked, markedVisit, marked-leaves}
-use Rattle.fc3_groups.specs.Mean.{mean6, Blocks6}
+use Rattle.fc3_means.specs.Mean.{mean6, Blocks6}
 use Rattle.fc3.specs.Symmetrize.{setPermutationSymmetryCompactFc3}
 
 -- a compact set of third order that passed the guard, and a work slice of k atoms' places
@@ -94,9 +95,9 @@ module _ (lenSet w lenWork : ℕ) (T : ShiftTables) (R : Ready lenSet w lenWork 
   -- what the set's length says of a block
   pub block-in : (b : ℕ) → b < room (T .nSatom) 2 (T .nPatom) → b * 27 + 27 ≤ lenSet
   unfolding room
-  block-in b h = rw (R .set-length) (go b h)
+  block-in b h = rw (R .set-length ∙ set-length3 (T .nPatom) (T .nSatom)) (go b h)
     where
-      go : (b : ℕ) → b < T .nPatom * T .nSatom * T .nSatom → b * 27 + 27 ≤ T .nPatom * T .nSatom * T .nSatom * 3 * 3 * 3
+      go : (b : ℕ) → b < T .nPatom * T .nSatom * T .nSatom → b * 27 + 27 ≤ T .nPatom * T .nSatom * T .nSatom * 27
       go b h = omega arith
 
   module _ (p j k : ℕ) (a : Atoms T p j k) where
@@ -253,7 +254,7 @@ symmetrizes lenSet lenWork T R old done lo ld z =
     ap (λ s. s .0) (one-loop T (old, done))
     ∙ marked-leaves mean6 (shiftsOf T) (R .rules) 2 six six-group old done (lo ∙ R .set-length ∙ sized T) (ld ∙ R .work-length) (λ b h. z b (rw (R .work-length) h))
   where
-    sized : (T : ShiftTables) → room 3 3 (room (T .nSatom) 2 (T .nPatom)) ≡ size (shiftsOf T) 2
+    sized : (T : ShiftTables) → setLength (T .nPatom) (T .nSatom) 2 ≡ size (shiftsOf T) 2
     sized T = unfold size in refl
 
 -- ---- the call

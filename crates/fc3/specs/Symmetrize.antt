@@ -1,6 +1,6 @@
 -- The symmetrizers of third order (document 01, "Third and fourth order"): what the calls answer and what they leave. Definitions only.
 use mathlib.Core.List.{List, [], _∷_}
-use Prim.Native.Nat.{ℕ, _*_}
+use Prim.Native.Nat.{ℕ}
 use lib.ListN.{length, replicate}
 use lib.Ieee.{Float, nan}
 use Rattle.tables.specs.declared.Answer.{Answer}
@@ -9,21 +9,22 @@ use Rattle.tables.specs.declared.Refusal.the-variants.{CountAboveLimit, WrongLe
 use Rattle.tables.specs.Answers.{after, refuseIf}
 use Rattle.tables.specs.Conditions.{anyAbove, anyWrong}
 use Rattle.tables.specs.Compact.{ShiftTables, shiftsOf, judgedCompact}
+use Rattle.tables.specs.Lengths.{setLength}
 use Rattle.tables.specs.Limits.{limit3}
 use Rattle.places.specs.Places.{six, whole}
 use Rattle.orbits.specs.Symmetric.{symmetrized, mean6}
 
--- the compact set: n_patom × n_satom² × 27 numbers, n_patom × n_satom² bytes of work
+-- the compact set, with a byte of work for each block
 unfoldable pub setPermutationSymmetryCompactFc3 : List Float → ShiftTables → List ℕ → Answer × List Float × List ℕ
 setPermutationSymmetryCompactFc3 set T work =
     let a = judgedCompact limit3 2 (length set) 2 (length work) T in
     (a, after a (symmetrized nan mean6 (shiftsOf T) 2 six set) set, after a (replicate (length work) 0) work)
 
--- the guard of a full set: num_atom³ × 27 numbers
+-- the guard of a full set
 unfoldable pub judgedFull3 : ℕ → ℕ → Answer
 judgedFull3 lenSet n =
     refuseIf (anyAbove limit3 (n ∷ [])) CountAboveLimit
-    (refuseIf (anyWrong ((lenSet, n * n * n * 27) ∷ [])) WrongLength Done)
+    (refuseIf (anyWrong ((lenSet, setLength n n 2) ∷ [])) WrongLength Done)
 
 -- the full set: a compact set in which each atom is its own representative
 unfoldable pub setPermutationSymmetryFc3 : List Float → ℕ → Answer × List Float

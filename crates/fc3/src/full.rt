@@ -1,11 +1,12 @@
 // The symmetrizer of a full set. Its groups are those of atoms a <= b <= c: the block of the sorted atoms is the first of a group in loop order.
-// The groups of four first atoms are taken together, because their blocks lie side by side; no two groups share a number, so that their order makes no difference.
+// The groups of eight first atoms are taken together, one line of last atoms after another: what is fetched for one of them serves the next, whose
+// blocks lie beside or near. No two groups share a number, so that their order makes no difference.
 ghost use mathlib.Core.Path.{_≡_};
 ghost use mathlib.Core.Bool.{true};
 ghost use Prim.Native.Nat.{_+_, _<_, _≤_, min};
 ghost use lib.ListN.{length};
 ghost use Rattle.fc3.specs.Symmetrize.{judgedFull3, setPermutationSymmetryFc3};
-ghost use Rattle.fc3.specs.FullLoops.{FullReady, Sorted, groupAt, bunchOf, rowOf, tileOf, slabsOf};
+ghost use Rattle.fc3.specs.FullLoops.{FullReady, Sorted, groupAt, lineOf, rowOf, tileOf, slabsOf};
 use fc3_groups::spread::work_known;
 use places::full3;
 use tables::Answer;
@@ -72,27 +73,28 @@ fn full_group(fc3: &mut [f64], num_atom: usize, a: SuperAtom, b: SuperAtom, c: S
     );
 }
 
-// The groups of b and c with the atoms from, .., to - 1. Their blocks (b, c, a) and (c, b, a) lie side by side.
-fn full_bunch(fc3: &mut [f64], num_atom: usize, from: usize, to: usize, b: SuperAtom, c: SuperAtom)
-    requires { ⌜ FullReady (length (now fc3)) «num_atom» × (from ≤ to) × (to ≤ b .0 + 1) × (b .0 ≤ c .0) × (c .0 < «num_atom») ⌝ }
-    ensures { λ _. ⌜ now (fc3 .exit) ≡ bunchOf «num_atom» from to (b .0) (c .0) (now (fc3 .entry)) ⌝ }
+// The groups of a and b with each c from b on. Block after block the blocks (a, b, c) and (b, a, c) lie side by side, and the others as far apart
+// as those before.
+fn full_line(fc3: &mut [f64], num_atom: usize, a: SuperAtom, b: SuperAtom)
+    requires { ⌜ FullReady (length (now fc3)) «num_atom» × (a .0 ≤ b .0) × (b .0 < «num_atom») ⌝ }
+    ensures { λ _. ⌜ now (fc3 .exit) ≡ lineOf «num_atom» (a .0) (b .0) (now (fc3 .entry)) ⌝ }
 {
-    let mut a = from;
-    while a < to {
-        full_group(fc3, num_atom, SuperAtom(a), b, c);
-        a += 1;
+    let mut c = b.0;
+    while c < num_atom {
+        full_group(fc3, num_atom, a, b, SuperAtom(c));
+        c += 1;
     }
 }
 
-// The same with each c from b on.
+// The same with the first atoms from, .., to - 1.
 fn full_row(fc3: &mut [f64], num_atom: usize, from: usize, to: usize, b: SuperAtom)
     requires { ⌜ FullReady (length (now fc3)) «num_atom» × (from ≤ to) × (to ≤ b .0 + 1) × (b .0 < «num_atom») ⌝ }
     ensures { λ _. ⌜ now (fc3 .exit) ≡ rowOf «num_atom» from to (b .0) (now (fc3 .entry)) ⌝ }
 {
-    let mut c = b.0;
-    while c < num_atom {
-        full_bunch(fc3, num_atom, from, to, b, SuperAtom(c));
-        c += 1;
+    let mut a = from;
+    while a < to {
+        full_line(fc3, num_atom, SuperAtom(a), b);
+        a += 1;
     }
 }
 
@@ -120,14 +122,14 @@ fn full_tile(fc3: &mut [f64], num_atom: usize, from: usize, to: usize)
     }
 }
 
-// All groups, in tiles of four first atoms.
+// All groups, in tiles of eight first atoms.
 fn full_tiles(fc3: &mut [f64], num_atom: usize)
     requires { ⌜ FullReady (length (now fc3)) «num_atom» ⌝ }
     ensures { λ _. ⌜ now (fc3 .exit) ≡ slabsOf «num_atom» (now (fc3 .entry)) ⌝ }
 {
     let mut from = 0;
     while from < num_atom {
-        let next = from + 4;
+        let next = from + 8;
         let to = lower(next, num_atom);
         full_tile(fc3, num_atom, from, to);
         from = to;

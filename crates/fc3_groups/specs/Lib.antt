@@ -1,4 +1,2 @@
-pub mod Mean
-pub mod Spread
-pub mod Coinciding
+pub mod Again
 pub mod Repeated

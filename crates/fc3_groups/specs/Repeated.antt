@@ -17,15 +17,9 @@ use Rattle.places.specs.Permutations.{six}
 use Rattle.orbits.specs.Blockwise.{inBlock}
 use Rattle.orbits.specs.Groups.{spots, spreadBlock, Distinct}
 use Rattle.orbits.specs.Spread.{setAll}
-use Rattle.fc3_groups.specs.Mean.{Blocks6}
-use Rattle.fc3_groups.specs.Coinciding.{Six, flat, length-flat, firstAt, copySix, slots-in, group-put}
-
--- the later one of positions (l, m, n) and (m, l, n), and of (l, m, n) and (l, n, m)
-abbrev pub laterMln : List ℕ
-laterMln = 0 ∷ 1 ∷ 2 ∷ 9 ∷ 10 ∷ 11 ∷ 18 ∷ 19 ∷ 20 ∷ 9 ∷ 10 ∷ 11 ∷ 12 ∷ 13 ∷ 14 ∷ 21 ∷ 22 ∷ 23 ∷ 18 ∷ 19 ∷ 20 ∷ 21 ∷ 22 ∷ 23 ∷ 24 ∷ 25 ∷ 26 ∷ []
-
-abbrev pub laterLnm : List ℕ
-laterLnm = 0 ∷ 3 ∷ 6 ∷ 3 ∷ 4 ∷ 7 ∷ 6 ∷ 7 ∷ 8 ∷ 9 ∷ 12 ∷ 15 ∷ 12 ∷ 13 ∷ 16 ∷ 15 ∷ 16 ∷ 17 ∷ 18 ∷ 21 ∷ 24 ∷ 21 ∷ 22 ∷ 25 ∷ 24 ∷ 25 ∷ 26 ∷ []
+use Rattle.fc3_means.specs.Mean.{Blocks6}
+use Rattle.fc3_means.specs.Later.{laterMln, laterLnm}
+use Rattle.fc3_spots.specs.Coinciding.{Six, flat, length-flat, firstAt, copySix, slots-in, group-put}
 
 -- the six blocks of atoms of which the first two are the same, or the last two: three blocks that differ
 abbrev pub FirstTwo : ℕ → ℕ → ℕ → ℕ → ℕ → ℕ → Type 0

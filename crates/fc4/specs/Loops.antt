@@ -19,6 +19,7 @@ use Rattle.tables.specs.declared.Refusal.the-variants.{CountAboveLimit, WrongLe
 use Rattle.tables.specs.Answers.{isRefusal, after, is-done, passed, refused-call, done-call}
 use Rattle.tables.specs.Conditions.{not-above, not-wrong}
 use Rattle.tables.specs.Compact.{ShiftTables, shiftsOf, Compact, judgedCompact, done-compact}
+use Rattle.tables.specs.Lengths.{setBlocks, setLength, block-rooms}
 use Rattle.places.specs.Places.{size}
 use Rattle.places.specs.Permutations.{twentyFour, twentyFour-group}
 use Rattle.places.specs.Whole.{whole, whole-laws, size-whole}
@@ -128,17 +129,6 @@ pub record FullReady (lenSet lenWork n : ℕ) : Type 0 where
   pub set-length : lenSet ≡ size (whole n) 3
   pub work-length : lenWork ≡ room n 3 n
 
--- its lengths, spelled out
-pub full-blocks : (n : ℕ) → room n 3 n ≡ n * n * n * n
-unfolding room
-full-blocks n = refl
-
-full-size : (n : ℕ) → size (whole n) 3 ≡ n * n * n * n * 81
-full-size n = size-whole n 3 ∙ go n
-  where
-    go : (n : ℕ) → room 3 4 (room n 3 n) ≡ n * n * n * n * 81
-    go n = unfold room in omega arith
-
 pub full-takes : {lenSet lenWork n : ℕ} → FullReady lenSet lenWork n → (b : ℕ) → b < lenWork → {bs : List ℕ} → bs ≡ groupBlocks (whole n) 3 twentyFour b → Blocks24 lenSet bs × Marks24 lenWork bs
 unfolding whole
 full-takes {lenSet} {lenWork} {n} R b h e = takes (whole n) lenSet lenWork b (whole-laws n) (R .set-length) (R .work-length) h e
@@ -167,8 +157,8 @@ module _ (set : List Float) (work : List ℕ) (n : ℕ) (a : Answer) (e : a ≡ 
       let (q1, e1) = passed _ _ _ (sym e ∙ is-done a r) in
       let (q2, e2) = passed _ _ _ e1 in
       let (h, _) = not-above limit4 (n ∷ []) q1 in
-      let (ls, (lw, _)) = not-wrong ((length set, n * n * n * n * 81) ∷ ((length work, n * n * n * n) ∷ [])) q2 in
-      record { atoms = h; set-length = ls ∙ sym (full-size n); work-length = lw ∙ sym (full-blocks n) }
+      let (ls, (lw, _)) = not-wrong ((length set, setLength n n 3) ∷ ((length work, setBlocks n n 3) ∷ [])) q2 in
+      record { atoms = h; set-length = ls ∙ sym (size-whole n 3); work-length = lw ∙ block-rooms n n 3 }
 
   pub full-done : isRefusal a ≡ false → {cleared marked clear : List ℕ} {new : List Float}
       → cleared ≡ replicate (length work) 0 → _≡_ {A = State} (new, marked) (times (length cleared) (visitAt (whole n)) (set, cleared)) → clear ≡ replicate (length marked) 0 → length marked ≡ length cleared

@@ -14,7 +14,6 @@ use lib.Ieee.{Float, nan}
 use Rattle.lists.specs.Tab.{tab, tabFrom}
 use Rattle.lists.specs.Tests.{every, some}
 use Rattle.lists.specs.Elements.{pick, straight}
-use Rattle.lists.specs.Digits.{room}
 use Rattle.tables.specs.declared.Answer.the-variants.{Done, Refused}
 use Rattle.tables.specs.declared.Refusal.the-variants.{WrongLength, IndexOutOfRange}
 use Rattle.tables.specs.Answers.{isRefusal}
@@ -22,10 +21,11 @@ use Rattle.tables.specs.Conditions.{outOfRange}
 use Rattle.tables.specs.Shifts.{row, p2sAt, s2ppAt, nsymAt, distinct, isNull, isAfter, follows, countsAgree, rowsInjective, hasNull, rowsClosed, rowsFree, p2sBack, s2ppKept, nsymLands, ruled, NoHalfShift}
 use Rattle.tables.specs.Limits.{limit3, limit4}
 use Rattle.tables.specs.Compact.{shiftsOf, judgedEntries, judgedTables, judgedCompact}
+use Rattle.tables.specs.Lengths.{setLength, setBlocks}
 use Rattle.places.specs.Places.{Leg, Legs, readOut, size}
 use Rattle.places.specs.Permutations.{taken, six, twentyFour}
 use Rattle.places.specs.Moves.{order}
-use Rattle.fc3_groups.specs.Mean.{mean6}
+use Rattle.fc3_means.specs.Mean.{mean6}
 use Rattle.fc3.specs.Symmetrize.{setPermutationSymmetryCompactFc3}
 use Rattle.fc4_groups.specs.Mean24.{mean24}
 use Rattle.fc4.specs.Symmetrize.{setPermutationSymmetryCompactFc4}
@@ -44,11 +44,11 @@ use Rattle.laws.specs.Sheets.{threeAtoms, twoAtoms}
 
 -- the tables pass with sets of 1 × 3² × 27 and 1 × 3³ × 81 numbers
 pass3 : judgedCompact limit3 2 243 2 9 threeAtoms ≡ Done
-unfolding judgedCompact room judgedTables judgedEntries outOfRange ruled countsAgree rowsInjective hasNull rowsClosed rowsFree p2sBack s2ppKept nsymLands distinct isNull isAfter follows row p2sAt s2ppAt nsymAt every some
+unfolding judgedCompact setLength setBlocks judgedTables judgedEntries outOfRange ruled countsAgree rowsInjective hasNull rowsClosed rowsFree p2sBack s2ppKept nsymLands distinct isNull isAfter follows row p2sAt s2ppAt nsymAt every some
 pass3 = refl
 
 pass4 : judgedCompact limit4 3 2187 3 27 threeAtoms ≡ Done
-unfolding judgedCompact room judgedTables judgedEntries outOfRange ruled countsAgree rowsInjective hasNull rowsClosed rowsFree p2sBack s2ppKept nsymLands distinct isNull isAfter follows row p2sAt s2ppAt nsymAt every some
+unfolding judgedCompact setLength setBlocks judgedTables judgedEntries outOfRange ruled countsAgree rowsInjective hasNull rowsClosed rowsFree p2sBack s2ppKept nsymLands distinct isNull isAfter follows row p2sAt s2ppAt nsymAt every some
 pass4 = refl
 
 done3 : (set : List Float) (work : List ℕ) → length set ≡ 243 → length work ≡ 9 → setPermutationSymmetryCompactFc3 set threeAtoms work .0 ≡ Done
@@ -91,7 +91,7 @@ three-atoms-met (suc (suc zero)) ht h a ha = absurd (suc-ne-zero 0 (h 0 (lit< tt
 three-atoms-met (suc (suc (suc t))) ht h a ha = omega arith
 
 answers : (judgedTranspose 243 3 threeAtoms ≡ Done) × (judgedTranspose 243 3 twoAtoms ≡ Refused WrongLength)
-unfolding judgedCompact room judgedTables judgedEntries outOfRange ruled countsAgree rowsInjective hasNull rowsClosed rowsFree p2sBack s2ppKept nsymLands distinct isNull isAfter follows row p2sAt s2ppAt nsymAt every some
+unfolding judgedCompact setLength setBlocks judgedTables judgedEntries outOfRange ruled countsAgree rowsInjective hasNull rowsClosed rowsFree p2sBack s2ppKept nsymLands distinct isNull isAfter follows row p2sAt s2ppAt nsymAt every some
 answers = (refl, refl)
 
 module _ (set : List Float) (work : List ℕ) (e : length set ≡ 243) (f : length work ≡ 3) where
@@ -103,7 +103,7 @@ module _ (set : List Float) (work : List ℕ) (e : length set ≡ 243) (f : leng
   own = ((λ _. refl), ((λ r. absurd (true≢false (sym (second-refused (pos 1)) ∙ r))), ((λ _. refl), ((λ _. refl), tt))))
 
   size-is : length set ≡ size (shiftsOf threeAtoms) 2
-  unfolding size room
+  unfolding size setLength
   size-is = e
 
   pub law-holds : Law threeAtoms set (fourCalls work)
@@ -135,7 +135,7 @@ trueCalls work =
     ∷ record { type = pos 2; tables = twoAtoms; work = work } ∷ []
 
 true-answers : (judgedCompact limit3 2 108 1 2 twoAtoms ≡ Done) × (judgedCompact limit3 2 108 1 2 threeAtoms ≡ Refused WrongLength)
-unfolding judgedCompact room judgedTables judgedEntries outOfRange ruled countsAgree rowsInjective hasNull rowsClosed rowsFree p2sBack s2ppKept nsymLands distinct isNull isAfter follows row p2sAt s2ppAt nsymAt every some
+unfolding judgedCompact setLength setBlocks judgedTables judgedEntries outOfRange ruled countsAgree rowsInjective hasNull rowsClosed rowsFree p2sBack s2ppKept nsymLands distinct isNull isAfter follows row p2sAt s2ppAt nsymAt every some
 true-answers = (refl, refl)
 
 module _ (set : List Float) (work : List ℕ) (e : length set ≡ 108) (f : length work ≡ 2) where
@@ -149,7 +149,7 @@ module _ (set : List Float) (work : List ℕ) (e : length set ≡ 108) (f : leng
   true-own = ((λ _. refl), ((λ r. absurd (true≢false (sym true-refused ∙ r))), ((λ _. refl), tt)))
 
   true-size : length set ≡ size (shiftsOf twoAtoms) 2
-  unfolding size room
+  unfolding size setLength
   true-size = e
 
   pub true-law-holds : lists.Law trueThird twoAtoms set (trueCalls work)
@@ -177,7 +177,7 @@ swapCalls work =
     ∷ record { legA = 1; legB = 3; tables = twoAtoms; work = work } ∷ []
 
 swap-answers : (judgedSwap 648 2 twoAtoms 0 2 ≡ Done) × (judgedSwap 648 2 twoAtoms 4 0 ≡ Refused IndexOutOfRange) × (judgedSwap 648 2 twoAtoms 1 3 ≡ Done)
-unfolding judgedSwap outOfRange ruled countsAgree rowsInjective hasNull rowsClosed rowsFree p2sBack s2ppKept nsymLands distinct isNull isAfter follows row p2sAt s2ppAt nsymAt every some
+unfolding judgedSwap setLength setBlocks outOfRange ruled countsAgree rowsInjective hasNull rowsClosed rowsFree p2sBack s2ppKept nsymLands distinct isNull isAfter follows row p2sAt s2ppAt nsymAt every some
 swap-answers = (refl, refl, refl)
 
 module _ (set : List Float) (work : List ℕ) (e : length set ≡ 648) (f : length work ≡ 2) where
@@ -194,7 +194,7 @@ module _ (set : List Float) (work : List ℕ) (e : length set ≡ 648) (f : leng
   swap-own = ((λ _. refl), ((λ _. refl), ((λ _. refl), tt)))
 
   swap-size : length set ≡ size (shiftsOf twoAtoms) 3
-  unfolding size room
+  unfolding size setLength
   swap-size = e
 
   pub swaps-hold : lists.Law swaps twoAtoms set (swapCalls work)

@@ -20,6 +20,7 @@ use Rattle.tables.specs.Answers.{after}
 use Rattle.tables.specs.Conditions.{outOfRange}
 use Rattle.tables.specs.Shifts.{row, p2sAt, s2ppAt, nsymAt, distinct, isNull, isAfter, follows, countsAgree, rowsInjective, hasNull, rowsClosed, rowsFree, p2sBack, s2ppKept, nsymLands, ruled}
 use Rattle.tables.specs.Compact.{ShiftTables, shiftTables, shiftsOf, judgedEntries, judgedTables, judgedCompact}
+use Rattle.tables.specs.Lengths.{setLength, setBlocks}
 use Rattle.blocks.specs.Block.{block}
 use Rattle.places.specs.Places.{shift, stored, opened, address, size, legsOf, place, at, fill}
 use Rattle.places.specs.Permutations.{six}
@@ -33,7 +34,7 @@ use Rattle.cells.specs.Matching.{computePermutation}
 use Rattle.cells.specs.Sheets as matching
 use Rattle.fc2.specs.Full.{permTransSymmetrizeFc}
 use Rattle.fc2.specs.FullSheets as second
-use Rattle.fc3_groups.specs.Mean.{mean6}
+use Rattle.fc3_means.specs.Mean.{mean6}
 use Rattle.fc3.specs.Symmetrize.{judgedFull3, setPermutationSymmetryFc3}
 use Rattle.transposes_fc3.specs.Fc3.{transposedBy, judgedTranspose, transposeCompactFc3}
 use Rattle.fc4_groups.specs.Mean24.{mean24}
@@ -130,7 +131,7 @@ abbrev meanBackwards : List Float → Float
 meanBackwards l = mean6 (pick nan (5 ∷ 4 ∷ 3 ∷ 2 ∷ 1 ∷ 0 ∷ []) l)
 
 one-group : (set : List Float) → sixPositions (symmetrized nan mean6 (whole 1) 2 six set) ≡ replicate 6 (meanBackwards (sixPositions set))
-unfolding symmetrized meanAt leader firstBlock images inBlock fill size room place legsOf rest digits opened stored shift address horner row p2sAt s2ppAt nsymAt whole six pick straight tab tabFrom leastOr least greatest keep
+unfolding symmetrized meanAt leader firstBlock images inBlock fill size setLength room place legsOf rest digits opened stored shift address horner row p2sAt s2ppAt nsymAt whole six pick straight tab tabFrom leastOr least greatest keep
 one-group set = refl
 
 one-to-six : replicate 6 (meanBackwards (f64 1 ∷ f64 2 ∷ f64 3 ∷ f64 4 ∷ f64 5 ∷ f64 6 ∷ [])) ≡ replicate 6 (35 over 10)
@@ -138,7 +139,7 @@ unfolding pick add div ofBits round
 one-to-six = refl
 
 one-atom : (set : List Float) → length set ≡ 27 → setPermutationSymmetryFc3 set 1 ≡ (Done, symmetrized nan mean6 (whole 1) 2 six set)
-unfolding setPermutationSymmetryFc3 judgedFull3 after
+unfolding setPermutationSymmetryFc3 judgedFull3 setLength after
 one-atom set e =
     let j : judgedFull3 (length set) 1 ≡ Done = ap (λ n. judgedFull3 n 1) e in
     ap (λ a. (a, after a (symmetrized nan mean6 (whole 1) 2 six set) set)) j
@@ -147,7 +148,7 @@ one-atom set e =
 
 -- the tables pass, with sets of 1 × 3² × 27 and 1 × 2² × 27 numbers and work slices of 1 × 3 and 1 × 2 bytes
 pass : (judgedTranspose 243 3 threeAtoms ≡ Done) × (judgedTranspose 108 2 twoAtoms ≡ Done)
-unfolding judgedCompact room judgedTables judgedEntries outOfRange ruled countsAgree rowsInjective hasNull rowsClosed rowsFree p2sBack s2ppKept nsymLands distinct isNull isAfter follows row p2sAt s2ppAt nsymAt every some
+unfolding judgedCompact setLength setBlocks judgedTables judgedEntries outOfRange ruled countsAgree rowsInjective hasNull rowsClosed rowsFree p2sBack s2ppKept nsymLands distinct isNull isAfter follows row p2sAt s2ppAt nsymAt every some
 pass = (refl, refl)
 
 -- a call of type 0 that is not refused
@@ -163,7 +164,7 @@ type-0-blocks : (set : List Float)
     → (blockAt 3 0 1 2 (transposed nan (shiftsOf threeAtoms) 0 set) ≡ firstTwoSwapped (blockAt 3 0 2 1 set))
     × (blockAt 2 0 1 0 (transposed nan (shiftsOf twoAtoms) 0 set) ≡ blockAt 2 0 1 0 set)
     × (blockAt 2 0 1 1 (transposed nan (shiftsOf twoAtoms) 0 set) ≡ blockAt 2 0 1 1 set)
-unfolding block transposed traded fill size room place legsOf rest digits at source order pick opened stored shift address horner stays isNull row p2sAt s2ppAt nsymAt every tab tabFrom
+unfolding block transposed traded fill size setLength room place legsOf rest digits at source order pick opened stored shift address horner stays isNull row p2sAt s2ppAt nsymAt every tab tabFrom
 type-0-blocks set = (refl, refl, refl)
 
 -- ---- all of them
@@ -197,7 +198,7 @@ six-minus-zeros = refl
 
 -- so a set of -0.0 stays
 pub minus-zeros-stay : setPermutationSymmetryFc3 (replicate 27 (neg (f64 0))) 1 ≡ (Done, replicate 27 (neg (f64 0)))
-unfolding symmetrized meanAt leader firstBlock images inBlock fill size room place legsOf rest digits opened stored shift address horner row p2sAt s2ppAt nsymAt whole six pick straight tab tabFrom leastOr least greatest keep neg add div ofBits round
+unfolding symmetrized meanAt leader firstBlock images inBlock fill size setLength room place legsOf rest digits opened stored shift address horner row p2sAt s2ppAt nsymAt whole six pick straight tab tabFrom leastOr least greatest keep neg add div ofBits round
 minus-zeros-stay = one-atom (replicate 27 (neg (f64 0))) refl ∙ refl
 
 pub twentyFour-minus-zeros : mean24 (replicate 24 (neg (f64 0))) ≡ f64 0

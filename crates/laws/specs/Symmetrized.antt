@@ -17,7 +17,7 @@ use Rattle.places.specs.Places.{Leg, Legs, readOut}
 use Rattle.places.specs.Permutations.{taken, Group, six, twentyFour, six-group, twentyFour-group}
 use Rattle.orbits.specs.Symmetric.{symmetrized, symmetric}
 use Rattle.orbits.specs.Mean.{IsMean, symmetrized-is-mean}
-use Rattle.fc3_groups.specs.Mean.{mean6}
+use Rattle.fc3_means.specs.Mean.{mean6}
 use Rattle.fc3.specs.Symmetrize.{setPermutationSymmetryCompactFc3}
 use Rattle.fc4_groups.specs.Mean24.{mean24}
 use Rattle.fc4.specs.Symmetrize.{setPermutationSymmetryCompactFc4}

@@ -6,7 +6,7 @@ use lib.ListN.{length, length-map}
 use Rattle.lists.specs.Elements.{Below, pick, pick-map}
 use Rattle.lists.specs.Digits.{horner, room, rest, digits, rest-div, rest-horner, rest-below, length-digits}
 use Rattle.tables.specs.Shifts.{Shifts, row, p2sAt, s2ppAt, nsymAt}
-use Rattle.places.specs.Places.{Leg, atom, dir, Place, shift, stored, opened, address, place, legsOf, size, dirs-below, atoms-legsOf, dirs-legsOf}
+use Rattle.places.specs.Places.{Leg, atom, dir, Place, shift, stored, opened, address, place, legsOf, size, size-rooms, dirs-below, atoms-legsOf, dirs-legsOf}
 unfoldable pub use Rattle.places.specs.Places.{inBlock}
 
 -- ---- the block of an address: it depends on the atoms only
@@ -59,8 +59,8 @@ module _ (S : Shifts) (m : ℕ) where
   atoms-place q r e = atoms-of q ∙ ap (λ b. rest (S .nSatom) m b ∷ digits (S .nSatom) m b) e ∙ sym (atoms-of r)
 
   pub block-below : (q : ℕ) → q < size S m → q / inBlock m < room (S .nSatom) m (S .nPatom)
-  unfolding size inBlock
-  block-below q h = rw (rest-div 3 (suc m) q) at (rest-below 3 (suc m) (room (S .nSatom) m (S .nPatom)) q h)
+  unfolding inBlock
+  block-below q h = rw (rest-div 3 (suc m) q) at (rest-below 3 (suc m) (room (S .nSatom) m (S .nPatom)) q (rw (size-rooms S m) at h))
 
 -- the directions of stored and opened legs are those of the legs
 dirs-shift : (S : Shifts) (t : ℕ) (xs : List Leg) → map dir (shift S t xs) ≡ map dir xs

@@ -13,7 +13,7 @@ use Rattle.lists.specs.Tab.{tab, length-tab, getD-tab}
 use Rattle.lists.specs.Elements.{All, Below, pick, pick-map, straight, pick-straight}
 use Rattle.lists.specs.Digits.{horner, room, rest, digits, room-mul, rest-div, room-is-pos, rest-horner, rest-below, length-digits}
 use Rattle.lists.specs.Members.{In, Sub, in-map, map-in}
-use Rattle.places.specs.Places.{Leg, atom, dir, Fit, Legs, Place, shift, stored, opened, address, place, legsOf, at, fill, size, stored-place, stored-opened, opened-legs, place-place, address-place, place-address, address-below, length-fill, dirs-below, atoms-legsOf}
+use Rattle.places.specs.Places.{Leg, atom, dir, Fit, Legs, Place, shift, stored, opened, address, place, legsOf, at, fill, size, size-rooms, stored-place, stored-opened, opened-legs, place-place, address-place, place-address, address-below, length-fill, dirs-below, atoms-legsOf}
 use Rattle.places.specs.Permutations.{taken, Permutation, taken-legs, Group}
 use Rattle.orbits.specs.Blockwise.{inBlock, blockAtoms, storedAtoms, openedAtoms, atoms-stored, atoms-opened, address-block, atoms-place, block-below}
 use Rattle.orbits.specs.Symmetric.{images, leader, meanAt, symmetrized, images-sub, images-sup, images-stored}
@@ -63,7 +63,7 @@ module _ (S : Shifts) (L : Laws S) (m : ℕ) (os : List (List ℕ)) (G : Group m
   pub orbits : Orbits groups
   orbits = record {
     pos = unfold inBlock in room-is-pos 3 (suc m) 1 (lit< tt) (lit< tt);
-    whole = unfold size inBlock in room-mul 3 (suc m) (room (S .nSatom) m (S .nPatom));
+    whole = unfold inBlock in size-rooms S m ∙ room-mul 3 (suc m) (room (S .nSatom) m (S .nPatom));
     own = λ q h.
         let e : address S (stored S (taken (straight (suc m)) (opened S (place S m q)))) ≡ q =
         ap (λ xs. address S (stored S xs)) (pick-straight (0, 0) (suc m) (opened S (place S m q)) (legs-at q h .0))

@@ -13,7 +13,7 @@ use Rattle.lists.specs.Tab.{tab, length-tab, getD-tab, tab-ext}
 use Rattle.lists.specs.Elements.{Below, pick, pick-map, length-pick, all-pick}
 use Rattle.lists.specs.Digits.{quotient, horner, room, rest, digits, room-mul, room-is-pos, length-digits, digits-below, digits-mod, horner-split, horner-zero}
 use Rattle.tables.specs.Shifts.{Shifts, Laws}
-use Rattle.places.specs.Places.{Leg, atom, dir, Legs, Place, stored, opened, address, place, at, fill, size, stored-place, stored-opened, opened-legs, place-place, address-place, place-address, address-below}
+use Rattle.places.specs.Places.{Leg, atom, dir, Legs, Place, stored, opened, address, place, at, fill, size, size-rooms, stored-place, stored-opened, opened-legs, place-place, address-place, place-address, address-below}
 use Rattle.places.specs.Permutations.{taken, Permutation, taken-legs}
 use Rattle.places.specs.Moves.{source, source-stored, moved, stays, traded}
 use Rattle.blocks.specs.Permuted.{permuted}
@@ -29,8 +29,8 @@ abbrev pub blocksBy : Shifts → ℕ → List ℕ → (ℕ → Bool) → Blocks
 blocksBy S m σ stay = record { B = room (S .nSatom) m (S .nPatom); c = inBlock m; other = counterpart S m σ; permuted = permuted m σ; stays = stay }
 
 pub size-blocks : (S : Shifts) (m : ℕ) → size S m ≡ room (S .nSatom) m (S .nPatom) * inBlock m
-unfolding size inBlock
-size-blocks S m = room-mul 3 (suc m) (room (S .nSatom) m (S .nPatom))
+unfolding inBlock
+size-blocks S m = size-rooms S m ∙ room-mul 3 (suc m) (room (S .nSatom) m (S .nPatom))
 
 pub in-block-pos : (m : ℕ) → 0 < inBlock m
 unfolding inBlock

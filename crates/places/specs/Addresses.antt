@@ -7,29 +7,26 @@ use mathlib.Core.List.{List, [], _∷_, map}
 use lib.ListN.{length, getD}
 use lib.Ieee.{Float, nan}
 use Rattle.lists.specs.Elements.{Below}
-use Rattle.lists.specs.Digits.{horner, room, horner-below, room-mul, room-power}
+use Rattle.lists.specs.Digits.{horner, room, horner-below, room-mul}
 use Rattle.blocks.specs.Block.{block, getD-block, fits}
+use Rattle.tables.specs.Lengths.{set-length2, set-length3, set-length4}
 use Rattle.tables.specs.Shifts.{Shifts, row, s2ppAt, nsymAt}
-use Rattle.places.specs.Places.{Leg, shift, stored, address, size, at, readOut}
+use Rattle.places.specs.Places.{Leg, shift, stored, address, size, size-rooms, at, readOut}
 
 -- ---- how many numbers a set has: n_patom × n_satom^m blocks of 9, 27 or 81
 
 module _ (S : Shifts) where
-  pub size-power : (m : ℕ) → size S m ≡ S .nPatom * S .nSatom ^ m * 3 ^ suc m
-  unfolding size
-  size-power m = room-power 3 (suc m) (room (S .nSatom) m (S .nPatom)) ∙ ap (λ x. x * 3 ^ suc m) (room-power (S .nSatom) m (S .nPatom))
-
   pub size2 : size S 1 ≡ S .nPatom * S .nSatom * 9
-  unfolding size room
-  size2 = omega arith
+  unfolding size
+  size2 = set-length2 (S .nPatom) (S .nSatom)
 
   pub size3 : size S 2 ≡ S .nPatom * S .nSatom * S .nSatom * 27
-  unfolding size room
-  size3 = omega arith
+  unfolding size
+  size3 = set-length3 (S .nPatom) (S .nSatom)
 
   pub size4 : size S 3 ≡ S .nPatom * S .nSatom * S .nSatom * S .nSatom * 81
-  unfolding size room
-  size4 = omega arith
+  unfolding size
+  size4 = set-length4 (S .nPatom) (S .nSatom)
 
 -- ---- addresses: p is the first leg's primitive atom, j, k, l are the other legs' atoms, a, b, c, d the directions
 
@@ -98,10 +95,9 @@ block-below n m p js h b = horner-below n m p js h b
 -- and it lies inside the set
 pub block-fits : (S : Shifts) (p : ℕ) (js : List ℕ) → p < S .nPatom → Below (S .nSatom) js
     → horner (S .nSatom) p js * room 3 (suc (length js)) 1 + room 3 (suc (length js)) 1 ≤ size S (length js)
-unfolding size
 block-fits S p js h b =
     let r = room (S .nSatom) (length js) (S .nPatom) in
-    rw (room-mul 3 (suc (length js)) r) (fits (room 3 (suc (length js)) 1) (horner (S .nSatom) p js) r (block-below (S .nSatom) (S .nPatom) p js h b))
+    rw (size-rooms S (length js) ∙ room-mul 3 (suc (length js)) r) (fits (room 3 (suc (length js)) 1) (horner (S .nSatom) p js) r (block-below (S .nSatom) (S .nPatom) p js h b))
 
 module _ (S : Shifts) (p j k l : ℕ) (hp : p < S .nPatom) (hj : j < S .nSatom) where
   pub fits2 : horner (S .nSatom) p (j ∷ []) * 9 + 9 ≤ size S 1

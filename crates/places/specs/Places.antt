@@ -8,6 +8,7 @@ use native.Mathlib.Nat.{suc-inj, suc-ne-zero}
 use mathlib.Core.List.{List, [], _∷_, map}
 use lib.ListN.{length, getD, replicate, length-map}
 use lib.Seq.{ext-getD}
+use Rattle.tables.specs.Lengths.{setLength, set-rooms}
 use Rattle.tables.specs.Shifts.{Shifts, Laws, row, p2sAt, s2ppAt, nsymAt, nsym-shift, nsym-p2s}
 use Rattle.lists.specs.Tab.{tab, length-tab, getD-tab}
 use Rattle.lists.specs.Elements.{All, all-map, map-id, Below, pick, straight}
@@ -44,9 +45,9 @@ unfoldable pub address : Shifts → List Leg → ℕ
 address S [] = 0
 address S (y ∷ ys) = horner 3 (horner (S .nSatom) (atom y) (map atom ys)) (dir y ∷ map dir ys)
 
--- how many numbers a set of rank m + 1 has: n_patom × n_satom^m × 3^(m + 1) (size-power in Addresses)
+-- how many numbers a set of rank m + 1 has
 unfoldable pub size : Shifts → ℕ → ℕ
-size S m = room 3 (suc m) (room (S .nSatom) m (S .nPatom))
+size S m = setLength (S .nPatom) (S .nSatom) m
 
 -- legs from their atoms and their directions
 unfoldable pub legsOf : List ℕ → List ℕ → List Leg
@@ -165,15 +166,20 @@ module _ (S : Shifts) (m : ℕ) where
   pub dirs-below : (ys : List Leg) → All (Fit S) ys → Below 3 (map dir ys)
   dirs-below ys p = all-map (Fit S) (λ k. k < 3) dir ys (λ x h. h .1) p
 
+  -- the number of places, factor by factor
+  pub size-rooms : size S m ≡ room 3 (suc m) (room (S .nSatom) m (S .nPatom))
+  unfolding size
+  size-rooms = set-rooms (S .nPatom) (S .nSatom) m
+
   pub address-below : (ys : List Leg) → Place S m ys → address S ys < size S m
-  unfolding address size
+  unfolding address
   address-below [] p = absurd p
   address-below (y ∷ ys) p =
       let h : horner (S .nSatom) (atom y) (map atom ys) < room (S .nSatom) m (S .nPatom) =
       subst (λ k. horner (S .nSatom) (atom y) (map atom ys) < room (S .nSatom) k (S .nPatom)) (length-map ys atom ∙ p .0)
       (horner-below (S .nSatom) (S .nPatom) (atom y) (map atom ys) (p .1) (atoms-below ys (p .3))) in
       let l : length (dir y ∷ map dir ys) ≡ suc m = ap suc (length-map ys dir ∙ p .0) in
-      rw l at (horner-below 3 (room (S .nSatom) m (S .nPatom)) (horner (S .nSatom) (atom y) (map atom ys)) (dir y ∷ map dir ys) h (p .2, dirs-below ys (p .3)))
+      rw size-rooms (rw l at (horner-below 3 (room (S .nSatom) m (S .nPatom)) (horner (S .nSatom) (atom y) (map atom ys)) (dir y ∷ map dir ys) h (p .2, dirs-below ys (p .3))))
 
   pub place-address : (ys : List Leg) → Place S m ys → place S m (address S ys) ≡ ys
   unfolding address place
@@ -193,9 +199,10 @@ module _ (S : Shifts) (m : ℕ) where
       rw (eb, ed, ep, ea) (legsOf-both (y ∷ ys))
 
   pub place-place : (q : ℕ) → q < size S m → Place S m (place S m q)
-  unfolding place size legsOf digits
-  place-place q h =
+  unfolding place legsOf digits
+  place-place q l =
       let b = rest 3 (suc m) q in
+      let h : q < room 3 (suc m) (room (S .nSatom) m (S .nPatom)) = rw size-rooms at l in
       let hb : b < room (S .nSatom) m (S .nPatom) = rest-below 3 (suc m) (room (S .nSatom) m (S .nPatom)) q h in
       let hd : Below 3 (digits 3 (suc m) q) = digits-below 3 (suc m) (room (S .nSatom) m (S .nPatom)) q h in (
         length-legsOf (digits (S .nSatom) m b) (digits 3 m q) (length-digits (S .nSatom) m b ∙ sym (length-digits 3 m q)) ∙ length-digits (S .nSatom) m b,

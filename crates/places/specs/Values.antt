@@ -6,8 +6,9 @@ use mathlib.Core.List.{List, [], _∷_, map}
 use Rattle.lists.specs.Tab.{tab}
 use Rattle.lists.specs.Tests.{every}
 use Rattle.lists.specs.Elements.{pick}
-use Rattle.lists.specs.Digits.{horner, room, rest, digits}
+use Rattle.lists.specs.Digits.{horner, rest, digits}
 use Rattle.tables.specs.Shifts.{Shifts, row, p2sAt, s2ppAt, nsymAt, isNull}
+use Rattle.tables.specs.Lengths.{setLength}
 use Rattle.places.specs.Places.{Leg, shift, stored, opened, address, size, legsOf, place, fill}
 use Rattle.places.specs.Addresses.{storedBlock}
 use Rattle.places.specs.Moves.{source, stays, order}
@@ -41,7 +42,7 @@ stored-2012 a b c d = refl
 
 -- 9, 27 and 81 numbers for each of 3, 9 and 27 blocks
 sizes : map (size three) (1 ∷ 2 ∷ 3 ∷ []) ≡ 27 ∷ 243 ∷ 2187 ∷ []
-unfolding size room
+unfolding size setLength
 sizes = refl
 
 -- type 0 puts the old block (0, 2, 1), first two directions swapped, at (0, 1, 2); no row exchanges two atoms, so no block stays

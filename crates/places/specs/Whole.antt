@@ -7,10 +7,10 @@ use native.Mathlib.Omega.{arith}
 use lib.Dec.{lit<}
 use mathlib.Core.List.{List, [], _∷_, map}
 use lib.ListN.{length, getD, replicate, getD-replicate}
+use Rattle.tables.specs.Lengths.{setLength}
 use Rattle.tables.specs.Shifts.{Shifts, Laws, NoHalfShift, row, p2sAt, s2ppAt, nsymAt}
 use Rattle.lists.specs.Tab.{tab, getD-tab}
 use Rattle.lists.specs.Elements.{All, straight, map-id}
-use Rattle.lists.specs.Digits.{room}
 use Rattle.places.specs.Places.{Leg, atom, dir, Fit, Legs, stored, shift, at, readOut, size}
 unfoldable pub use Rattle.places.specs.Places.{whole}
 
@@ -69,8 +69,8 @@ module _ (n : ℕ) where
   unfolding readOut
   readOut-whole z set xs p = ap (at z (whole n) set) (stored-whole xs p)
 
-  -- it has n^(m + 1) blocks
-  pub size-whole : (m : ℕ) → size (whole n) m ≡ room 3 (suc m) (room n m n)
+  -- n first atoms, as many as atoms
+  pub size-whole : (m : ℕ) → size (whole n) m ≡ setLength n n m
   unfolding size whole
   size-whole m = refl
 

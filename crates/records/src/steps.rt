@@ -63,6 +63,30 @@ pub fn ends(from: usize, n: usize, most: usize) -> usize
     most
 }
 
+// Where each of the four tables of a compact call ends: they stand one after another, the first from 0.
+pub struct TableEnds {
+    pub perms: usize,
+    pub p2s: usize,
+    pub s2pp: usize,
+    pub nsym: usize,
+}
+
+// Words 14 to 17 of a record have the lengths of the tables, which have `most` entries in all.
+pub fn table_ends(r: &[u8], most: usize) -> TableEnds
+    ensures { λ e. ⌜ (e .perms ≤ e .p2s) × (e .p2s ≤ e .s2pp) × (e .s2pp ≤ e .nsym) × (e .nsym ≤ most) ⌝ }
+{
+    let perms = ends(0, count_of(r, 14), most);
+    let p2s = ends(perms, count_of(r, 15), most);
+    let s2pp = ends(p2s, count_of(r, 16), most);
+    let nsym = ends(s2pp, count_of(r, 17), most);
+    TableEnds {
+        perms: perms,
+        p2s: p2s,
+        s2pp: s2pp,
+        nsym: nsym,
+    }
+}
+
 // Where the records of a page begin.
 pub fn first(s: &[u8]) -> usize
     ensures { λ r. ⌜ (r ≡ cond (ltb (length (now (s .entry))) 8) (length (now (s .entry))) 8) × (r ≤ length (now (s .entry))) ⌝ }

@@ -69,7 +69,35 @@ fn drift(r: &[u8], set: &[f64]) -> Outcome {
     reported(a, value[0], place)
 }
 
-// Takes the tables apart: atom_list, fc_indices_of_atom_list, permutations, map_atoms, map_syms.
+// Where each of the five tables of the distributor ends, atom_list, fc_indices_of_atom_list, permutations, map_atoms and map_syms: they stand
+// one after another, the first from 0.
+struct TableEnds {
+    list: usize,
+    indices: usize,
+    permutations: usize,
+    atoms: usize,
+    syms: usize,
+}
+
+// Words 14 to 18 have the lengths of the tables, which have `most` entries in all.
+fn table_ends(r: &[u8], most: usize) -> TableEnds
+    ensures { λ c. ⌜ (c .list ≤ c .indices) × (c .indices ≤ c .permutations) × (c .permutations ≤ c .atoms) × (c .atoms ≤ c .syms) × (c .syms ≤ most) ⌝ }
+{
+    let a = ends(0, count_of(r, 14), most);
+    let b = ends(a, count_of(r, 15), most);
+    let c = ends(b, count_of(r, 16), most);
+    let d = ends(c, count_of(r, 17), most);
+    let e = ends(d, count_of(r, 18), most);
+    TableEnds {
+        list: a,
+        indices: b,
+        permutations: c,
+        atoms: d,
+        syms: e,
+    }
+}
+
+// distribute_fc2 on the tables of the record. The answer's number.
 fn call_distribute(
     r: &[u8],
     set: &mut [f64],
@@ -77,11 +105,15 @@ fn call_distribute(
     r_carts: &[f64],
     all: &[i64],
 ) -> u64 {
-    let a = ends(0, count_of(r, 14), all.len());
-    let b = ends(a, count_of(r, 15), all.len());
-    let c = ends(b, count_of(r, 16), all.len());
-    let d = ends(c, count_of(r, 17), all.len());
-    let e = ends(d, count_of(r, 18), all.len());
+    let num_pos = count_of(r, 10);
+    let num_first = count_of(r, 11);
+    let num_rot = count_of(r, 12);
+    let t = table_ends(r, all.len());
+    let a = t.list;
+    let b = t.indices;
+    let c = t.permutations;
+    let d = t.atoms;
+    let e = t.syms;
     wide(gf_distribute_fc2(
         set,
         &all[0..a],
@@ -91,9 +123,9 @@ fn call_distribute(
         &all[c..d],
         &all[d..e],
         reverse,
-        count_of(r, 10),
-        count_of(r, 11),
-        count_of(r, 12),
+        num_pos,
+        num_first,
+        num_rot,
     ))
 }
 
@@ -115,18 +147,14 @@ fn distribute_work(
     ]
 }
 
-fn with_distribute_work(r: &[u8], set: &mut [f64], all: &[i64]) -> Outcome {
-    let mut reverse = [0i64; 64];
-    let mut r_carts = [0.0f64; 64];
-    let n = size(records::word_of(r, 9), 64);
-    let m = size(records::word_of(r, 19), 64);
-    distribute_work(r, set, &mut reverse[0..n], &mut r_carts[0..m], all)
-}
-
 fn with_tables(r: &[u8], set: &mut [f64]) -> Outcome {
     let mut all = [0i64; 2560];
+    let mut reverse = [0i64; 64];
+    let mut r_carts = [0.0f64; 64];
     values::integers(r, 20, &mut all);
-    with_distribute_work(r, set, &all)
+    let n = size(records::word_of(r, 9), 64);
+    let m = size(records::word_of(r, 19), 64);
+    distribute_work(r, set, &mut reverse[0..n], &mut r_carts[0..m], &all)
 }
 
 fn with_set(r: &[u8], set: &mut [f64]) -> Outcome {

@@ -6,25 +6,26 @@ use capi_fc3::gf_set_permutation_symmetry_compact_fc3;
 use capi_fc3::gf_set_permutation_symmetry_fc3;
 use capi_fc3::gf_transpose_compact_fc3;
 use records::steps::count_of;
-use records::steps::ends;
 use records::steps::first;
 use records::steps::size;
+use records::steps::table_ends;
 use records::wide;
 use replays::Tally;
 
-// The compact call that the record names. The answer's number.
-fn compact(
-    r: &[u8],
-    set: &mut [f64],
-    done: &mut [u8],
-    p2s: &[i64],
-    s2pp: &[i64],
-    nsym_list: &[i64],
-    perms: &[i64],
-) -> u64 {
+// The compact call that the record names. The answer's number. The tables are one after another.
+fn compact(r: &[u8], set: &mut [f64], done: &mut [u8], all: &[i64]) -> u64 {
     let n_satom = count_of(r, 11);
     let n_patom = count_of(r, 12);
     let num_trans = count_of(r, 13);
+    let e = table_ends(r, all.len());
+    let a = e.perms;
+    let b = e.p2s;
+    let c = e.s2pp;
+    let d = e.nsym;
+    let perms = &all[0..a];
+    let p2s = &all[a..b];
+    let s2pp = &all[b..c];
+    let nsym_list = &all[c..d];
     if count_of(r, 4) == 1 {
         return wide(gf_set_permutation_symmetry_compact_fc3(
             set,
@@ -38,7 +39,6 @@ fn compact(
             num_trans,
         ));
     }
-    let t_type = records::integer(records::word_of(r, 6));
     wide(gf_transpose_compact_fc3(
         set,
         p2s,
@@ -49,17 +49,8 @@ fn compact(
         n_satom,
         n_patom,
         num_trans,
-        t_type,
+        records::integer(records::word_of(r, 6)),
     ))
-}
-
-// Takes the tables apart, which are one after another: perms, p2s, s2pp, nsym_list.
-fn with_tables(r: &[u8], set: &mut [f64], done: &mut [u8], all: &[i64]) -> u64 {
-    let a = ends(0, count_of(r, 14), all.len());
-    let b = ends(a, count_of(r, 15), all.len());
-    let c = ends(b, count_of(r, 16), all.len());
-    let d = ends(c, count_of(r, 17), all.len());
-    compact(r, set, done, &all[a..b], &all[b..c], &all[c..d], &all[0..a])
 }
 
 // The full call has no work slice.
@@ -74,7 +65,7 @@ fn call(r: &[u8], set: &mut [f64], done: &mut [u8]) -> u64 {
     }
     let mut all = [0i64; 451];
     records::values::integers(r, 18, &mut all);
-    with_tables(r, set, done, &all)
+    compact(r, set, done, &all)
 }
 
 // The set before the call: made from the seed, or as the call before left it.

@@ -2,131 +2,22 @@
 // in oracle/. Its input are pages of records; oracle/README.md says what the words of a record are. It writes how many calls
 // were compared, how many differ in the answer or in a slice, how many there are of each answer, and a checksum of the inputs
 // and of all that was worked out from them.
-use capi_fc2::gf_true_transpose_compact_fc2;
-use capi_fc3::gf_true_transpose_compact_fc3;
-use capi_fc4::gf_swap_pairs_compact_fc4;
-use capi_fc4::gf_true_transpose_compact_fc4;
 use records::steps::count_of;
-use records::steps::ends;
 use records::steps::first;
 use records::steps::size;
-use records::wide;
 use replays::Tally;
-
-// Third or fourth order, whose calls have a type. The answer's number.
-fn typed(
-    r: &[u8],
-    set: &mut [f64],
-    done: &mut [u8],
-    p2s: &[i64],
-    s2pp: &[i64],
-    nsym_list: &[i64],
-    perms: &[i64],
-) -> u64 {
-    let n_satom = count_of(r, 11);
-    let n_patom = count_of(r, 12);
-    let num_trans = count_of(r, 13);
-    let t_type = records::integer(records::word_of(r, 6));
-    if count_of(r, 4) == 3 {
-        return wide(gf_true_transpose_compact_fc3(
-            set,
-            p2s,
-            s2pp,
-            nsym_list,
-            perms,
-            done,
-            n_satom,
-            n_patom,
-            num_trans,
-            t_type,
-        ));
-    }
-    wide(gf_true_transpose_compact_fc4(
-        set,
-        p2s,
-        s2pp,
-        nsym_list,
-        perms,
-        done,
-        n_satom,
-        n_patom,
-        num_trans,
-        t_type,
-    ))
-}
-
-// A swap of two legs, which stand in the place of a type: the first and eight times the second. The answer's number.
-fn swap(
-    r: &[u8],
-    set: &mut [f64],
-    done: &mut [u8],
-    p2s: &[i64],
-    s2pp: &[i64],
-    nsym_list: &[i64],
-    perms: &[i64],
-) -> u64 {
-    let n_satom = count_of(r, 11);
-    let n_patom = count_of(r, 12);
-    let num_trans = count_of(r, 13);
-    let legs = count_of(r, 6);
-    wide(gf_swap_pairs_compact_fc4(
-        set,
-        p2s,
-        s2pp,
-        nsym_list,
-        perms,
-        done,
-        n_satom,
-        n_patom,
-        num_trans,
-        legs % 8,
-        legs / 8,
-    ))
-}
-
-// The call of the order that the record names. The answer's number.
-fn compact(
-    r: &[u8],
-    set: &mut [f64],
-    done: &mut [u8],
-    p2s: &[i64],
-    s2pp: &[i64],
-    nsym_list: &[i64],
-    perms: &[i64],
-) -> u64 {
-    if count_of(r, 4) == 2 {
-        return wide(gf_true_transpose_compact_fc2(
-            set,
-            p2s,
-            s2pp,
-            nsym_list,
-            perms,
-            done,
-            count_of(r, 11),
-            count_of(r, 12),
-            count_of(r, 13),
-        ));
-    }
-    if count_of(r, 4) == 5 {
-        return swap(r, set, done, p2s, s2pp, nsym_list, perms);
-    }
-    typed(r, set, done, p2s, s2pp, nsym_list, perms)
-}
-
-// Takes the tables apart, which are one after another: perms, p2s, s2pp, nsym_list.
-fn with_tables(r: &[u8], set: &mut [f64], done: &mut [u8], all: &[i64]) -> u64 {
-    let a = ends(0, count_of(r, 14), all.len());
-    let b = ends(a, count_of(r, 15), all.len());
-    let c = ends(b, count_of(r, 16), all.len());
-    let d = ends(c, count_of(r, 17), all.len());
-    compact(r, set, done, &all[a..b], &all[b..c], &all[c..d], &all[0..a])
-}
 
 // The call of the record. The answer's number. There is room for 256 entries of perms and 65 of each other table.
 fn call(r: &[u8], set: &mut [f64], done: &mut [u8]) -> u64 {
     let mut all = [0i64; 451];
     records::values::integers(r, 18, &mut all);
-    with_tables(r, set, done, &all)
+    if count_of(r, 4) == 2 {
+        return true_calls::second(r, set, done, &all);
+    }
+    if count_of(r, 4) == 5 {
+        return true_calls::swap(r, set, done, &all);
+    }
+    true_calls::typed(r, set, done, &all)
 }
 
 // The set before the call: made from the seed, or as the call before left it.

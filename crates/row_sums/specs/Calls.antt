@@ -15,6 +15,7 @@ use Rattle.tables.specs.declared.Answer.the-variants.{Done}
 use Rattle.tables.specs.declared.Refusal.the-variants.{CountAboveLimit, WrongLength, IndexOutOfRange, OffGrid}
 use Rattle.tables.specs.Answers.{isRefusal, after, refuseIf, is-done, after-refusal, after-done, passed, refused-call, done-call}
 use Rattle.tables.specs.Conditions.{anyAbove, anyWrong, not-above, not-wrong, or-false}
+use Rattle.tables.specs.Lengths.{setLength, set-length2}
 use Rattle.tables.specs.Limits.{limit2}
 use Rattle.blocks.specs.Block.{block, putBlock}
 use Rattle.lines.specs.Lines.{Sized, block-fits}
@@ -68,7 +69,7 @@ module _ (lenSet lenSums n : ℕ) (a : Answer) (e : a ≡ judgedSums lenSet lenS
   above = anyAbove limit2 (n ∷ [])
 
   abbrev wrong : Bool
-  wrong = anyWrong ((lenSet, n * n * 9) ∷ (lenSums, n * 9) ∷ [])
+  wrong = anyWrong ((lenSet, setLength n n 1) ∷ (lenSums, n * 9) ∷ [])
 
   pub lengths-refuse : (next : Answer) → isRefusal a ≡ true → a ≡ judgedLengths lenSet lenSums n next
   lengths-refuse next h = e ∙ stops above wrong next (ap isRefusal (sym e) ∙ h)
@@ -81,23 +82,23 @@ module _ (lenSet lenSums n : ℕ) (a : Answer) (e : a ≡ judgedSums lenSet lenS
       let (c, r) = passed above CountAboveLimit _ (sym e ∙ is-done a h) in
       let (l, _) = passed wrong WrongLength Done r in
       let small = not-above limit2 (n ∷ []) c .0 in
-      let lens = not-wrong ((lenSet, n * n * 9) ∷ (lenSums, n * 9) ∷ []) l in
-      (record { few = small; small = small; long = lens .0 }, lens .1 .0)
+      let lens = not-wrong ((lenSet, setLength n n 1) ∷ (lenSums, n * 9) ∷ []) l in
+      (record { few = small; small = small; long = lens .0 ∙ set-length2 n n }, lens .1 .0)
 
 pub accepted : (set : List Float) (lenSums : ℕ) (new : List Float) (i j n : ℕ) → isRefusal (judgedReplace set lenSums new i j n) ≡ false
     → Accepted set lenSums new i j n
 unfolding judgedReplace judgedBlock
 accepted set lenSums new i j n r =
     let (q1, e1) = passed (anyAbove limit2 (n ∷ [])) CountAboveLimit _ (is-done (judgedReplace set lenSums new i j n) r) in
-    let (q2, e2) = passed (anyWrong ((length set, n * n * 9) ∷ (lenSums, n * 9) ∷ [])) WrongLength _ e1 in
+    let (q2, e2) = passed (anyWrong ((length set, setLength n n 1) ∷ (lenSums, n * 9) ∷ [])) WrongLength _ e1 in
     let (q3, e3) = passed (leb n i || leb n j) IndexOutOfRange _ e2 in
     let (q10, e10) = passed (not (nineOnGrid (block 9 (i * n + j) set) && nineOnGrid new)) OffGrid Done e3 in
     let (u, v) = or-false (leb n i) (leb n j) q3 in
     let g = not-false (nineOnGrid (block 9 (i * n + j) set) && nineOnGrid new) q10 in
     let small = not-above limit2 (n ∷ []) q1 .0 in
-    let lens = not-wrong ((length set, n * n * 9) ∷ (lenSums, n * 9) ∷ []) q2 in
+    let lens = not-wrong ((length set, setLength n n 1) ∷ (lenSums, n * 9) ∷ []) q2 in
     record {
-      ready = record { sized = record { few = small; small = small; long = lens .0 }; sums-long = lens .1 .0; first = leb-false n i u; second = leb-false n j v };
+      ready = record { sized = record { few = small; small = small; long = lens .0 ∙ set-length2 n n }; sums-long = lens .1 .0; first = leb-false n i u; second = leb-false n j v };
       old-on = and-fst (nineOnGrid (block 9 (i * n + j) set)) (nineOnGrid new) g;
       new-on = and-snd (nineOnGrid (block 9 (i * n + j) set)) (nineOnGrid new) g;
     }

@@ -11,6 +11,7 @@ use Rattle.tables.specs.declared.Answer.the-variants.{Done}
 use Rattle.tables.specs.declared.Refusal.the-variants.{CountAboveLimit, WrongLength, IndexOutOfRange, OffGrid}
 use Rattle.tables.specs.Answers.{after, refuseIf}
 use Rattle.tables.specs.Conditions.{anyAbove, anyWrong}
+use Rattle.tables.specs.Lengths.{setLength}
 use Rattle.tables.specs.Limits.{limit2}
 use Rattle.blocks.specs.Block.{block, putBlock}
 use Rattle.blocks.specs.Nine.{nine}
@@ -41,7 +42,7 @@ corrected s old new = nine (λ p. edited (getD s p nan) (getD old p nan) (getD n
 abbrev pub judgedLengths : ℕ → ℕ → ℕ → Answer → Answer
 judgedLengths lenSet lenSums n next =
     refuseIf (anyAbove limit2 (n ∷ [])) CountAboveLimit
-    (refuseIf (anyWrong ((lenSet, n * n * 9) ∷ (lenSums, n * 9) ∷ [])) WrongLength next)
+    (refuseIf (anyWrong ((lenSet, setLength n n 1) ∷ (lenSums, n * 9) ∷ [])) WrongLength next)
 
 abbrev pub judgedSums : ℕ → ℕ → ℕ → Answer
 judgedSums lenSet lenSums n = judgedLengths lenSet lenSums n Done

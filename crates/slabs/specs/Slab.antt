@@ -16,6 +16,7 @@ use Rattle.tables.specs.declared.Answer.the-variants.{Done}
 use Rattle.tables.specs.declared.Refusal.the-variants.{CountAboveLimit, WrongLength, IndexOutOfRange, BadSlab}
 use Rattle.tables.specs.Answers.{after, refuseIf}
 use Rattle.tables.specs.Conditions.{anyAbove, anyWrong, outOfRange, badSlab, indexAt}
+use Rattle.tables.specs.Lengths.{setLength}
 
 -- the block that fills block b of the target slab: in the source slab, at the images of b's other atoms
 unfoldable pub sourceOf : List ℤ → ℕ → ℕ → ℕ → ℕ → ℕ
@@ -39,10 +40,10 @@ judgedSlabs limit stated lengthFc mapping n lengthRotation numFirst target sourc
     (refuseIf (outOfRange n mapping) IndexOutOfRange
     (refuseIf (badSlab numFirst target source) BadSlab Done)))
 
--- the call: the answer and the set; its stated length is numFirst × n^k × 3^(k + 1)
+-- the call: the answer and the set
 unfoldable pub distributeSlab : ℕ → ℕ → List Float → ℕ → ℕ → List ℤ → ℕ → List Float → ℕ → Answer × List Float
 distributeSlab limit k fc target source mapping n rotation numFirst =
-    let a = judgedSlabs limit (numFirst * n ^ k * 3 ^ suc k) (length fc) mapping n (length rotation) numFirst target source in
+    let a = judgedSlabs limit (setLength numFirst n k) (length fc) mapping n (length rotation) numFirst target source in
     (a, after a (distributed mapping rotation n k target source fc) fc)
 
 -- ---- as the code goes: one loop for each other atom

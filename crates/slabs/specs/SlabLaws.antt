@@ -16,7 +16,7 @@ use borrow.Author.Tests.{eq-eqb, ne-eqb}
 use Rattle.lists.specs.Tab.{tab, length-tab, getD-tab, is-tab, tab-ext, times}
 use Rattle.lists.specs.Cases.{eq-or-ne, lt-or-le, within, within-in, within-below, within-above}
 use Rattle.lists.specs.Elements.{Below, All}
-use Rattle.lists.specs.Digits.{in-row, horner, room, rest, digits, rest-horner, digits-horner, horner-below, room-mul, room-power, room-is-pos, rest-div}
+use Rattle.lists.specs.Digits.{in-row, horner, room, rest, digits, rest-horner, digits-horner, horner-below, room-mul, room-is-pos, rest-div}
 use Rattle.blocks.specs.Block.{block, putBlock, getD-block, length-block, length-putBlock, put-inside, put-outside, block-of, inside}
 use Rattle.rotations.specs.Rotation.{rotated}
 use Rattle.tables.specs.declared.Answer.{Answer}
@@ -24,6 +24,7 @@ use Rattle.tables.specs.declared.Answer.the-variants.{Done, Refused}
 use Rattle.tables.specs.declared.Refusal.the-variants.{CountAboveLimit}
 use Rattle.tables.specs.Answers.{isRefusal, after, refuseIf, passed, is-done, after-refusal, after-done}
 use Rattle.tables.specs.Conditions.{anyAbove, anyWrong, outOfRange, indexAt, IndexTable, not-above, not-wrong, not-bad-slab}
+use Rattle.tables.specs.Lengths.{setLength}
 use Rattle.lists.specs.Tests.{split}
 use Rattle.slabs.specs.Slab.{sourceOf, distributed, judgedSlabs, distributeSlab, moveBlock, move}
 
@@ -359,17 +360,12 @@ judged-stated limit s s′ lengthFc mapping n lengthRotation F target source h =
         ap (λ x. judgedSlabs limit x lengthFc mapping n lengthRotation F target source) (h a b)
 
 module _ (limit k : ℕ) (fc : List Float) (target source : ℕ) (mapping : List ℤ) (n : ℕ) (rotation : List Float) (F : ℕ) (a : Answer)
-    (e : a ≡ judgedSlabs limit (room 3 (suc k) (room n k F)) (length fc) mapping n (length rotation) F target source) where
-  said : a ≡ judgedSlabs limit (F * n ^ k * 3 ^ suc k) (length fc) mapping n (length rotation) F target source
-  said =
-      e ∙ ap (λ x. judgedSlabs limit x (length fc) mapping n (length rotation) F target source)
-      (room-power 3 (suc k) (room n k F) ∙ ap (λ x. x * 3 ^ suc k) (room-power n k F))
-
+    (e : a ≡ judgedSlabs limit (setLength F n k) (length fc) mapping n (length rotation) F target source) where
   pub refused : isRefusal a ≡ true → (a, fc) ≡ distributeSlab limit k fc target source mapping n rotation F
   unfolding distributeSlab
-  refused h = rw (← said, after-refusal a (distributed mapping rotation n k target source fc) fc h)
+  refused h = rw (← e, after-refusal a (distributed mapping rotation n k target source fc) fc h)
 
   pub done-call : {fc′ : List Float} → isRefusal a ≡ false → fc′ ≡ distributed mapping rotation n k target source fc
       → (Done, fc′) ≡ distributeSlab limit k fc target source mapping n rotation F
   unfolding distributeSlab
-  done-call h p = rw (← said, after-done a (distributed mapping rotation n k target source fc) fc h, p, is-done a h)
+  done-call h p = rw (← e, after-done a (distributed mapping rotation n k target source fc) fc h, p, is-done a h)

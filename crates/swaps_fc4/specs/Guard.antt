@@ -3,7 +3,7 @@
 use mathlib.Core.Path.{_≡_, refl, sym, ap, ap₂, _∙_}
 use mathlib.Core.Bool.{Bool, true, false, not, _||_, cond, true≢false}
 use mathlib.Core.List.{List, [], _∷_}
-use Prim.Native.Nat.{ℕ, _*_, _^_, _≤_, _<_}
+use Prim.Native.Nat.{ℕ, _≤_, _<_}
 use native.Mathlib.Omega.{arith}
 use lib.Dec.{eqb, ltb, lit≤}
 use lib.ListN.{length, replicate}
@@ -16,6 +16,7 @@ use Rattle.tables.specs.Answers.{numberOf, isRefusal, after, refuseIf, is-done,
 use Rattle.tables.specs.Conditions.{anyAbove, anyWrong, not-above}
 use Rattle.tables.specs.Shifts.{Shifts, Laws, ruled}
 use Rattle.tables.specs.Compact.{ShiftTables, shiftsOf, tableLengths, tablesOutOfRange, judgedEntries, judgedTables, judgedCompact, done-compact}
+use Rattle.tables.specs.Lengths.{setBlocks, setLength}
 use Rattle.tables.specs.Limits.{limit4}
 use Rattle.half_shifts.specs.HalfShift.{Trading, trading}
 use Rattle.half_shifts.specs.TrueTransposes.{swapped}
@@ -47,7 +48,7 @@ unfolding withLegs judgedSwap judgedCompact judgedTables judgedEntries
 judged-legs lenSet lenWork T a b =
     in-order (anyAbove 3 (a ∷ b ∷ []))
     (anyAbove limit4 (T .nSatom ∷ T .nPatom ∷ T .numTrans ∷ []))
-    (anyWrong ((lenSet, T .nPatom * T .nSatom ^ 3 * 3 ^ 4) ∷ (lenWork, T .nPatom * T .nSatom ^ 1) ∷ []) || anyWrong (tableLengths T))
+    (anyWrong ((lenSet, setLength (T .nPatom) (T .nSatom) 3) ∷ (lenWork, setBlocks (T .nPatom) (T .nSatom) 1) ∷ []) || anyWrong (tableLengths T))
     (tablesOutOfRange T) (not (ruled (shiftsOf T)))
 
 -- ---- the tests of the program

@@ -2,7 +2,7 @@
 -- legs change places in every read-out entry, half shifts included. Definitions only.
 use mathlib.Core.Bool.{not, _||_}
 use mathlib.Core.List.{List, [], _∷_}
-use Prim.Native.Nat.{ℕ, _*_, _^_}
+use Prim.Native.Nat.{ℕ}
 use lib.ListN.{length, replicate}
 use lib.Ieee.{Float}
 use Rattle.tables.specs.declared.Answer.{Answer}
@@ -12,15 +12,16 @@ use Rattle.tables.specs.Answers.{after, refuseIf}
 use Rattle.tables.specs.Conditions.{anyAbove, anyWrong}
 use Rattle.tables.specs.Shifts.{ruled}
 use Rattle.tables.specs.Compact.{ShiftTables, shiftsOf, tableLengths, tablesOutOfRange}
+use Rattle.tables.specs.Lengths.{setBlocks, setLength}
 use Rattle.tables.specs.Limits.{limit4}
 use Rattle.half_shifts.specs.TrueTransposes.{swapped}
 
--- 1: counts above 64. 2: the set has n_patom × n_satom³ × 3⁴ numbers, the work slice n_patom × n_satom bytes. 3: a leg above 3, or an index out of
--- range. 6: the rules of shift tables.
+-- 1: counts above 64. 2: the set is one of fourth order, the work slice has n_patom × n_satom bytes. 3: a leg above 3, or an index out of range.
+-- 6: the rules of shift tables.
 unfoldable pub judgedSwap : ℕ → ℕ → ShiftTables → ℕ → ℕ → Answer
 judgedSwap lenSet lenWork T a b =
     refuseIf (anyAbove limit4 (T .nSatom ∷ T .nPatom ∷ T .numTrans ∷ [])) CountAboveLimit
-    (refuseIf (anyWrong ((lenSet, T .nPatom * T .nSatom ^ 3 * 3 ^ 4) ∷ (lenWork, T .nPatom * T .nSatom ^ 1) ∷ []) || anyWrong (tableLengths T)) WrongLength
+    (refuseIf (anyWrong ((lenSet, setLength (T .nPatom) (T .nSatom) 3) ∷ (lenWork, setBlocks (T .nPatom) (T .nSatom) 1) ∷ []) || anyWrong (tableLengths T)) WrongLength
     (refuseIf (anyAbove 3 (a ∷ b ∷ []) || tablesOutOfRange T) IndexOutOfRange
     (refuseIf (not (ruled (shiftsOf T))) BadShiftTables Done)))
 

@@ -3,17 +3,18 @@
 use mathlib.Core.Path.{_≡_, refl, sym, ap, ap₂, _∙_}
 use mathlib.Core.Bool.{Bool, false, not, _||_}
 use mathlib.Core.List.{List, [], _∷_, map}
-use Prim.Native.Nat.{ℕ, suc, _+_, _*_, _^_, _≤_}
+use Prim.Native.Nat.{ℕ, suc, _+_, _*_, _≤_}
 use lib.IntN.{ℤ, pos}
 use lib.ListN.{length, List·getD-map}
 use borrow.Author.Tests.{not-false}
-use Rattle.lists.specs.Digits.{room, room-power, in-row}
+use Rattle.lists.specs.Digits.{room, in-row}
 use Rattle.lists.specs.Elements.{All}
 use Rattle.tables.specs.declared.Answer.{Answer}
 use Rattle.tables.specs.declared.Answer.the-variants.{Done}
 use Rattle.tables.specs.declared.Refusal.the-variants.{CountAboveLimit, WrongLength, IndexOutOfRange, BadShiftTables}
 use Rattle.tables.specs.Answers.{refuseIf, passed}
 use Rattle.tables.specs.Conditions.{anyAbove, anyWrong, outOfRange, nat, indexAt, IndexTable, or-false, not-above, not-wrong, read}
+use Rattle.tables.specs.Lengths.{setBlocks, setLength, block-rooms, set-rooms}
 use Rattle.tables.specs.Shifts.{Shifts, row, p2sAt, s2ppAt, nsymAt, ruled, Within, Laws, laws}
 
 -- the shift tables as a call is given them
@@ -71,19 +72,19 @@ judgedTables limit lengths T =
     refuseIf (anyAbove limit (T .nSatom ∷ (T .nPatom ∷ (T .numTrans ∷ [])))) CountAboveLimit
     (refuseIf (anyWrong lengths || anyWrong (tableLengths T)) WrongLength (judgedEntries T))
 
--- A compact call of rank m + 1: the set has n_patom × n_satom^m × 3^(m + 1) numbers, its work slice n_patom × n_satom^k entries.
+-- A compact call of rank m + 1: a set of n_patom first atoms among n_satom, and a work slice with an entry for each block of rank k + 1.
 unfoldable pub judgedCompact : ℕ → ℕ → ℕ → ℕ → ℕ → ShiftTables → Answer
 judgedCompact limit m lenSet k lenWork T =
-    judgedTables limit ((lenSet, T .nPatom * T .nSatom ^ m * 3 ^ suc m) ∷ ((lenWork, T .nPatom * T .nSatom ^ k) ∷ [])) T
+    judgedTables limit ((lenSet, setLength (T .nPatom) (T .nSatom) m) ∷ ((lenWork, setBlocks (T .nPatom) (T .nSatom) k) ∷ [])) T
 
--- the same lengths as products, number by number
+-- the same lengths factor by factor
 pub judged-rooms : (limit m lenSet k lenWork : ℕ) (T : ShiftTables) → judgedCompact limit m lenSet k lenWork T
     ≡ judgedTables limit ((lenSet, room 3 (suc m) (room (T .nSatom) m (T .nPatom))) ∷ ((lenWork, room (T .nSatom) k (T .nPatom)) ∷ [])) T
 unfolding judgedCompact
 judged-rooms limit m lenSet k lenWork T =
     ap₂ (λ x y. judgedTables limit ((lenSet, x) ∷ ((lenWork, y) ∷ [])) T)
-    (sym (room-power 3 (suc m) (room (T .nSatom) m (T .nPatom)) ∙ ap (λ x. x * 3 ^ suc m) (room-power (T .nSatom) m (T .nPatom))))
-    (sym (room-power (T .nSatom) k (T .nPatom)))
+    (set-rooms (T .nPatom) (T .nSatom) m)
+    (block-rooms (T .nPatom) (T .nSatom) k)
 
 -- ---- what is known of tables and sets that pass
 
@@ -99,7 +100,7 @@ pub record Fit (limit : ℕ) (T : ShiftTables) : Type 0 where
 
 -- a compact set of rank m + 1 with its work slice
 pub record Compact (limit m lenSet k lenWork : ℕ) (T : ShiftTables) : Type 0 where
-  pub set-length : lenSet ≡ room 3 (suc m) (room (T .nSatom) m (T .nPatom))
+  pub set-length : lenSet ≡ setLength (T .nPatom) (T .nSatom) m
   pub work-length : lenWork ≡ room (T .nSatom) k (T .nPatom)
   pub fit : Fit limit T
   pub rules : Laws (shiftsOf T)
@@ -165,11 +166,12 @@ done-tables limit ls T e =
 
 -- a compact call that is not refused
 pub done-compact : (limit m lenSet k lenWork : ℕ) (T : ShiftTables) → judgedCompact limit m lenSet k lenWork T ≡ Done → Compact limit m lenSet k lenWork T
+unfolding judgedCompact
 done-compact limit m lenSet k lenWork T e =
-    let (l, F, L) = done-tables limit _ T (sym (judged-rooms limit m lenSet k lenWork T) ∙ e) in
+    let (l, F, L) = done-tables limit _ T e in
     record {
       set-length = l .0;
-      work-length = l .1 .0;
+      work-length = l .1 .0 ∙ block-rooms (T .nPatom) (T .nSatom) k;
       fit = F;
       rules = L;
     }

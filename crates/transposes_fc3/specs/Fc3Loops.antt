@@ -23,7 +23,7 @@ use Rattle.places.specs.Permutations.{taken, Permutation}
 use Rattle.places.specs.Moves.{order, stays, moved, transposed}
 use Rattle.orbits.specs.Counterparts.{Paired, visit, workedOver}
 use Rattle.orbits.specs.Transposed.{counterpart, blocksBy, paired}
-use Rattle.blocks.specs.Permuted.{permuted, permutedBlock, gathered, lnm, mln, nml, lnm-is, mln-is, nml-is}
+use Rattle.blocks.specs.Permuted.{permuted}
 use Rattle.orbits.specs.BlockPairs.{joinedPair, pair-is}
 use Rattle.orbits.specs.AtBlocks.{atoms-are, counterpart-at, stored-own}
 use Rattle.orbits.specs.Blockwise.{inBlock, atomsAt}
@@ -161,19 +161,6 @@ none-stays T (suc zero) n h = refl
 none-stays T (suc (suc t)) n h = refl
 
 -- ---- what the program finds
-
--- a block permuted by type
-pub permuted-0 : {r : List Float} (v : List Float) (t : ℕ) → t ≡ 0 → r ≡ gathered v mln → r ≡ permutedBlock 27 (permuted 2 (order t)) v
-unfolding order permutedBlock
-permuted-0 v t e f = f ∙ mln-is v ∙ ap (λ t. permutedBlock 27 (permuted 2 (order t)) v) (sym e)
-
-pub permuted-1 : {r : List Float} (v : List Float) (t : ℕ) → t ≡ 1 → r ≡ gathered v nml → r ≡ permutedBlock 27 (permuted 2 (order t)) v
-unfolding order permutedBlock
-permuted-1 v t e f = f ∙ nml-is v ∙ ap (λ t. permutedBlock 27 (permuted 2 (order t)) v) (sym e)
-
-pub permuted-2 : {r : List Float} (v : List Float) (t : ℕ) → t ≡ 2 → r ≡ gathered v lnm → r ≡ permutedBlock 27 (permuted 2 (order t)) v
-unfolding order permutedBlock
-permuted-2 v t e f = f ∙ lnm-is v ∙ ap (λ t. permutedBlock 27 (permuted 2 (order t)) v) (sym e)
 
 module _ (T : ShiftTables) (Z : Sound T) (p j k : ℕ) (a : Atoms T p j k) where
   abbrev S : Shifts

@@ -1,3 +1,2 @@
 pub mod Fc3
 pub mod Fc3Loops
-pub mod Nines

@@ -6,22 +6,17 @@ ghost use mathlib.Core.Bool.{false, cond};
 ghost use Prim.Native.Nat.{_+_, _*_, _<_, _≤_};
 ghost use lib.ListN.{length};
 ghost use Rattle.tables.specs.Compact.{shiftTables, shiftsOf};
-ghost use Rattle.blocks.specs.Block.{block, putBlock};
-ghost use Rattle.blocks.specs.Permuted.{permuted as permutedBy, permutedBlock};
-ghost use Rattle.places.specs.Moves.{order};
-ghost use Rattle.orbits.specs.Trading.{theOther};
-ghost use Rattle.orbits.specs.BlockPairs.{joinedPair};
 ghost use Rattle.transposes_fc3.specs.Fc3.{transposedBy, transposeCompactFc3};
 ghost use Rattle.half_shifts.specs.HalfShift.{Trading, PairAt};
 ghost use Rattle.half_shifts.specs.TrueTransposes.{swapped, legs3, trueTransposeCompactFc3};
-ghost use Rattle.transposes_fc3.specs.Nines.{turned};
 ghost use Rattle.transposes_fc3.specs.Fc3Loops.{Atoms, at3, exchangeAt, rowT, slabT, allT};
-use blocks::permute;
+use blocks_fc3::exchange0;
+use blocks_fc3::exchange1;
+use blocks_fc3::exchange2;
 use half_shifts::stays;
 use lists::clear_bytes;
 use places::block3;
 use places::read_out3;
-use places::with_leg;
 use shifts::judge_compact;
 use tables::Answer;
 use tables::atoms::PrimAtom;
@@ -29,73 +24,6 @@ use tables::atoms::SuperAtom;
 use tables::atoms::p2s_at;
 use tables::is_refusal;
 use tables::limits::LIMIT3;
-
-// Blocks a and b change places, each with directions 0 and 1 exchanged (type 0).
-fn exchange0(fc3: &mut [f64], a: usize, b: usize)
-    requires { ⌜ (a * 27 + 27 ≤ length (now fc3)) × (b * 27 + 27 ≤ length (now fc3)) ⌝ }
-    ensures { λ _. ⌜ now (fc3 .exit) ≡ joinedPair theOther 27 (permutedBy 2 (order 0)) a b (now (fc3 .entry)) ⌝ }
-{
-    let one = blocks::read27(fc3, a);
-    let other = blocks::read27(fc3, b);
-    blocks::write27(fc3, a, permute::permute_mln(other));
-    blocks::write27(fc3, b, permute::permute_mln(one));
-}
-
-// Blocks a and b change places, each with directions 0 and 2 exchanged (type 1).
-fn exchange1(fc3: &mut [f64], a: usize, b: usize)
-    requires { ⌜ (a * 27 + 27 ≤ length (now fc3)) × (b * 27 + 27 ≤ length (now fc3)) ⌝ }
-    ensures { λ _. ⌜ now (fc3 .exit) ≡ joinedPair theOther 27 (permutedBy 2 (order 1)) a b (now (fc3 .entry)) ⌝ }
-{
-    let one = blocks::read27(fc3, a);
-    let other = blocks::read27(fc3, b);
-    blocks::write27(fc3, a, permute::permute_nml(other));
-    blocks::write27(fc3, b, permute::permute_nml(one));
-}
-
-// Blocks a and b change places whole.
-fn swap_blocks(fc3: &mut [f64], a: usize, b: usize)
-    requires { ⌜ (a * 27 + 27 ≤ length (now fc3)) × (b * 27 + 27 ≤ length (now fc3)) ⌝ }
-    ensures { λ _. ⌜ now (fc3 .exit) ≡ putBlock 27 b (block 27 a (now (fc3 .entry))) (putBlock 27 a (block 27 b (now (fc3 .entry))) (now (fc3 .entry))) ⌝ }
-{
-    let one = blocks::read27(fc3, a);
-    let other = blocks::read27(fc3, b);
-    blocks::write27(fc3, a, other);
-    blocks::write27(fc3, b, one);
-}
-
-// Block g of nine numbers is transposed where it stands.
-fn transpose_nine(fc3: &mut [f64], g: usize)
-    requires { ⌜ g * 9 + 9 ≤ length (now fc3) ⌝ }
-    ensures { λ _. ⌜ now (fc3 .exit) ≡ turned g (now (fc3 .entry)) ⌝ }
-{
-    let v = blocks::read9(fc3, g);
-    blocks::write9(fc3, g, blocks::transposed9(v));
-}
-
-// Block b where it stands, with directions 1 and 2 exchanged: they are the directions of its three blocks of nine numbers.
-fn permute2(fc3: &mut [f64], b: usize)
-    requires { ⌜ b * 27 + 27 ≤ length (now fc3) ⌝ }
-    ensures { λ _. ⌜ now (fc3 .exit) ≡ putBlock 27 b (permutedBlock 27 (permutedBy 2 (order 2)) (block 27 b (now (fc3 .entry)))) (now (fc3 .entry)) ⌝ }
-{
-    transpose_nine(fc3, with_leg(b, 3, 0));
-    transpose_nine(fc3, with_leg(b, 3, 1));
-    transpose_nine(fc3, with_leg(b, 3, 2));
-}
-
-// Blocks a and b change places, each with directions 1 and 2 exchanged (type 2). They are moved first and permuted then: with both at once 54 numbers are
-// on the way, of which the registers hold 16, while whole blocks move two numbers to a register and permuting touches only the numbers off the diagonal.
-fn exchange2(fc3: &mut [f64], a: usize, b: usize)
-    requires { ⌜ (a * 27 + 27 ≤ length (now fc3)) × (b * 27 + 27 ≤ length (now fc3)) ⌝ }
-    ensures { λ _. ⌜ now (fc3 .exit) ≡ joinedPair theOther 27 (permutedBy 2 (order 2)) a b (now (fc3 .entry)) ⌝ }
-{
-    if a == b {
-        permute2(fc3, a);
-        return;
-    }
-    swap_blocks(fc3, a, b);
-    permute2(fc3, a);
-    permute2(fc3, b);
-}
 
 // One visit of type 0: block (p, j, k) and its counterpart change places at the lower one of them: i is p's representative.
 fn visit0(

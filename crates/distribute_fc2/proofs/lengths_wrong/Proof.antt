@@ -3,6 +3,7 @@ use Rattle.lists.specs.Tests.{or-here, or-next, or-last}
 use mathlib.Core.Path.{_≡_, refl, sym, ap, _∙_}
 use native.Mathlib.Omega.{arith}
 use borrow.Author.Tests.{le-ltb, lt-ltb, eq-eqb, ne-eqb}
+use Rattle.tables.specs.Lengths.{set-length2}
 use Rattle.distribute_fc2.specs.Fc2Laws.{product-small}
 use borrow.Author.Needs.{needs}
 use Rattle.distribute_fc2.proofs.lengths_wrong.Statement.{statement}
@@ -18,11 +19,13 @@ mul-if1-2 c = let a = c .args in omega (arith, product-small (a .num-first) (a .
 
 returns : tie.Need-returns
 returns c =
-    or-here _ _ (ap not (ne-eqb _ _ (c .if1 .taken)))
+    let a = c .before .args in
+    or-here _ _ (ap not (ne-eqb _ _ (λ e. c .if1 .taken (e ∙ set-length2 (a .num-first) (a .num-pos)))))
 
 returns-2 : tie.Need-returns-2
 returns-2 c =
-    or-next _ _ (ap not (eq-eqb _ _ (c .before .if1 .left)))
+    let a = c .before .before .args in
+    or-next _ _ (ap not (eq-eqb _ _ (c .before .if1 .left ∙ sym (set-length2 (a .num-first) (a .num-pos)))))
     (or-here _ _ (ap not (ne-eqb _ _ (c .if2 .taken))))
 
 mul-if3 : tie.Need-mul-if3
@@ -30,7 +33,8 @@ mul-if3 c = search needs
 
 returns-3 : tie.Need-returns-3
 returns-3 c =
-    or-next _ _ (ap not (eq-eqb _ _ (c .before .before .if1 .left)))
+    let a = c .before .before .before .args in
+    or-next _ _ (ap not (eq-eqb _ _ (c .before .before .if1 .left ∙ sym (set-length2 (a .num-first) (a .num-pos)))))
     (or-next _ _ (ap not (eq-eqb _ _ (c .before .if2 .left)))
     (or-here _ _ (ap not (ne-eqb _ _ (c .if3 .taken)))))
 
@@ -39,14 +43,16 @@ mul-if4 c = let a = c .before .before .before .args in omega (arith, product-sma
 
 returns-4 : tie.Need-returns-4
 returns-4 c =
-    or-next _ _ (ap not (eq-eqb _ _ (c .before .before .before .if1 .left)))
+    let a = c .before .before .before .before .args in
+    or-next _ _ (ap not (eq-eqb _ _ (c .before .before .before .if1 .left ∙ sym (set-length2 (a .num-first) (a .num-pos)))))
     (or-next _ _ (ap not (eq-eqb _ _ (c .before .before .if2 .left)))
     (or-next _ _ (ap not (eq-eqb _ _ (c .before .if3 .left)))
     (or-here _ _ (ap not (ne-eqb _ _ (c .if4 .taken))))))
 
 returns-5 : tie.Need-returns-5
 returns-5 c =
-    or-next _ _ (ap not (eq-eqb _ _ (c .before .before .before .before .if1 .left)))
+    let a = c .before .before .before .before .before .args in
+    or-next _ _ (ap not (eq-eqb _ _ (c .before .before .before .before .if1 .left ∙ sym (set-length2 (a .num-first) (a .num-pos)))))
     (or-next _ _ (ap not (eq-eqb _ _ (c .before .before .before .if2 .left)))
     (or-next _ _ (ap not (eq-eqb _ _ (c .before .before .if3 .left)))
     (or-next _ _ (ap not (eq-eqb _ _ (c .before .if4 .left)))
@@ -54,7 +60,8 @@ returns-5 c =
 
 returns-6 : tie.Need-returns-6
 returns-6 c =
-    or-next _ _ (ap not (eq-eqb _ _ (c .before .before .before .before .before .if1 .left)))
+    let a = c .before .before .before .before .before .before .args in
+    or-next _ _ (ap not (eq-eqb _ _ (c .before .before .before .before .before .if1 .left ∙ sym (set-length2 (a .num-first) (a .num-pos)))))
     (or-next _ _ (ap not (eq-eqb _ _ (c .before .before .before .before .if2 .left)))
     (or-next _ _ (ap not (eq-eqb _ _ (c .before .before .before .if3 .left)))
     (or-next _ _ (ap not (eq-eqb _ _ (c .before .before .if4 .left)))
@@ -63,7 +70,8 @@ returns-6 c =
 
 returns-7 : tie.Need-returns-7
 returns-7 c =
-    or-next _ _ (ap not (eq-eqb _ _ (c .before .before .before .before .before .if1 .left)))
+    let a = c .before .before .before .before .before .before .args in
+    or-next _ _ (ap not (eq-eqb _ _ (c .before .before .before .before .before .if1 .left ∙ sym (set-length2 (a .num-first) (a .num-pos)))))
     (or-next _ _ (ap not (eq-eqb _ _ (c .before .before .before .before .if2 .left)))
     (or-next _ _ (ap not (eq-eqb _ _ (c .before .before .before .if3 .left)))
     (or-next _ _ (ap not (eq-eqb _ _ (c .before .before .if4 .left)))

@@ -1,3 +1,4 @@
+use Rattle.tables.specs.Lengths.{set-length2}
 use Rattle.fc2.specs.FullLaws.{square}
 use borrow.Author.Tests.{eq-eqb, ne-eqb, lt-ltb, le-ltb}
 use native.Mathlib.Omega.{arith}
@@ -17,10 +18,10 @@ mul-if2-2 : tie.Need-mul-if2-2
 mul-if2-2 c = let g = square (c .before .args .n) (omega arith) in omega arith
 
 returns-2 : tie.Need-returns-2
-returns-2 c = simp (le-ltb _ _ (c .before .if1 .left), ne-eqb _ _ (c .if2 .taken))
+returns-2 c = simp (le-ltb _ _ (c .before .if1 .left), set-length2 (c .before .before .args .n) (c .before .before .args .n), ne-eqb _ _ (c .if2 .taken))
 
 returns-3 : tie.Need-returns-3
-returns-3 c = simp (le-ltb _ _ (c .before .if1 .left), eq-eqb _ _ (c .if2 .left))
+returns-3 c = simp (le-ltb _ _ (c .before .if1 .left), set-length2 (c .before .before .args .n) (c .before .before .args .n), eq-eqb _ _ (c .if2 .left))
 
 pub judge-drift-spec : {M : Type 1} → statement M
 judge-drift-spec = tie.close (tie.spec returns mul-if2 mul-if2-2 returns-2 returns-3)

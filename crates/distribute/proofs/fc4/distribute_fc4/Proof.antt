@@ -1,21 +1,15 @@
 use mathlib.Core.Path.{_≡_, sym, ap, _∙_}
 use mathlib.Core.Bool.{false}
-use Prim.Native.Nat.{ℕ, _*_}
 use native.Mathlib.Omega.{arith}
 use lib.ListN.{length}
 use borrow.Author.Needs.{needs}
-use Rattle.lists.specs.Digits.{room}
 use Rattle.tables.specs.Answers.{isRefusal, is-done}
 use Rattle.tables.specs.Conditions.{read}
+use Rattle.tables.specs.Lengths.{setLength, set-blocks}
 use Rattle.rotations.specs.Rotation.{coefficients}
 use Rattle.slabs.specs.SlabLaws.{whole-block, loops-distribute, inside-slab, ready, judged-stated, refused, done-call}
 use Rattle.distribute.proofs.fc4.distribute_fc4.Statement.{statement}
 use Rattle.distribute.proofs.fc4.distribute_fc4.Tie as tie
-
--- a set of x blocks
-in-blocks : (x : ℕ) → room 3 4 x ≡ x * 81
-unfolding room
-in-blocks x = omega arith
 
 stated-length-requires : tie.Need-stated-length-requires
 stated-length-requires c κs = search needs
@@ -30,9 +24,9 @@ returns : tie.Need-returns
 returns c =
     let j = c .before .before in
     let a = j .before .before .before .before .args in
-    let X = room (a .num-atom) 3 (a .num-first) in
+    let X = setLength (a .num-first) (a .num-atom) 3 in
     let e = j .judge-slabs .ensures
-    ∙ judged-stated 64 _ (room 3 4 X) (length (a .fc4 .now)) (a .atom-mapping .now) (a .num-atom) (length (a .rot-cart .now)) (a .num-first) (a .target) (a .source)
+    ∙ judged-stated 64 _ X (length (a .fc4 .now)) (a .atom-mapping .now) (a .num-atom) (length (a .rot-cart .now)) (a .num-first) (a .target) (a .source)
     (j .before .stated-length .ensures) in
     refused 64 3 (a .fc4 .now) (a .target) (a .source) (a .atom-mapping .now) (a .num-atom) (a .rot-cart .now) (a .num-first) (j .judge-slabs .result) e
     (sym (c .before .is-refusal .ensures) ∙ c .if1 .taken)
@@ -41,12 +35,12 @@ read9-requires : tie.Need-read9-requires
 read9-requires c κs =
     let j = c .before .before in
     let a = j .before .before .before .before .args in
-    let X = room (a .num-atom) 3 (a .num-first) in
+    let X = setLength (a .num-first) (a .num-atom) 3 in
     let e = j .judge-slabs .ensures
-    ∙ judged-stated 64 _ (room 3 4 X) (length (a .fc4 .now)) (a .atom-mapping .now) (a .num-atom) (length (a .rot-cart .now)) (a .num-first) (a .target) (a .source)
+    ∙ judged-stated 64 _ X (length (a .fc4 .now)) (a .atom-mapping .now) (a .num-atom) (length (a .rot-cart .now)) (a .num-first) (a .target) (a .source)
     (j .before .stated-length .ensures) in
     let r : isRefusal (j .judge-slabs .result) ≡ false = sym (c .before .is-refusal .ensures) ∙ c .if1 .left in
-    let R = ready 64 (room 3 4 X) _ _ _ _ _ _ _ (sym e ∙ is-done (j .judge-slabs .result) r) in
+    let R = ready 64 X _ _ _ _ _ _ _ (sym e ∙ is-done (j .judge-slabs .result) r) in
     omega (arith, R .rotation-length)
 
 coefficients4-requires : tie.Need-coefficients4-requires
@@ -56,13 +50,13 @@ fill-slab-requires : tie.Need-fill-slab-requires
 fill-slab-requires c κs =
     let j = c .before .before .before .before .before .before in
     let a = j .before .before .before .before .args in
-    let X = room (a .num-atom) 3 (a .num-first) in
+    let X = setLength (a .num-first) (a .num-atom) 3 in
     let e = j .judge-slabs .ensures
-    ∙ judged-stated 64 _ (room 3 4 X) (length (a .fc4 .now)) (a .atom-mapping .now) (a .num-atom) (length (a .rot-cart .now)) (a .num-first) (a .target) (a .source)
+    ∙ judged-stated 64 _ X (length (a .fc4 .now)) (a .atom-mapping .now) (a .num-atom) (length (a .rot-cart .now)) (a .num-first) (a .target) (a .source)
     (j .before .stated-length .ensures) in
     let r : isRefusal (j .judge-slabs .result) ≡ false = sym (c .before .before .before .before .before .is-refusal .ensures) ∙ c .before .before .before .before .if1 .left in
-    let R = ready 64 (room 3 4 X) _ _ _ _ _ _ _ (sym e ∙ is-done (j .judge-slabs .result) r) in
-    let l = R .set-length ∙ in-blocks X in (
+    let R = ready 64 X _ _ _ _ _ _ _ (sym e ∙ is-done (j .judge-slabs .result) r) in
+    let l = R .set-length ∙ set-blocks (a .num-first) (a .num-atom) 3 in (
       R .mapping-fit,
       (
         inside-slab (a .num-atom) 81 3 (a .target) (a .num-first) _ (R .target-below) l,
@@ -77,13 +71,13 @@ returns-2 : tie.Need-returns-2
 returns-2 c =
     let j = c .before .before .before .before .before .before .before .before .before in
     let a = j .before .before .before .before .args in
-    let X = room (a .num-atom) 3 (a .num-first) in
+    let X = setLength (a .num-first) (a .num-atom) 3 in
     let e = j .judge-slabs .ensures
-    ∙ judged-stated 64 _ (room 3 4 X) (length (a .fc4 .now)) (a .atom-mapping .now) (a .num-atom) (length (a .rot-cart .now)) (a .num-first) (a .target) (a .source)
+    ∙ judged-stated 64 _ X (length (a .fc4 .now)) (a .atom-mapping .now) (a .num-atom) (length (a .rot-cart .now)) (a .num-first) (a .target) (a .source)
     (j .before .stated-length .ensures) in
     let r : isRefusal (j .judge-slabs .result) ≡ false = sym (c .before .before .before .before .before .before .before .before .is-refusal .ensures) ∙ c .before .before .before .before .before .before .before .if1 .left in
-    let R = ready 64 (room 3 4 X) _ _ _ _ _ _ _ (sym e ∙ is-done (j .judge-slabs .result) r) in
-    let l = R .set-length ∙ in-blocks X in
+    let R = ready 64 X _ _ _ _ _ _ _ (sym e ∙ is-done (j .judge-slabs .result) r) in
+    let l = R .set-length ∙ set-blocks (a .num-first) (a .num-atom) 3 in
     let ec = c .before .before .before .before .before .coefficients4 .ensures ∙ ap (λ m. coefficients m 4 81) (c .before .before .before .before .before .before .read9 .ensures ∙ whole-block (a .rot-cart .now) (R .rotation-length)) in
     done-call 64 3 (a .fc4 .now) (a .target) (a .source) (a .atom-mapping .now) (a .num-atom) (a .rot-cart .now) (a .num-first) (j .judge-slabs .result) e r
     (c .before .before .fill-slab .ensures (a .rot-cart .now) ec

@@ -1,7 +1,8 @@
 use native.Mathlib.Nat.{mul-le-mul}
 use native.Mathlib.Omega.{arith}
 use Prim.Native.Nat.{_*_, _≤_}
-use Rattle.lists.specs.Digits.{room}
+use Rattle.tables.specs.Lengths.{set-length4}
+use mathlib.Core.Path.{sym}
 use Rattle.distribute.proofs.fc4.stated_length.Statement.{statement}
 use Rattle.distribute.proofs.fc4.stated_length.Tie as tie
 
@@ -41,8 +42,7 @@ mul-result-4 c =
     omega arith
 
 returns-3 : tie.Need-returns-3
-unfolding room
-returns-3 c = λ h g. omega arith
+returns-3 c = λ h g. let a = c .before .before .args in sym (set-length4 (a .num-first) (a .num-atom))
 
 pub stated-length-spec : {M : Type 1} → statement M
 stated-length-spec = tie.close (tie.spec returns returns-2 mul-result mul-result-2 mul-result-3 mul-result-4 returns-3)

@@ -1,14 +1,14 @@
-use Prim.Native.Nat.{ℕ, _+_, _*_, _-_, _≤_, _<_}
+use Prim.Native.Nat.{_+_, _*_, _-_, _≤_}
 use native.Mathlib.Omega.{arith}
-use mathlib.Core.Path.{_≡_, refl, sym, ap, _∙_}
+use mathlib.Core.Path.{_≡_, ap, _∙_}
 use mathlib.Core.List.{[]}
-use lib.ListN.{getD}
+use lib.ListN.{length, getD}
 use Rattle.lists.specs.Tab.{times, times-none, times-more}
 use Rattle.blocks.specs.Block.{block}
-use Rattle.lines.specs.Nine.{more, zeros}
+use Rattle.lines.specs.Nine.{more}
 use Rattle.lines.specs.Lines.{lineSums, block-fits}
 use Rattle.fc2.specs.FullLaws.{full-is}
-use Rattle.drift.specs.Laws.{Adding, adding-none, adding-more, adding-all}
+use Rattle.drift.specs.Laws.{Adding, adding-none, adding-more, adding-all, column-more}
 use borrow.Author.Needs.{needs}
 use Rattle.drift.proofs.scan.add_row.Statement.{statement}
 use Rattle.drift.proofs.scan.add_row.Tie as tie
@@ -19,7 +19,7 @@ use Rattle.lines.proofs.nine.more.Reads as more-reads
 use Rattle.places.proofs.full2.Reads as full2-reads
 
 abbrev Inv-loop : tie.InvT-loop
-Inv-loop fc columns₀ n i sums₀ j₀ columns sums j = (j ≤ n) × (sums ≡ times j (λ k t. more t (block 9 (i * n + k * 1) fc)) sums₀) × Adding n i j fc columns
+Inv-loop fc columns₀ n i sums₀ j₀ columns sums j = (j ≤ n) × (sums ≡ times j (λ k t. more t (block 9 (i * n + k * 1) fc)) sums₀) × Adding n (length columns₀) i 1 j fc columns
 
 abbrev μ-loop : tie.MeasureT-loop
 μ-loop fc columns₀ n i sums₀ j₀ columns sums j = n - j
@@ -27,7 +27,7 @@ abbrev μ-loop : tie.MeasureT-loop
 loop-holds : tie.Need-loop-holds Inv-loop μ-loop
 loop-holds c =
     let s = c .before in
-    (omega arith, times-none _ _, adding-none (s .args .n) (s .args .fc .now) (s .args .columns .now) (s .args .i) (s .pre .2))
+    (omega arith, times-none _ _, adding-none (s .args .n) (s .args .fc .now) (s .args .columns .now) (s .args .i) 1 (s .pre .2))
 
 full2-requires : tie.Need-full2-requires Inv-loop μ-loop
 full2-requires c κs = let s = c .before .before .before in (s .pre .0 .small, s .pre .1, c .loop-test .taken)
@@ -48,8 +48,7 @@ mul-more c = let z = c .before .before .before .before .before .before .pre .0 .
 slice-copy-out-more : tie.Need-slice-copy-out-more Inv-loop μ-loop
 slice-copy-out-more c =
     let l = c .before .before .before .before .loop in
-    let z = c .before .before .before .before .before .before .pre .0 .small in
-    omega (arith, l .inv .2 .long)
+    omega (arith, l .inv .2 .long, l .inv .2 .fits)
 
 more-requires-2 : tie.Need-more-requires-2 Inv-loop μ-loop
 more-requires-2 c κs = search needs
@@ -60,8 +59,7 @@ mul-column c = let z = c .before .before .before .before .before .before .before
 slice-set-from-column : tie.Need-slice-set-from-column Inv-loop μ-loop
 slice-set-from-column c =
     let l = c .before .before .before .before .before .before .loop in
-    let z = c .before .before .before .before .before .before .before .before .pre .0 .small in
-    omega (arith, l .inv .2 .long)
+    omega (arith, l .inv .2 .long, l .inv .2 .fits)
 
 add-j : tie.Need-add-j Inv-loop μ-loop
 add-j c = search needs
@@ -83,11 +81,11 @@ loop-again c =
     let w : a .i * a .n + l .j ≡ a .i * a .n + l .j * 1 = omega arith in (
       omega arith,
       times-more (l .j) _ _ (l .inv .1) (m .more .ensures ∙ ap (more (l .sums)) (b ∙ ap (λ b. block 9 b (a .fc .now)) w)),
-      adding-more (a .n) (a .fc .now) (l .columns) (a .i) (l .j) _ (s .pre .0 .small) (t .loop-test .taken) (c .more2 .ensures ∙ ap (more (getD (l .columns) (l .j) [])) b) (l .inv .2),
+      adding-more (a .n) (a .fc .now) (l .columns) (a .i) 1 (l .j) _ (t .loop-test .taken) (column-more (a .n) (a .fc .now) (l .columns) (a .i) (l .j) (c .more2 .ensures ∙ ap (more (getD (l .columns) (l .j) [])) b)) (l .inv .2),
     )
 
 same-length : tie.Need-same-length Inv-loop μ-loop
-same-length c = let l = c .before .loop in l .inv .2 .long ∙ sym (c .before .before .before .pre .2 .long)
+same-length c = c .before .loop .inv .2 .long
 
 returns : tie.Need-returns Inv-loop μ-loop
 unfolding lineSums
@@ -95,7 +93,7 @@ returns c =
     let l = c .before .loop in
     let s = c .before .before .before in
     let i : l .j ≡ s .args .n = omega arith in
-    (l .inv .1 ∙ rw i, adding-all (s .args .n) (s .args .fc .now) (l .columns) (s .args .i) (l .j) i (l .inv .2))
+    (l .inv .1 ∙ rw i, adding-all (s .args .n) (s .args .fc .now) (l .columns) (s .args .i) 1 (l .j) i (l .inv .2))
 
 pub add-row-spec : {M : Type 1} → statement M
 add-row-spec =

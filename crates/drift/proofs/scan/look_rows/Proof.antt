@@ -1,10 +1,10 @@
-use Prim.Native.Nat.{ℕ, _+_, _*_, _-_, _≤_, _<_}
+use Prim.Native.Nat.{ℕ, _+_, _-_, _≤_}
 use native.Mathlib.Omega.{arith}
-use mathlib.Core.Path.{_≡_, sym, ap₂, _∙_, subst}
+use mathlib.Core.Path.{_≡_, ap₂, _∙_, subst}
 use Rattle.lists.specs.Tab.{times, times-none, times-more}
-use Rattle.lines.specs.Nine.{zeros}
-use Rattle.lines.specs.Lines.{lineSums}
-use Rattle.drift.specs.Loops.{lookLine, lookLines, Summed}
+use lib.ListN.{length}
+use Rattle.drift.specs.Loops.{lookLine, lookRow, Summed}
+use Rattle.drift.specs.Laws.{summed-own, summed-back}
 use mathlib.Core.Logic.{⊎-elim}
 use borrow.Author.Tests.{not-false}
 use Rattle.drift.specs.Seen.{line-calm}
@@ -13,19 +13,26 @@ use Rattle.drift.proofs.scan.look_rows.Statement.{statement}
 use Rattle.drift.proofs.scan.look_rows.Tie as tie
 
 abbrev Inv-loop : tie.InvT-loop
-Inv-loop fc columns₀ n seen₀ i₀ columns seen i = (i ≤ n) × (seen ≡ times i (λ k. lookLine (0 + k) (lineSums (k * n) 1 n fc zeros)) seen₀) × Summed n i fc columns
+Inv-loop fc columns₀ n to seen₀ i₀ columns seen i = (i ≤ to) × (seen ≡ times i (lookRow n fc) seen₀) × Summed n (length columns₀) i fc columns
 
 abbrev μ-loop : tie.MeasureT-loop
-μ-loop fc columns₀ n seen₀ i₀ columns seen i = n - i
+μ-loop fc columns₀ n to seen₀ i₀ columns seen i = to - i
 
 loop-holds : tie.Need-loop-holds Inv-loop μ-loop
-loop-holds c = (omega arith, times-none _ _, c .before .pre .1)
+loop-holds c = (omega arith, times-none _ _, c .before .pre .2)
 
 add-row-requires : tie.Need-add-row-requires Inv-loop μ-loop
-add-row-requires c κs = (c .before .before .before .before .pre .0, c .before .loop-test .taken, c .before .before .loop .inv .2)
+add-row-requires c κs =
+    let s = c .before .before .before .before in
+    let h = s .pre .1 in
+    (s .pre .0, omega arith, summed-own (c .before .before .loop .inv .2))
 
 look-line-requires : tie.Need-look-line-requires Inv-loop μ-loop
-look-line-requires c κs = let h = c .before .before .before .before .before .before .before .before .pre .0 .small in omega arith
+look-line-requires c κs =
+    let s = c .before .before .before .before .before .before .before .before in
+    let h = s .pre .0 .small in
+    let k = s .pre .1 in
+    omega arith
 
 add-i : tie.Need-add-i Inv-loop μ-loop
 add-i c = search needs
@@ -43,18 +50,17 @@ loop-again c =
     (λ w. w .2 ∙ w .1 .ensures)
     (λ w. w .1 ∙ line-calm (l .i) (r .result) (l .seen) (c .before .calm .ensures (not-false (c .before .calm .result) (w .0 .left))))
     (c .if1 .came) in
-    (omega arith, times-more (l .i) _ _ (l .inv .1) (f ∙ ap₂ (λ q s. lookLine q s (l .seen)) e (r .ensures .0)), r .ensures .1)
+    (omega arith, times-more (l .i) _ _ (l .inv .1) (f ∙ ap₂ (λ q s. lookLine q s (l .seen)) e (r .ensures .0)), summed-back (l .inv .2) (r .ensures .1))
 
 same-length : tie.Need-same-length Inv-loop μ-loop
-same-length c = c .before .loop .inv .2 .long ∙ sym (c .before .before .before .pre .1 .long)
+same-length c = c .before .loop .inv .2 .long
 
 returns : tie.Need-returns Inv-loop μ-loop
-unfolding lookLines
 returns c =
     let l = c .before .loop in
     let a = c .before .before .before .args in
-    let i : l .i ≡ a .n = omega arith in
-    (l .inv .1 ∙ rw i, subst (λ (m : ℕ). Summed (a .n) m (a .fc .now) (l .columns)) i (l .inv .2))
+    let i : l .i ≡ a .to = omega arith in
+    (l .inv .1 ∙ rw i, subst (λ (m : ℕ). Summed (a .n) (length (a .columns .now)) m (a .fc .now) (l .columns)) i (l .inv .2))
 
 calm-requires : tie.Need-calm-requires Inv-loop μ-loop
 calm-requires c κs = search needs

@@ -1,3 +1,4 @@
+use Rattle.tables.specs.Lengths.{set-length2}
 use Rattle.fc2.specs.FullLaws.{square}
 use borrow.Author.Tests.{lt-ltb, le-ltb}
 use borrow.Author.Tests.{le-leb, lt-leb, eq-eqb, ne-eqb}
@@ -21,10 +22,10 @@ mul-if3-2 : tie.Need-mul-if3-2
 mul-if3-2 c = let g = square (c .before .before .args .n) (omega arith) in omega arith
 
 returns-3 : tie.Need-returns-3
-returns-3 c = simp (le-ltb _ _ (c .before .before .if1 .left), le-ltb _ _ (c .before .if2 .left), ne-eqb _ _ (c .if3 .taken))
+returns-3 c = simp (le-ltb _ _ (c .before .before .if1 .left), le-ltb _ _ (c .before .if2 .left), set-length2 (c .before .before .before .args .n) (c .before .before .before .args .n), ne-eqb _ _ (c .if3 .taken))
 
 returns-4 : tie.Need-returns-4
-returns-4 c = simp (le-ltb _ _ (c .before .before .if1 .left), le-ltb _ _ (c .before .if2 .left), eq-eqb _ _ (c .if3 .left))
+returns-4 c = simp (le-ltb _ _ (c .before .before .if1 .left), le-ltb _ _ (c .before .if2 .left), set-length2 (c .before .before .before .args .n) (c .before .before .before .args .n), eq-eqb _ _ (c .if3 .left))
 
 pub judge-full-spec : {M : Type 1} → statement M
 judge-full-spec = tie.close (tie.spec returns returns-2 mul-if3 mul-if3-2 returns-3 returns-4)

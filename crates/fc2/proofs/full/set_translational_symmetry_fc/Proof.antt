@@ -14,7 +14,7 @@ use Rattle.fc2.proofs.full.set_translational_symmetry_fc.Tie as tie
 use Rattle.fc2.proofs.full.set_translational_symmetry_fc.Reads as reads
 use Rattle.fc2.proofs.full.set_translational_symmetry_fc.Lts as lts
 use Rattle.blocks.proofs.write9.Reads as write9-reads
-use Rattle.lines.proofs.nine.balance.Reads as balance-reads
+use Rattle.nines.proofs.balance.Reads as balance-reads
 use Rattle.lines.proofs.other_sums.Reads as other-sums-reads
 use Rattle.places.proofs.full2.Reads as full2-reads
 

@@ -3,8 +3,8 @@ use mathlib.Core.List.{[], _∷_}
 use lib.ListN.{length}
 use Rattle.places.specs.Permutations.{six}
 use Rattle.orbits.specs.Groups.{spreadBlock}
-use Rattle.fc3_groups.specs.Mean.{mean6}
-use Rattle.fc3_groups.specs.Spread.{six-are, length-means}
+use Rattle.fc3_means.specs.Mean.{mean6}
+use Rattle.fc3_spots.specs.Spread.{six-are, length-means}
 use Rattle.fc3_groups.specs.Repeated.{FirstTwo, LastTwo}
 use borrow.Author.Needs.{needs}
 use Rattle.fc3_groups.proofs.spread.work_known.Statement.{statement}
@@ -56,7 +56,11 @@ group-means-requires : tie.Need-group-means-requires
 group-means-requires c κs = search needs
 
 put-blocks-requires : tie.Need-put-blocks-requires
-put-blocks-requires c κs = search needs
+put-blocks-requires c κs =
+    let s = c .before .before .before .before .before in
+    let a = s .args in
+    let bs = a .b0 ∷ a .b1 ∷ a .b2 ∷ a .b3 ∷ a .b4 ∷ a .b5 ∷ [] in
+    (s .pre .0, s .pre .1 (c .before .if1 .taken), ap length (c .before .before .group-means .ensures) ∙ length-means mean6 six bs (a .fc3 .now))
 
 same-length : tie.Need-same-length
 same-length c = search needs
