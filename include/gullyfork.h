@@ -334,6 +334,22 @@ uint8_t gf_replace_block_fc2(
     const double *block, size_t block_len,
     size_t i, size_t j, size_t n_satom);
 
+/*
+ * Reads a compact set out to the full one: for any atoms and directions of the supercell the number that the compact set has for them.
+ * What was in `full` has no influence; the compact set is not changed.
+ *   full  n_satom x n_satom x 9, only written
+ *   fc2   n_patom x n_satom x 9
+ * Refusals: 1 (a count above 1,024), 2, 3, 6.
+ */
+uint8_t gf_compact_to_full_fc2(
+    double *full, size_t full_len,
+    const double *fc2, size_t fc2_len,
+    const int64_t *p2s, size_t p2s_len,
+    const int64_t *s2pp, size_t s2pp_len,
+    const int64_t *nsym_list, size_t nsym_list_len,
+    const int64_t *perms, size_t perms_len,
+    size_t n_satom, size_t n_patom, size_t num_trans);
+
 /* ---- third order ---- */
 
 /*
@@ -429,6 +445,24 @@ uint8_t gf_rotate_delta_fc2s(
     const int64_t *rot_map_syms, size_t rot_map_syms_len,
     double *rot_delta, size_t rot_delta_len,
     size_t num_atom, size_t num_site_sym, size_t num_disp);
+
+/*
+ * Reads a compact set out to the full one: for any atoms and directions of the supercell the number that the compact set has for them.
+ * What was in `full` has no influence; the compact set is not changed.
+ * If every number of the set is on the grid (whole multiples of 2^-20 of absolute value at most 2^20), reading out and then symmetrizing with
+ * gf_set_permutation_symmetry_fc3 gives the same bits as symmetrizing with gf_set_permutation_symmetry_compact_fc3 and then reading out.
+ *   full  n_satom x n_satom x n_satom x 27, only written
+ *   fc3   n_patom x n_satom x n_satom x 27
+ * Refusals: 1 (a count above 256), 2, 3, 6.
+ */
+uint8_t gf_compact_to_full_fc3(
+    double *full, size_t full_len,
+    const double *fc3, size_t fc3_len,
+    const int64_t *p2s, size_t p2s_len,
+    const int64_t *s2pp, size_t s2pp_len,
+    const int64_t *nsym_list, size_t nsym_list_len,
+    const int64_t *perms, size_t perms_len,
+    size_t n_satom, size_t n_patom, size_t num_trans);
 
 /* ---- fourth order ---- */
 
@@ -544,6 +578,24 @@ uint8_t gf_rotate_delta_fc3s(
     const int64_t *rot_map_syms, size_t rot_map_syms_len,
     double *rot_delta, size_t rot_delta_len,
     size_t num_atom, size_t num_site_sym, size_t num_disp);
+
+/*
+ * Reads a compact set out to the full one: for any atoms and directions of the supercell the number that the compact set has for them.
+ * What was in `full` has no influence; the compact set is not changed.
+ * If every number of the set is on the grid (whole multiples of 2^-20 of absolute value at most 2^20), reading out and then symmetrizing with
+ * gf_set_permutation_symmetry_fc4 gives the same bits as symmetrizing with gf_set_permutation_symmetry_compact_fc4 and then reading out.
+ *   full  n_satom x n_satom x n_satom x n_satom x 81, only written
+ *   fc4   n_patom x n_satom x n_satom x n_satom x 81
+ * Refusals: 1 (a count above 64), 2, 3, 6.
+ */
+uint8_t gf_compact_to_full_fc4(
+    double *full, size_t full_len,
+    const double *fc4, size_t fc4_len,
+    const int64_t *p2s, size_t p2s_len,
+    const int64_t *s2pp, size_t s2pp_len,
+    const int64_t *nsym_list, size_t nsym_list_len,
+    const int64_t *perms, size_t perms_len,
+    size_t n_satom, size_t n_patom, size_t num_trans);
 
 /* ---- a delivery roll ---- */
 

@@ -104,6 +104,21 @@ extern "C" {
         nsym_list: *const i64, nsym_list_len: usize, perms: *const i64, perms_len: usize, done: *mut u8,
         done_len: usize, n_satom: usize, n_patom: usize, num_trans: usize, t_type: i64,
     ) -> u8;
+    pub fn gf_compact_to_full_fc2(
+        full: *mut f64, full_len: usize, fc2: *const f64, fc2_len: usize, p2s: *const i64, p2s_len: usize, s2pp: *const i64,
+        s2pp_len: usize, nsym_list: *const i64, nsym_list_len: usize, perms: *const i64, perms_len: usize, n_satom: usize,
+        n_patom: usize, num_trans: usize,
+    ) -> u8;
+    pub fn gf_compact_to_full_fc3(
+        full: *mut f64, full_len: usize, fc3: *const f64, fc3_len: usize, p2s: *const i64, p2s_len: usize, s2pp: *const i64,
+        s2pp_len: usize, nsym_list: *const i64, nsym_list_len: usize, perms: *const i64, perms_len: usize, n_satom: usize,
+        n_patom: usize, num_trans: usize,
+    ) -> u8;
+    pub fn gf_compact_to_full_fc4(
+        full: *mut f64, full_len: usize, fc4: *const f64, fc4_len: usize, p2s: *const i64, p2s_len: usize, s2pp: *const i64,
+        s2pp_len: usize, nsym_list: *const i64, nsym_list_len: usize, perms: *const i64, perms_len: usize, n_satom: usize,
+        n_patom: usize, num_trans: usize,
+    ) -> u8;
     pub fn gf_row_sums_fc2(sums: *mut f64, sums_len: usize, fc: *const f64, fc_len: usize, n_satom: usize) -> u8;
     pub fn gf_replace_block_fc2(
         fc: *mut f64, fc_len: usize, sums: *mut f64, sums_len: usize, block: *const f64, block_len: usize, i: usize, j: usize,

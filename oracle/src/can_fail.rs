@@ -81,6 +81,7 @@ fn compact_sets() {
 fn full_sets() {
     for order in 2..5 {
         seen(|r| makers::full(r, order));
+        seen(|r| makers::read_out(r, order));
     }
 }
 

@@ -4,10 +4,10 @@ use crate::call_compact::Name;
 use crate::compare_limits::limits;
 use crate::rng::Rng;
 use crate::tally::Tally;
-use crate::{compare_common, compare_lists, compare_roll, compare_row_sums, compare_true, makers, port};
+use crate::{compare_agree, compare_common, compare_lists, compare_roll, compare_row_sums, compare_true, makers, port};
 
-/// Every public call, the lists of transposes, the read-outs of the true ones, the lists of swaps, whole rolls and series of edits, in the order in which they are compared.
-pub const CALLS: [&str; 38] = [
+/// Every public call, the lists of transposes, the read-outs of the true ones, the lists of swaps, whole rolls, series of edits and the two ways to a full set, in the order in which they are compared.
+pub const CALLS: [&str; 43] = [
     "nint",
     "round",
     "sqrt",
@@ -46,6 +46,11 @@ pub const CALLS: [&str; 38] = [
     "series of edits",
     "stands_now",
     "retire_all",
+    "compact_to_full_fc2",
+    "compact_to_full_fc3",
+    "compact_to_full_fc4",
+    "compact and full on the grid",
+    "compact and full off the grid",
 ];
 
 /// Of nint, round and sqrt so many patterns are tried for each call of the others.
@@ -92,6 +97,11 @@ fn run(tally: &mut Tally, r: &mut Rng, count: u64) {
         "series of edits" => compare_row_sums::series(tally, r, count),
         "stands_now" => compare_roll::run(tally, r, count, compare_roll::Name::StandsNow),
         "retire_all" => compare_roll::run(tally, r, count, compare_roll::Name::RetireAll),
+        "compact_to_full_fc2" => beside(tally, r, count, |r| makers::read_out(r, 2)),
+        "compact_to_full_fc3" => beside(tally, r, count, |r| makers::read_out(r, 3)),
+        "compact_to_full_fc4" => beside(tally, r, count, |r| makers::read_out(r, 4)),
+        "compact and full on the grid" => compare_agree::on_grid(tally, r, count),
+        "compact and full off the grid" => compare_agree::off_grid(tally, r, count),
         _ => compare_lists::same_order(tally, r, count),
     }
 }
@@ -103,6 +113,7 @@ fn present(name: &str) -> bool {
         "series of edits" => "replace_block_fc2",
         "true transposes read out" => "true_transpose_compact_fc4",
         "lists of swaps" => "swap_pairs_compact_fc4",
+        _ if name.starts_with("compact and full") => "compact_to_full_fc4",
         _ if name.starts_with("lists") => "transpose_compact_fc3",
         _ => name,
     })

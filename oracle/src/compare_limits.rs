@@ -8,6 +8,7 @@ use crate::call_drift::Drift;
 use crate::call_finding::{crowd, staircase, Finding};
 use crate::call_full::Full;
 use crate::call_matching::{Matching, EVERYWHERE};
+use crate::call_read_out::ReadOut;
 use crate::call_slabs::Slabs;
 use crate::call_tables::Check;
 use crate::matching::{pair, Kind, SKEW};
@@ -48,6 +49,9 @@ fn second(tallies: &mut Vec<Tally>, r: &mut Rng) {
     one(tallies, "check_shift_tables", Check(one_atom.clone()));
     one(tallies, "check_shift_tables", Check(all_atoms));
     one(tallies, "perm_trans_symmetrize_compact_fc", compact(r, Name::Symmetrize2, one_atom.clone(), 0));
+    let mut read_out = ReadOut::new(2, one_atom.clone());
+    read_out.set = fill(r, read_out.set.len());
+    one(tallies, "compact_to_full_fc2", read_out);
     one(tallies, "set_index_permutation_symmetry_compact_fc", compact(r, Name::Exchange2, one_atom, 1));
     let mut full = Full { level: 1, ..Full::new(2, 1024) };
     full.set = plain(r, full.stated());

@@ -19,14 +19,14 @@ fn legs(order: usize, t_type: i64) -> Option<(usize, usize)> {
 }
 
 /// Where the read-out's number for the legs (atom, direction) stands.
-fn address(t: &Tables, legs: &[(usize, usize)]) -> usize {
+pub fn address(t: &Tables, legs: &[(usize, usize)]) -> usize {
     let row = t.nsym_list[legs[0].0] as usize;
     let block = legs[1..].iter().fold(t.s2pp[legs[0].0] as usize, |b, leg| b * t.n_satom + t.row(row, leg.0));
     legs.iter().fold(block, |place, leg| place * 3 + leg.1)
 }
 
 /// Number k of all choices of legs, whose first atoms are one of `first`.
-fn choice(k: usize, order: usize, n_satom: usize, first: impl Fn(usize) -> usize) -> Vec<(usize, usize)> {
+pub fn choice(k: usize, order: usize, n_satom: usize, first: impl Fn(usize) -> usize) -> Vec<(usize, usize)> {
     let mut rest = k;
     let mut digit = |base: usize| {
         let d = rest % base;

@@ -18,11 +18,13 @@ mod call_drift;
 mod call_finding;
 mod call_full;
 mod call_matching;
+mod call_read_out;
 mod call_slabs;
 mod call_tables;
 #[cfg(test)]
 mod can_fail;
 mod compare;
+mod compare_agree;
 mod compare_common;
 mod compare_limits;
 mod compare_lists;
@@ -40,6 +42,7 @@ mod makers;
 mod matching;
 mod memory;
 mod port;
+mod read_out_records;
 mod record;
 mod retire_records;
 mod rng;
@@ -59,7 +62,7 @@ mod wild;
 #[global_allocator]
 static HEAP: memory::Counting = memory::Counting;
 
-const USAGE: &str = "oracle record common|shifts|matching|second|compact|third|fourth|true|distribute|deltas|roll|retire|row_sums|finding FOLDER
+const USAGE: &str = "oracle record common|shifts|matching|second|compact|third|fourth|true|distribute|deltas|roll|retire|row_sums|finding|read_out FOLDER
 oracle flip PROGRAM FOLDER COUNT
 oracle compare all|limits|CALL [SEED [COUNT]]
 oracle bench all|common|cells|fc2|fc3|fc4|tables|transposes|swaps|drift|finding [SECONDS]";
@@ -84,6 +87,7 @@ fn record(name: &str, folder: &Path) -> Outcome {
         "retire" => retire_records::replay(),
         "row_sums" => row_sums_records::replay(),
         "finding" => finding_records::replay(),
+        "read_out" => read_out_records::replay(),
         _ => return None,
     };
     fs::write(folder.join("stdin"), record::pages(&replay.records)).expect("stdin can be written");
@@ -144,7 +148,7 @@ fn main() {
     let outcome = match words[..] {
         ["record", name, folder] => record(name, Path::new(folder)),
         ["flip", program, folder, count] => count.parse().ok().map(|count| flip::flip(program, Path::new(folder), count)),
-        ["compare", ..] | ["bench", ..] if !port::has("nint") && !port::has("is_roll") && !port::has("row_sums_fc2") => {
+        ["compare", ..] | ["bench", ..] if !port::has("nint") && !port::has("is_roll") && !port::has("row_sums_fc2") && !port::has("compact_to_full_fc2") => {
             eprintln!("compare and bench need libcapi.a: run `bindings/library` and build again");
             Some(false)
         }

@@ -7,6 +7,7 @@ use crate::call_drift::Drift;
 use crate::call_finding::{crowd, on_axis, staircase, Finding};
 use crate::call_full::Full;
 use crate::call_matching::Matching;
+use crate::call_read_out::ReadOut;
 use crate::call_slabs::Slabs;
 use crate::call_tables::Check;
 use crate::groups::random_tables;
@@ -70,6 +71,20 @@ pub fn full(r: &mut Rng, order: usize) -> Full {
     if order == 2 {
         call.level = level(r, call.set.len());
     }
+    call
+}
+
+/// The full set has at most so many numbers; there is rubbish in it.
+pub fn read_out(r: &mut Rng, order: usize) -> ReadOut {
+    let most = most(r);
+    let mut call = loop {
+        let tables = random_tables(r, order, most);
+        if (3 * tables.n_satom).pow(order as u32) <= most {
+            break ReadOut::new(order, tables);
+        }
+    };
+    call.set = fill(r, call.set.len());
+    call.full = fill(r, call.full.len());
     call
 }
 

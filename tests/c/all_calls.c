@@ -307,6 +307,66 @@ static void compact_second_order(void) {
     CHECK(three[9 + 1] == (before[9 + 1] + before[18 + 3]) / 2 && three[18 + 3] == three[9 + 1]);
 }
 
+/* block (i, j, ..) of the full set is block (0, j - i, ..) of the compact one, where shifts go in a circle */
+static bool read_out(const double *full, const double *set, size_t order, size_t width) {
+    size_t blocks = 1;
+    for (size_t k = 0; k < order; k++) {
+        blocks *= 3;
+    }
+    for (size_t b = 0; b < blocks; b++) {
+        size_t i = b / (blocks / 3), from = 0;
+        for (size_t part = blocks / 9; part > 0; part /= 3) {
+            from = from * 3 + (b / part % 3 + 3 - i) % 3;
+        }
+        if (memcmp(full + b * width, set + from * width, width * sizeof *set) != 0) {
+            return false;
+        }
+    }
+    return true;
+}
+
+static void full_sets(void) {
+    static double set[27 * 81], full[81 * 81], before[81 * 81];
+    count_up(S(set));
+    count_up(S(full));
+    memcpy(before, full, sizeof full);
+    CHECK(gf_compact_to_full_fc2(full, 81, set, 27, THREE, 1025, 1, 3) == GF_COUNT_ABOVE_LIMIT);
+    CHECK(gf_compact_to_full_fc2(full, 80, set, 27, THREE, 1025, 1, 3) == GF_COUNT_ABOVE_LIMIT);
+    CHECK(gf_compact_to_full_fc2(full, 80, set, 27, THREE, 3, 1, 3) == GF_WRONG_LENGTH);
+    CHECK(gf_compact_to_full_fc2(full, 81, set, 26, THREE, 3, 1, 3) == GF_WRONG_LENGTH);
+    CHECK(gf_compact_to_full_fc2(full, 80, set, 27, THREE_WRONG, 3, 1, 3) == GF_WRONG_LENGTH);
+    CHECK(gf_compact_to_full_fc2(full, 81, set, 27, THREE_WRONG, 3, 1, 3) == GF_BAD_SHIFT_TABLES);
+    CHECK(gf_compact_to_full_fc3(full, 27 * 27, set, 9 * 27, THREE, 257, 1, 3) == GF_COUNT_ABOVE_LIMIT);
+    CHECK(gf_compact_to_full_fc3(full, 27 * 27 + 1, set, 9 * 27, THREE, 3, 1, 3) == GF_WRONG_LENGTH);
+    CHECK(gf_compact_to_full_fc3(full, 27 * 27, set, 9 * 27, THREE_WRONG, 3, 1, 3) == GF_BAD_SHIFT_TABLES);
+    CHECK(gf_compact_to_full_fc4(full, 81 * 81, set, 27 * 81, THREE, 3, 1, 65) == GF_COUNT_ABOVE_LIMIT);
+    CHECK(gf_compact_to_full_fc4(full, 81 * 81, set, 27 * 81, S(three_p2s), S(three_nsym), S(three_nsym), S(three_perms), 3, 1, 3) == GF_INDEX_OUT_OF_RANGE);
+    CHECK(memcmp(full, before, sizeof full) == 0);
+    CHECK(gf_compact_to_full_fc2(full, 81, set, 27, THREE, 3, 1, 3) == GF_DONE && read_out(full, set, 2, 9));
+    CHECK(gf_compact_to_full_fc3(full, 27 * 27, set, 9 * 27, THREE, 3, 1, 3) == GF_DONE && read_out(full, set, 3, 27));
+    CHECK(gf_compact_to_full_fc4(full, 81 * 81, set, 27 * 81, THREE, 3, 1, 3) == GF_DONE && read_out(full, set, 4, 81));
+}
+
+/* both ways to a symmetrized full set, on the grid, with a half shift */
+static void both_ways(void) {
+    static double set[8 * 81], one[16 * 81], other[16 * 81];
+    uint8_t done[16];
+    for (size_t k = 0; k < 8 * 81; k++) {
+        set[k] = (double)(k * k % 1000) / 8 - 60;
+    }
+    CHECK(gf_compact_to_full_fc3(one, 8 * 27, set, 4 * 27, TWO, 2, 1, 2) == GF_DONE);
+    CHECK(gf_set_permutation_symmetry_fc3(one, 8 * 27, 2) == GF_DONE);
+    CHECK(gf_compact_to_full_fc4(other, 16 * 81, set, 8 * 81, TWO, 2, 1, 2) == GF_DONE);
+    CHECK(gf_set_permutation_symmetry_compact_fc3(set, 4 * 27, TWO, done, 4, 2, 1, 2) == GF_DONE);
+    CHECK(gf_compact_to_full_fc3(one + 8 * 27, 8 * 27, set, 4 * 27, TWO, 2, 1, 2) == GF_DONE);
+    CHECK(memcmp(one, one + 8 * 27, 8 * 27 * sizeof *one) == 0);
+    memcpy(set, other, sizeof set); /* the slab of atom 0 is the compact set */
+    CHECK(gf_set_permutation_symmetry_fc4(S(other), S(done), 2) == GF_DONE);
+    CHECK(gf_set_permutation_symmetry_compact_fc4(S(set), TWO, done, 8, 2, 1, 2) == GF_DONE);
+    CHECK(gf_compact_to_full_fc4(S(one), S(set), TWO, 2, 1, 2) == GF_DONE);
+    CHECK(memcmp(one, other, sizeof one) == 0);
+}
+
 static void distribute_second_order(void) {
     const int64_t atom_list[] = {0, 1}, rows[] = {0, 1}, permutations[] = {0, 1, 1, 0};
     const int64_t map_atoms[] = {0, 0}, map_syms[] = {0, 1}, astray[] = {1, 0};
@@ -648,6 +708,8 @@ int main(void) {
     drift();
     edits();
     compact_second_order();
+    full_sets();
+    both_ways();
     distribute_second_order();
     symmetrize_third_order();
     transpose_third_order();

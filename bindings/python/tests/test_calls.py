@@ -152,6 +152,39 @@ class Second(unittest.TestCase):
         self.assertTrue(same_bits(out, sums))
 
 
+class FullSets(unittest.TestCase):
+    def test_read_out(self):
+        for t, order in itertools.product(TABLES, (2, 3, 4)):
+            fc = random(t.n_patom, *[t.n_satom] * (order - 1), *[3] * order)
+            call = getattr(gf, f"compact_to_full_fc{order}")
+            out = np.full((t.n_satom,) * order + (3,) * order, np.nan)
+            self.assertIs(call(fc, t, out=out), out)
+            self.assertTrue(same_bits(out, np.ascontiguousarray(read_out(fc, t))))
+            self.assertTrue(same_bits(call(fc, tuple(t)), out))
+
+    def test_both_ways_agree_on_the_grid(self):
+        for t, order in itertools.product(TABLES, (3, 4)):
+            compact = np.round(random(t.n_patom, *[t.n_satom] * (order - 1), *[3] * order) * 64) / 64
+            read, full = (getattr(gf, f"{name}_fc{order}") for name in ("compact_to_full", "set_permutation_symmetry"))
+            one = read(compact, t)
+            full(one)
+            getattr(gf, f"set_permutation_symmetry_compact_fc{order}")(compact, t)
+            self.assertTrue(same_bits(one, read(compact, t)))
+
+    def test_refused(self):
+        out = np.full((3, 3, 3, 3), 7.0)
+        with self.assertRaises(gf.Refused) as caught:
+            gf.compact_to_full_fc2(random(1, 3, 3, 3), (CIRCLE[0], CIRCLE[1], [0, 1, 2], CIRCLE[3]), out=out)
+        self.assertEqual((caught.exception.number, caught.exception.argument, float(out.min())), (6, "nsym_list", 7.0))
+        for given in (random(1, 3, 3, 3), random(2, 3, 3, 3, 3, 3), random(3, 1, 3, 3, 3, 3)):
+            with self.assertRaises(ValueError):
+                gf.compact_to_full_fc3(given, gf.Tables(*CIRCLE))
+        many = np.arange(65)
+        with self.assertRaises(gf.Refused) as caught:
+            gf.compact_to_full_fc4(np.zeros((0, 3, 3, 3, 3)), (many, many, many * 0, many[None]))
+        self.assertEqual((caught.exception.number, caught.exception.argument), (1, "n_satom"))
+
+
 def line(places):
     """Positions on the first axis."""
     return np.array([[x, 0, 0] for x in places], float)

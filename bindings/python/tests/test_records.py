@@ -280,6 +280,23 @@ class Records(unittest.TestCase):
                              4: (4, True, True, gf.true_transpose_compact_fc4),
                              5: (4, True, True, lambda fc, t, legs, work: gf.swap_pairs_compact_fc4(fc, t, legs % 8, legs // 8, work=work))}, 200)
 
+    def test_read_outs(self):
+        done = passed = 0
+        for r in map(Words, records("full_sets")):
+            refusal, of_full, order, seed, before, kind, full_len, set_len, *counts = r.ints(11)
+            perms, p2s, s2pp, nsym_list = r.tables(r.ints(4))
+            t = sent(p2s, s2pp, nsym_list, perms, counts)
+            others = (counts[0],) * (order - 1) + (3,) * order
+            if t is None or (full_len, set_len) != tuple(int(np.prod((first, *others), dtype=object)) for first in counts[:2]):
+                passed += 1
+                continue
+            out = floats((counts[0], *others), before, kind)
+            call = (gf.compact_to_full_fc2, gf.compact_to_full_fc3, gf.compact_to_full_fc4)[order - 2]
+            number, _ = answer(lambda: call(floats((counts[1], *others), seed, kind), t, out=out))
+            self.assertEqual((number, checksum(out)), (refusal, of_full))
+            done += 1
+        self.least(done, passed, 270)
+
     def test_distributors(self):
         done = passed = 0
         for r in map(Words, records("distribute")):

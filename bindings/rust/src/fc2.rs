@@ -322,3 +322,30 @@ pub fn row_sums_fc2(sums: &mut [f64], fc: &[f64], n_satom: usize) -> Result<(), 
 pub fn replace_block_fc2(fc: &mut [f64], sums: &mut [f64], block: [f64; 9], i: usize, j: usize, n_satom: usize) -> Result<(), Refusal> {
     answer(call!(gf_replace_block_fc2(&mut fc, &mut sums, &block, i, j, n_satom)))
 }
+
+/// Reads a compact set of n_patom × n_satom × 9 numbers out to the full one of n_satom² × 9: for any atoms and directions of the supercell
+/// the number that the compact set has for them. What was in `full` has no influence. Not in phonors.
+///
+/// ```
+/// use gullyfork::{fc2, Refusal};
+///
+/// let fc2: Vec<f64> = (0..18).map(f64::from).collect(); // one atom and its image
+/// let mut full = [0.0; 36];
+/// fc2::compact_to_full_fc2(&mut full, &fc2, &[0], &[0, 0], &[0, 1], &[0, 1, 1, 0], 2, 1)?;
+/// assert_eq!((&full[..18], &full[18..27], &full[27..]), (&fc2[..], &fc2[9..], &fc2[..9]));
+/// # Ok::<(), Refusal>(())
+/// ```
+#[allow(clippy::too_many_arguments)]
+pub fn compact_to_full_fc2(
+    full: &mut [f64],
+    fc2: &[f64],
+    p2s: &[i64],
+    s2pp: &[i64],
+    nsym_list: &[i64],
+    perms: &[i64],
+    n_satom: usize,
+    n_patom: usize,
+) -> Result<(), Refusal> {
+    let num_trans = rows(perms.len(), n_satom);
+    answer(call!(gf_compact_to_full_fc2(&mut full, &fc2, &p2s, &s2pp, &nsym_list, &perms, n_satom, n_patom, num_trans)))
+}

@@ -260,3 +260,37 @@ pub fn rotate_delta_fc2s_with(
         num_disp
     )))
 }
+
+/// Reads a compact set of n_patom × n_satom² × 27 numbers out to the full one of n_satom³ × 27: for any atoms and directions of the supercell
+/// the number that the compact set has for them. What was in `full` has no influence. Not in phonors.
+///
+/// If every number of the set is on the grid of [`replace_block_fc2`](crate::fc2::replace_block_fc2), reading out and then symmetrizing the
+/// full set gives the same bits as symmetrizing the compact set and then reading out.
+///
+/// ```
+/// use gullyfork::{fc3, Refusal};
+///
+/// let t = (&[0][..], &[0, 0][..], &[0, 1][..], &[0, 1, 1, 0][..]); // one atom and its image: a half shift
+/// let mut set: Vec<f64> = (0..108).map(|k| f64::from(k % 7) - 0.25).collect();
+/// let (mut one, mut other) = (vec![0.0; 216], vec![0.0; 216]);
+/// fc3::compact_to_full_fc3(&mut one, &set, t.0, t.1, t.2, t.3, 2, 1)?;
+/// fc3::set_permutation_symmetry_fc3(&mut one, 2)?;
+/// fc3::set_permutation_symmetry_compact_fc3(&mut set, t.0, t.1, t.2, t.3, 2, 1)?;
+/// fc3::compact_to_full_fc3(&mut other, &set, t.0, t.1, t.2, t.3, 2, 1)?;
+/// assert_eq!(one, other);
+/// # Ok::<(), Refusal>(())
+/// ```
+#[allow(clippy::too_many_arguments)]
+pub fn compact_to_full_fc3(
+    full: &mut [f64],
+    fc3: &[f64],
+    p2s: &[i64],
+    s2pp: &[i64],
+    nsym_list: &[i64],
+    perms: &[i64],
+    n_satom: usize,
+    n_patom: usize,
+) -> Result<(), Refusal> {
+    let num_trans = rows(perms.len(), n_satom);
+    answer(call!(gf_compact_to_full_fc3(&mut full, &fc3, &p2s, &s2pp, &nsym_list, &perms, n_satom, n_patom, num_trans)))
+}

@@ -23,6 +23,9 @@ fn huge_counts_are_refused_before_memory_is_asked_for() {
     assert_eq!(fc2::drift_report(&set, HUGE), Err(Refusal::CountAboveLimit));
     assert_eq!(fc2::row_sums_fc2(&mut set, &[], HUGE), above);
     assert_eq!(fc2::replace_block_fc2(&mut set, &mut [], IDENTITY, 0, 0, HUGE), above);
+    assert_eq!(fc2::compact_to_full_fc2(&mut set, &[], &[], &[], &[], &[], HUGE, 1), above);
+    assert_eq!(fc3::compact_to_full_fc3(&mut set, &[], &[], &[], &[], &[], 257, 1), above);
+    assert_eq!(fc4::compact_to_full_fc4(&mut set, &[], &[], &[], &[], &[], 1, 65), above);
     assert_eq!(fc3::set_permutation_symmetry_fc3(&mut set, HUGE), above);
     assert_eq!(fc3::set_permutation_symmetry_compact_fc3(&mut set, &[], &[], &[], &[], 257, 1), above);
     assert_eq!(fc3::transpose_compact_fc3(&mut set, &[], &[], &[], &[], 1, HUGE, 0), above);
@@ -124,6 +127,24 @@ fn a_group_has_fewer_places_than_members() {
     assert_eq!((slots, marks), ([-1; 3], [1, 0, 1]));
     assert_eq!(cells::find_permutation(&mut slots, &mut marks, &IDENTITY, [true; 3], &pos, &pos, 3, 0.1), Ok(true));
     assert_eq!((slots, marks), ([0, 1, 2], [0; 3]));
+}
+
+#[test]
+fn a_set_that_is_not_read_out_leaves_the_full_one() {
+    let (mut full, fc) = (counting(36), [0.5; 18]);
+    for (n, s2pp, nsym_list, refusal) in [
+        (1025, [-1, 0], [0, 1], Refusal::CountAboveLimit),
+        (35, [-1, 0], [0, 1], Refusal::WrongLength),
+        (36, [-1, 0], [0, 0], Refusal::IndexOutOfRange),
+        (36, [0, 0], [0, 0], Refusal::BadShiftTables),
+    ] {
+        let n_satom = if n > 1024 { n } else { 2 };
+        let lent = &mut full[..n.min(36)];
+        assert_eq!(fc2::compact_to_full_fc2(lent, &fc, &[0], &s2pp, &nsym_list, &[0, 1, 1, 0], n_satom, 1), Err(refusal));
+    }
+    assert_eq!(full, counting(36));
+    fc2::compact_to_full_fc2(&mut full, &fc, &[0], &[0, 0], &[0, 1], &[0, 1, 1, 0], 2, 1).unwrap();
+    assert_eq!(full, [0.5; 36]);
 }
 
 #[test]

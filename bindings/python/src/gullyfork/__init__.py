@@ -28,16 +28,16 @@ from ._refused import Refused
 from .cells import Match, Pairing, compute_permutation, find_permutation
 from .common import nint, round, sqrt
 from .fc2 import (
-    Along, Drift, DriftKind, distribute_fc2, drift_report, perm_trans_symmetrize_compact_fc, perm_trans_symmetrize_fc, replace_block_fc2,
+    Along, Drift, DriftKind, compact_to_full_fc2, distribute_fc2, drift_report, perm_trans_symmetrize_compact_fc, perm_trans_symmetrize_fc, replace_block_fc2,
     row_sums_fc2, set_index_permutation_symmetry_compact_fc, true_transpose_compact_fc2,
 )
 from .fc3 import (
-    distribute_fc3, rotate_delta_fc2s, set_permutation_symmetry_compact_fc3, set_permutation_symmetry_fc3, transpose_compact_fc3,
+    compact_to_full_fc3, distribute_fc3, rotate_delta_fc2s, set_permutation_symmetry_compact_fc3, set_permutation_symmetry_fc3, transpose_compact_fc3,
     true_transpose_compact_fc3,
 )
 from .fc4 import (
-    distribute_fc4, rotate_delta_fc3s, set_permutation_symmetry_compact_fc4, set_permutation_symmetry_fc4, swap_pairs_compact_fc4,
-    transpose_compact_fc4, true_transpose_compact_fc4,
+    compact_to_full_fc4, distribute_fc4, rotate_delta_fc3s, set_permutation_symmetry_compact_fc4, set_permutation_symmetry_fc4,
+    swap_pairs_compact_fc4, transpose_compact_fc4, true_transpose_compact_fc4,
 )
 from .roll import append_roll, is_roll, read_roll, retire_all, stands_now
 from .tables import Tables, check_shift_tables

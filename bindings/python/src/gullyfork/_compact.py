@@ -35,6 +35,16 @@ def compact(name: str, fc: np.ndarray, order: int, tables: Any, work_legs: int, 
     run(name, order, changed={key: (fc, t.shapes[order - 2])}, **marks, tables=t, values=values)
 
 
+def full_set(name: str, fc: Any, order: int, tables: Any, out: Optional[np.ndarray]) -> np.ndarray:
+    """The full set that a compact one is read out to: in out, or in new memory."""
+    t = tables if type(tables) is Tables else Tables.given(tables)
+    n = t.n_satom if t.n_satom <= LIMITS[order] else 0
+    shape = (n,) * order + (3,) * order
+    full = np.empty(shape) if out is None else out
+    run(name, order, read={f"fc{order}": (fc, t.shapes[order - 2])}, **memory("full", full, "out", shape), tables=t)
+    return full
+
+
 def _marks(t: Tables, order: int, legs: int) -> int:
     limit = LIMITS[order]
     return t.n_patom * t.n_satom ** (legs - 1) if t.n_patom <= limit and t.n_satom <= limit else 0

@@ -7,11 +7,11 @@ from typing import Any, NamedTuple, Optional, Tuple
 import numpy as np
 
 from . import _arrays
-from ._compact import compact
+from ._compact import compact, full_set
 from ._run import memory, run
 
-__all__ = ["Along", "Drift", "DriftKind", "distribute_fc2", "drift_report", "perm_trans_symmetrize_compact_fc", "perm_trans_symmetrize_fc",
-           "replace_block_fc2", "row_sums_fc2", "set_index_permutation_symmetry_compact_fc", "true_transpose_compact_fc2"]
+__all__ = ["Along", "Drift", "DriftKind", "compact_to_full_fc2", "distribute_fc2", "drift_report", "perm_trans_symmetrize_compact_fc",
+           "perm_trans_symmetrize_fc", "replace_block_fc2", "row_sums_fc2", "set_index_permutation_symmetry_compact_fc", "true_transpose_compact_fc2"]
 
 
 def perm_trans_symmetrize_fc(fc: np.ndarray, level: int = 1) -> None:
@@ -150,3 +150,14 @@ def replace_block_fc2(fc: np.ndarray, sums: np.ndarray, block: Any, i: int, j: i
     n = _arrays.full(fc, "fc", 2)
     run("replace_block_fc2", 2, changed={"fc": (fc, (n, n, 3, 3)), "sums": (sums, (n, 3, 3))}, read={"block": (block, (3, 3))},
         values={"i": i, "j": j, "n_satom": n})
+
+
+def compact_to_full_fc2(fc2: Any, tables: Any, *, out: Optional[np.ndarray] = None) -> np.ndarray:
+    """A compact set read out to the full one, (n, n, 3, 3): for any atoms and directions of the supercell the number that it has for them.
+
+    >>> fc2 = np.arange(18.0).reshape(1, 2, 3, 3)
+    >>> full = compact_to_full_fc2(fc2, ([0], [0, 0], [0, 1], [[0, 1], [1, 0]]))
+    >>> full.shape, float(full[1, 0, 0, 0]), float(full[1, 1, 0, 0])
+    ((2, 2, 3, 3), 9.0, 0.0)
+    """
+    return full_set("compact_to_full_fc2", fc2, 2, tables, out)

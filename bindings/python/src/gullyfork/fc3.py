@@ -6,11 +6,11 @@ from typing import Any, Optional
 import numpy as np
 
 from . import _arrays
-from ._compact import compact
+from ._compact import compact, full_set
 from ._deltas import distribute, rotate
 from ._run import run
 
-__all__ = ["distribute_fc3", "rotate_delta_fc2s", "set_permutation_symmetry_compact_fc3", "set_permutation_symmetry_fc3",
+__all__ = ["compact_to_full_fc3", "distribute_fc3", "rotate_delta_fc2s", "set_permutation_symmetry_compact_fc3", "set_permutation_symmetry_fc3",
            "transpose_compact_fc3", "true_transpose_compact_fc3"]
 
 
@@ -88,3 +88,19 @@ def rotate_delta_fc2s(delta_fc2s: Any, inv_u: Any, site_sym_cart: Any, rot_map_s
     [2.0, 0.0, 0.0]
     """
     return rotate("rotate_delta_fc2s", "fc3", "delta_fc2s", 3, delta_fc2s, inv_u, site_sym_cart, rot_map_syms, out, work)
+
+
+def compact_to_full_fc3(fc3: Any, tables: Any, *, out: Optional[np.ndarray] = None) -> np.ndarray:
+    """A compact set read out to the full one, (n, n, n, 3, 3, 3): for any atoms and directions of the supercell the number that it has for them.
+    If every number is on the grid (whole multiples of 2^-20 of absolute value at most 2^20), reading out and then symmetrizing gives the
+    same bits as symmetrizing and then reading out.
+
+    >>> tables = [0], [0, 0], [0, 1], [[0, 1], [1, 0]]
+    >>> compact = np.arange(108.0).reshape(1, 2, 2, 3, 3, 3)
+    >>> full = compact_to_full_fc3(compact, tables)
+    >>> set_permutation_symmetry_fc3(full)
+    >>> set_permutation_symmetry_compact_fc3(compact, tables)
+    >>> np.array_equal(full, compact_to_full_fc3(compact, tables))
+    True
+    """
+    return full_set("compact_to_full_fc3", fc3, 3, tables, out)

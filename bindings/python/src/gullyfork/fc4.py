@@ -6,13 +6,13 @@ from typing import Any, Optional
 import numpy as np
 
 from . import _arrays
-from ._compact import compact
+from ._compact import compact, full_set
 from ._deltas import distribute, rotate
 from ._refused import LIMITS
 from ._run import memory, room, run
 
-__all__ = ["distribute_fc4", "rotate_delta_fc3s", "set_permutation_symmetry_compact_fc4", "set_permutation_symmetry_fc4",
-           "swap_pairs_compact_fc4", "transpose_compact_fc4", "true_transpose_compact_fc4"]
+__all__ = ["compact_to_full_fc4", "distribute_fc4", "rotate_delta_fc3s", "set_permutation_symmetry_compact_fc4",
+           "set_permutation_symmetry_fc4", "swap_pairs_compact_fc4", "transpose_compact_fc4", "true_transpose_compact_fc4"]
 
 
 def set_permutation_symmetry_fc4(fc4: np.ndarray, *, work: Optional[np.ndarray] = None) -> None:
@@ -98,3 +98,19 @@ def rotate_delta_fc3s(delta_fc3s: Any, inv_u: Any, site_sym_cart: Any, rot_map_s
     [2.0, 0.0, 0.0]
     """
     return rotate("rotate_delta_fc3s", "fc4", "delta_fc3s", 4, delta_fc3s, inv_u, site_sym_cart, rot_map_syms, out, work)
+
+
+def compact_to_full_fc4(fc4: Any, tables: Any, *, out: Optional[np.ndarray] = None) -> np.ndarray:
+    """A compact set read out to the full one, (n, n, n, n, 3, 3, 3, 3): for any atoms and directions of the supercell the number that it has for them.
+    If every number is on the grid (whole multiples of 2^-20 of absolute value at most 2^20), reading out and then symmetrizing gives the
+    same bits as symmetrizing and then reading out.
+
+    >>> tables = [0], [0, 0], [0, 1], [[0, 1], [1, 0]]
+    >>> compact = np.arange(648.0).reshape(1, 2, 2, 2, 3, 3, 3, 3)
+    >>> full = compact_to_full_fc4(compact, tables)
+    >>> set_permutation_symmetry_fc4(full)
+    >>> set_permutation_symmetry_compact_fc4(compact, tables)
+    >>> np.array_equal(full, compact_to_full_fc4(compact, tables))
+    True
+    """
+    return full_set("compact_to_full_fc4", fc4, 4, tables, out)

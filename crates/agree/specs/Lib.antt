@@ -1,0 +1,5 @@
+pub mod Means
+pub mod Permuted
+pub mod Agree
+pub mod Calls
+pub mod Instances

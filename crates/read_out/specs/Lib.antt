@@ -1,0 +1,4 @@
+pub mod FullSet
+pub mod ReadOut
+pub mod Copies
+pub mod Guard
