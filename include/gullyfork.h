@@ -98,7 +98,7 @@ extern "C" {
     ANSWER(GF_ROLL_END, 68, "the roll's trailer begins there") \
     ANSWER(GF_MATCH_NO_NUMBER, 69, "some slot is left free, and a distance was NaN") \
     ANSWER(GF_SET_UNKNOWN, 70, "the set was never delivered") \
-    ANSWER(GF_SET_RETIRED, 71, "the set was retired, or one of those that replaced it") \
+    ANSWER(GF_SET_RETIRED, 71, "the set that stands at the end of its chain of replacements was retired") \
     ANSWER(GF_NO_MATCH, 72, "no bijection of near pairs exists")
 
 #define GF_ANSWER_NUMBER(name, number, words) name = number,
@@ -635,8 +635,8 @@ uint8_t gf_append_roll(
 
 /*
  * Which set stands now for a set number. A delivery and a replacement deliver their own set number. A set that was never delivered is
- * unknown; a retired one is retired; a replaced one answers as the set that replaced it; any other is current, and use_set[0] is the
- * number to use. GF_DONE: current; GF_SET_UNKNOWN and GF_SET_RETIRED leave the slot.
+ * unknown; a replaced one answers as the set that replaced it; where nothing replaced it, a retired one is retired, and any other is
+ * current, and use_set[0] is the number to use. GF_DONE: current; GF_SET_UNKNOWN and GF_SET_RETIRED leave the slot.
  *   lent     count or more
  *   use_set  1
  * Refusals: 7 (no roll), then 2 (use_set), then 9 (a record delivers a number already delivered, or replaces or retires a set not

@@ -1,4 +1,4 @@
-//! A delivery roll by the sentences of document 02, A.7, A.8 and A.12, as plain Rust: nothing here is taken from the port.
+//! A delivery roll by the sentences of document 02, A.7, A.8, A.12 and A.14, as plain Rust: nothing here is taken from the port.
 use std::collections::{BTreeSet, HashMap};
 
 /// A record: kind 1 delivery, 2 replacement, 3 retirement.
@@ -142,12 +142,12 @@ fn register(records: &[Record]) -> Option<HashMap<u32, Noted>> {
     Some(register)
 }
 
-/// Retirement is looked at first; a replaced set answers as the set that replaced it.
+/// A replaced set answers as the set that replaced it; retirement is looked at only at the end of the chain.
 fn ask(register: &HashMap<u32, Noted>, set: u32) -> Standing {
     match register.get(&set) {
         None => Standing::Unknown,
-        Some(Noted { retired: true, .. }) => Standing::Retired,
         Some(Noted { replaced_by: Some(next), .. }) => ask(register, *next),
+        Some(Noted { retired: true, .. }) => Standing::Retired,
         Some(_) => Standing::Current(set),
     }
 }
@@ -222,8 +222,9 @@ mod tests {
         assert_eq!([1, 5, 3, 9].map(|set| says(&chain, set)), [3, 3, 3, 9].map(|set| Ok(Standing::Current(set))));
         assert_eq!([0, 2].map(|set| says(&chain, set)), [Ok(Standing::Unknown), Ok(Standing::Unknown)]);
         let retired = [&chain[..], &[record(3, 5, 0), record(3, 5, 0)]].concat();
-        assert_eq!([1, 5].map(|set| says(&retired, set)), [Ok(Standing::Retired), Ok(Standing::Retired)]);
-        assert_eq!(says(&retired, 3), Ok(Standing::Current(3)));
+        assert_eq!([1, 5, 3].map(|set| says(&retired, set)), [3, 3, 3].map(|set| Ok(Standing::Current(set))));
+        let ended = [&retired[..], &[record(3, 3, 0)]].concat();
+        assert_eq!([1, 5, 3].map(|set| says(&ended, set)), [Ok(Standing::Retired), Ok(Standing::Retired), Ok(Standing::Retired)]);
         for last in [record(1, 5, 0), record(2, 5, 3), record(2, 4, 4), record(2, 4, 7), record(2, 4, 1), record(3, 4, 0)] {
             assert_eq!(says(&[&chain[..], &[last]].concat(), 9), Err(NOT_LAWFUL));
         }

@@ -671,8 +671,10 @@ static void stands_now(void) {
     CHECK(gf_stands_now(S(lent), count[0] - 1, 7, set, 0) == GF_NOT_A_ROLL);    /* 7 before 2 */
     CHECK(gf_stands_now(S(lent), count[0], 7, set, 0) == GF_WRONG_LENGTH);
     CHECK(gf_append_roll(S(lent), count[0], 3, 41, 0, label, 0, S(count)) == GF_DONE);
-    CHECK(gf_stands_now(S(lent), count[0], 7, S(set)) == GF_SET_RETIRED && set[0] == 9);   /* on the way to 57 */
-    CHECK(gf_stands_now(S(lent), count[0], 57, S(set)) == GF_DONE && set[0] == 57);
+    CHECK(gf_stands_now(S(lent), count[0], 7, S(set)) == GF_DONE && set[0] == 57);         /* 41 is on the way to it */
+    set[0] = 9;
+    CHECK(gf_append_roll(S(lent), count[0], 3, 57, 0, label, 0, S(count)) == GF_DONE);
+    CHECK(gf_stands_now(S(lent), count[0], 7, S(set)) == GF_SET_RETIRED && set[0] == 9);   /* the end */
     CHECK(gf_append_roll(S(lent), count[0], 2, 58, 41, label, 0, S(count)) == GF_DONE);    /* a second time */
     CHECK(gf_stands_now(S(lent), count[0], 57, S(set)) == GF_NOT_LAWFUL);
     CHECK(gf_stands_now(S(lent), count[0], 57, set, 2) == GF_WRONG_LENGTH);     /* 2 before 9 */

@@ -357,7 +357,9 @@ class Roll(unittest.TestCase):
             roll = gf.roll.appended(roll, *record)
         self.assertEqual(gf.stands_now(roll, 7), (state.CURRENT, 57))
         retired = gf.roll.appended(roll, kind.RETIREMENT, 41)
-        self.assertEqual([gf.stands_now(retired, k).state for k in (7, 57)], [state.RETIRED, state.CURRENT])
+        self.assertEqual([gf.stands_now(retired, k) for k in (7, 41, 57)], [(state.CURRENT, 57)] * 3)  # 41 was replaced
+        ended = gf.roll.appended(retired, kind.RETIREMENT, 57)
+        self.assertEqual([gf.stands_now(ended, k).state for k in (7, 41, 57)], [state.RETIRED] * 3)
         for record, words in (((kind.DELIVERY, 7), "record 3 delivers set 7, which was delivered before"),
                               ((kind.RETIREMENT, 8), "record 3 names set 8, which no earlier record delivers"),
                               ((kind.REPLACEMENT, 9, 9), "record 3 names set 9, which no earlier record delivers"),

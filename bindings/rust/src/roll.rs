@@ -78,6 +78,7 @@ pub fn append(lent: &mut [u8], count: usize, kind: u8, set: u32, earlier: u32, l
 #[derive(Clone, Copy, Debug, PartialEq, Eq)]
 pub enum Standing {
     Unknown,
+    /// The set at the end of the chain of replacements was retired.
     Retired,
     /// The number to use.
     Current(u32),

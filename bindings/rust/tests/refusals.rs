@@ -197,6 +197,8 @@ fn which_set_stands_now() {
     assert_eq!(roll::stands_now(&file, chain, 7), Ok(roll::Standing::Current(57)));
     assert_eq!(roll::stands_now(&file, chain, 8), Ok(roll::Standing::Unknown));
     assert_eq!(roll::stands_now(&file, chain - 1, 7), Err(Refusal::NotARoll));
+    let on_the_way = add(&mut file, roll::RETIREMENT, 41, 0);
+    assert_eq!(roll::stands_now(&file, on_the_way, 41), Ok(roll::Standing::Current(57)));
     let retired = add(&mut file, roll::RETIREMENT, 57, 0);
     assert_eq!(roll::stands_now(&file, retired, 7), Ok(roll::Standing::Retired));
     let twice = add(&mut file, roll::DELIVERY, 7, 0);

@@ -125,12 +125,20 @@ module _ (n : ℕ) (g : Register) (p : Sound n g) (x : ℕ) (known : g .delivere
     abbrev answersNow : ℕ → Standing
     answersNow y = cond (linked y) Retired (before y)
 
+    -- what replaced a linked set is linked
+    next-linked : (y : ℕ) → endOf n g y ≡ endOf n g x → (g .replacedBy y ≡ 0 → ⊥) → answersNow (g .replacedBy y) ≡ Retired
+    next-linked y e b = rw (eq-eqb (endOf n g (g .replacedBy y)) (endOf n g x) (sym (linked-end n g p y b) ∙ e)) refl
+
     yes-one : (y : ℕ) → endOf n g y ≡ endOf n g x → answersNow y ≡ rule G answersNow y
     unfolding rule
     yes-one y e =
         let l : linked y ≡ true = eq-eqb (endOf n g y) (endOf n g x) e in
         let d : G .delivered y ≡ true = delivered-kept ys g y ∙ linked-known y e in
-        rw (l, d, now-retired y e) refl
+        rw (l, d, now-retired y e, by-kept ys g y) (go (eq-or-ne (g .replacedBy y) 0))
+      where
+        go : (g .replacedBy y ≡ 0) ⊎ (g .replacedBy y ≡ 0 → ⊥) → Retired ≡ cond (eqb (g .replacedBy y) 0) Retired (answersNow (g .replacedBy y))
+        go (inl b) = rw (eq-eqb (g .replacedBy y) 0 b) refl
+        go (inr b) = rw (ne-eqb (g .replacedBy y) 0 b) (sym (next-linked y e b))
 
     -- what replaced a set that is not linked is not linked
     next-same : (y : ℕ) → (endOf n g y ≡ endOf n g x → ⊥) → (g .replacedBy y ≡ 0 → ⊥) → answersNow (g .replacedBy y) ≡ before (g .replacedBy y)
@@ -143,10 +151,10 @@ module _ (n : ℕ) (g : Register) (p : Sound n g) (x : ℕ) (known : g .delivere
         rw (l, delivered-kept ys g y, as-before y d, by-kept ys g y) (keeps y ∙ go (eq-or-ne (g .replacedBy y) 0))
       where
         go : (g .replacedBy y ≡ 0) ⊎ (g .replacedBy y ≡ 0 → ⊥)
-            → cond (not (g .delivered y)) Unknown (cond (g .retired y) Retired (cond (eqb (g .replacedBy y) 0) (Current y) (before (g .replacedBy y))))
-            ≡ cond (not (g .delivered y)) Unknown (cond (g .retired y) Retired (cond (eqb (g .replacedBy y) 0) (Current y) (answersNow (g .replacedBy y))))
+            → cond (not (g .delivered y)) Unknown (cond (eqb (g .replacedBy y) 0) (cond (g .retired y) Retired (Current y)) (before (g .replacedBy y)))
+            ≡ cond (not (g .delivered y)) Unknown (cond (eqb (g .replacedBy y) 0) (cond (g .retired y) Retired (Current y)) (answersNow (g .replacedBy y)))
         go (inl b) = rw (eq-eqb (g .replacedBy y) 0 b) refl
-        go (inr b) = ap (λ (a : Standing). cond (not (g .delivered y)) Unknown (cond (g .retired y) Retired (cond (eqb (g .replacedBy y) 0) (Current y) a))) (sym (next-same y d b))
+        go (inr b) = ap (λ (a : Standing). cond (not (g .delivered y)) Unknown (cond (eqb (g .replacedBy y) 0) (cond (g .retired y) Retired (Current y)) a)) (sym (next-same y d b))
 
     pub keeps-now : (y : ℕ) → answersNow y ≡ rule G answersNow y
     keeps-now y = ⊎-elim (yes-one y) (no-one y) (eq-or-ne (endOf n g y) (endOf n g x))

@@ -20,9 +20,9 @@ use Rattle.roll.specs.Holding.{within-limits, at-least-eight, bytes-there, byte
 use Rattle.roll_append.specs.declared.Appended.{Appended}
 use Rattle.roll_append.specs.declared.Appended.the-variants.{Count, Refused}
 use Rattle.roll_append.specs.Calls.{passes, appended}
-use Rattle.standing.specs.Register.{Register, replaces, registerOf, lawful}
+use Rattle.standing.specs.Register.{Register, registerOf, lawful}
 use Rattle.standing.specs.Walk.{recordOf, after, lawfulTo, Notes, tab-next, entries-lawful, entries-register, entries-many}
-use Rattle.standing.specs.Chains.{endOf, moved, carried, carried-is}
+use Rattle.standing.specs.Chains.{endOf, carried, carried-is}
 use Rattle.standing.specs.Laws.{named, lawful-to}
 use Rattle.retire.specs.declared.Judged.{Judged}
 use Rattle.retire.specs.declared.Judged.the-variants.{Add, Not}
@@ -153,14 +153,6 @@ module _ (s : List ℕ) (count x : ℕ) where
 -- ---- one record more
 
 module _ (b : List ℕ) where
-  pub carried-none : (x : ℕ) → x ≡ carried (recordOf b) 0 x
-  unfolding carried
-  carried-none x = refl
-
-  pub carried-more : (i p x y : ℕ) {r : ℕ} → p ≡ start b i → y ≡ carried (recordOf b) i x → r ≡ cond (replaces (entryAt b p) y) (entryAt b p .number) y → r ≡ carried (recordOf b) (i + 1) x
-  unfolding carried recordOf
-  carried-more i p x y e q h = h ∙ ap₂ moved (ap (entryAt b) e) q ∙ ap (λ k. carried (recordOf b) k x) (sym (add-one i))
-
   module _ (n last at : ℕ) where
     abbrev test : Bool
     test = waitsAt (recordOf b) n last (entryAt b at)

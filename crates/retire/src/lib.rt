@@ -5,7 +5,6 @@ ghost use Prim.Native.Nat.{ℕ, _+_, _*_, _≤_, _<_, min, max};
 ghost use lib.ListN.{length, take};
 ghost use Rattle.roll.specs.Reading.{start, entryAt, entriesOf, countOf, isRoll, rollBytes};
 ghost use Rattle.standing.specs.Walk.{recordOf};
-ghost use Rattle.standing.specs.Chains.{carried};
 ghost use Rattle.retire.specs.Press.{placed, toRetire, addAll, judgedPress, pressed};
 ghost use Rattle.retire.specs.Steps.{waitsAt, gatheredTo};
 ghost use Rattle.retire.specs.declared.Judged.the-variants.{Add};
@@ -23,22 +22,6 @@ pub enum Judged {
     Not(Refusal),
 }
 
-// Where the chain of replacements from x ends: a set is replaced after it is delivered, so one walk over the records finds the end.
-fn end_of(b: &[u8], n: usize, x: usize) -> usize
-    requires { ⌜ (isRoll (now b) ≡ true) × (n ≡ countOf (now b)) × (x < 4294967296) ⌝ }
-    ensures { λ r. ⌜ (r ≡ carried (recordOf (now (b .entry))) n x) × (r < 4294967296) ⌝ }
-{
-    let mut y = x;
-    let mut p = 0;
-    let mut i = 0;
-    while i < n {
-        y = standing::replacer(b, p, y, y);
-        p += 10 + wide(b[p + 9]);
-        i += 1;
-    }
-    y
-}
-
 // Whether the record at `at` delivers a set whose chain ends in `last` and which has no retirement of its own.
 fn waits(b: &[u8], n: usize, at: usize, last: usize) -> bool
     requires { ⌜ (isRoll (now b) ≡ true) × (n ≡ countOf (now b)) × (at + 10 ≤ length (now b)) ⌝ }
@@ -48,7 +31,7 @@ fn waits(b: &[u8], n: usize, at: usize, last: usize) -> bool
         return false;
     }
     let set = four(b, at + 1);
-    if end_of(b, n, set) != last {
+    if standing::end_of(b, n, set) != last {
         return false;
     }
     let f = standing::look_up(b, n, set);
@@ -134,7 +117,7 @@ fn judge(lent: &[u8], count: usize, x: usize, list: &mut [u32]) -> Judged
     if !f.delivered {
         return Judged::Not(Refusal::UnknownSet);
     }
-    let m = gather(b, n, end_of(b, n, x), list);
+    let m = gather(b, n, standing::end_of(b, n, x), list);
     let long = count + 14 * m;
     if 1000 < n + m {
         return Judged::Not(Refusal::NoRoom);

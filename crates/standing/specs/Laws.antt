@@ -29,7 +29,7 @@ module _ (g : Register) where
   unfolding rule
   rule-same h k x q =
       ⊎-elim (λ (e : g .replacedBy x ≡ 0). rw (eq-eqb (g .replacedBy x) 0 e) refl)
-      (λ (d : g .replacedBy x ≡ 0 → ⊥). ap (λ (s : Standing). cond (not (g .delivered x)) Unknown (cond (g .retired x) Retired (cond (eqb (g .replacedBy x) 0) (Current x) s))) (q d))
+      (λ (d : g .replacedBy x ≡ 0 → ⊥). rw (q d) refl)
       (eq-or-ne (g .replacedBy x) 0)
 
   never : {A : Type 0} (x : ℕ) → g .replacedBy (endOf zero g x) ≡ 0 → (g .replacedBy x ≡ 0 → ⊥) → A

@@ -1,4 +1,4 @@
--- Which set stands now (document 02, A.8): a plain register, which notes for each set whether it was delivered, whether retired, and what
+-- Which set stands now (document 02, A.8 and A.14): a plain register, which notes for each set whether it was delivered, whether retired, and what
 -- replaced it; and the rules over it. Assumes nothing.
 use mathlib.Core.Bool.{Bool, true, false, not, _&&_, _||_, cond}
 use mathlib.Core.List.{List, [], _∷_}
@@ -70,13 +70,13 @@ allAllowed g (r ∷ rs) = allowed g r && allAllowed (noted r g) rs
 abbrev pub lawful : List Entry → Bool
 lawful rs = allAllowed blank rs
 
--- the rules: unknown where it was not delivered; retirement is looked at first; a replaced set answers as the set that replaced it
+-- the rules (document 02, A.14): unknown where it was not delivered; a replaced set answers as the set that replaced it; retirement is
+-- looked at only where nothing replaced it, at the end of the chain. specs/Former has those of A.8, and what has changed.
 unfoldable pub rule : Register → (ℕ → Standing) → ℕ → Standing
 rule g answers x =
     cond (not (g .delivered x)) Unknown
-    (cond (g .retired x) Retired
-    (cond (eqb (g .replacedBy x) 0) (Current x)
-    (answers (g .replacedBy x))))
+    (cond (eqb (g .replacedBy x) 0) (cond (g .retired x) Retired (Current x))
+    (answers (g .replacedBy x)))
 
 -- the rules, followed from set to set, n sets at most; specs/Laws: in a lawful roll a chain of replacements has ended before that
 unfoldable pub answer : ℕ → Register → ℕ → Standing

@@ -181,38 +181,6 @@ module _ (b : List ℕ) (n at k m : ℕ) (e : at ≡ start b n) (ek : k ≡ getD
           let u : y′ ≡ g .replacedBy (fourAt b (at + 5)) = M .replaces ∙ ap (g .replacedBy) ez in
           sym (allowed-is ∙ rw (o, i, eq-eqb k 2 w, j, u))
 
--- ---- the rules at one set
-
-module _ (g : Register) (m : ℕ) (y : ℕ) {d t : Bool} {by : ℕ} (N : Notes g y d t by) where
-  pub says-unknown : d ≡ false → Unknown ≡ answer (suc m) g y
-  unfolding answer rule
-  says-unknown q = let i : g .delivered y ≡ false = sym (N .delivers) ∙ q in rw i refl
-
-  pub says-retired : d ≡ true → t ≡ true → Retired ≡ answer (suc m) g y
-  unfolding answer rule
-  says-retired q r =
-      let i : g .delivered y ≡ true = sym (N .delivers) ∙ q in
-      let j : g .retired y ≡ true = sym (N .retires) ∙ r in
-      rw (i, j) refl
-
-  pub says-current : d ≡ true → t ≡ false → by ≡ 0 → Current y ≡ answer (suc m) g y
-  unfolding answer rule
-  says-current q r s =
-      let i : g .delivered y ≡ true = sym (N .delivers) ∙ q in
-      let j : g .retired y ≡ false = sym (N .retires) ∙ r in
-      rw (i, j, eq-eqb (g .replacedBy y) 0 (sym (N .replaces) ∙ s)) refl
-
-  pub goes-on : d ≡ true → t ≡ false → (by ≡ 0 → ⊥) → answer (suc m) g y ≡ answer m g by
-  unfolding answer rule
-  goes-on q r s =
-      let i : g .delivered y ≡ true = sym (N .delivers) ∙ q in
-      let j : g .retired y ≡ false = sym (N .retires) ∙ r in
-      rw (i, j, ne-eqb (g .replacedBy y) 0 (λ z. s (N .replaces ∙ z))) (ap (answer m g) (sym (N .replaces)))
-
-pub says-last : (g : Register) (y : ℕ) → Unknown ≡ answer 0 g y
-unfolding answer
-says-last g y = refl
-
 -- ---- the call
 
 module _ (b : List ℕ) (x : ℕ) where

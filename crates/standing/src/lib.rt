@@ -1,4 +1,4 @@
-// Which set stands now (document 02, A.8): the rules over a plain register, each entry of it read off the roll by a walk.
+// Which set stands now (document 02, A.8 and A.14): the rules over a plain register, each entry of it read off the roll by a walk.
 ghost use mathlib.Core.Path.{_≡_};
 ghost use mathlib.Core.Bool.{true, _||_, cond};
 ghost use Prim.Native.Nat.{_+_, _≤_, _<_};
@@ -6,6 +6,7 @@ ghost use lib.ListN.{length};
 ghost use Rattle.roll.specs.Reading.{start, entryAt, countOf, isRoll, rollBytes};
 ghost use Rattle.standing.specs.Register.{standingNumber, delivers, retires, replaces, allowed, answer, standsNow};
 ghost use Rattle.standing.specs.Walk.{recordOf, after, lawfulTo, Notes};
+ghost use Rattle.standing.specs.Chains.{carried};
 use roll::judge::is_whole_roll;
 use roll::numbers::four;
 use roll::numbers::wide;
@@ -84,7 +85,7 @@ fn either(x: bool, y: bool) -> bool
 }
 
 // What replaced x when the record at `at` is noted too.
-pub fn replacer(b: &[u8], at: usize, x: usize, by: usize) -> usize
+fn replacer(b: &[u8], at: usize, x: usize, by: usize) -> usize
     requires { ⌜ (at + 10 ≤ length (now b)) × (by < 4294967296) ⌝ }
     ensures { λ r. ⌜ (r ≡ cond (replaces (entryAt (now (b .entry)) at) x) (entryAt (now (b .entry)) at .number) by) × (r < 4294967296) ⌝ }
 {
@@ -158,29 +159,37 @@ pub fn is_lawful(b: &[u8], n: usize) -> bool
     true
 }
 
-// The rules, followed from set to set.
-fn follow(b: &[u8], n: usize, x: usize) -> Standing
+// Where the chain of replacements from x ends: a set is replaced after it is delivered, so one walk over the records finds the end.
+pub fn end_of(b: &[u8], n: usize, x: usize) -> usize
     requires { ⌜ (isRoll (now b) ≡ true) × (n ≡ countOf (now b)) × (x < 4294967296) ⌝ }
+    ensures { λ r. ⌜ (r ≡ carried (recordOf (now (b .entry))) n x) × (r < 4294967296) ⌝ }
+{
+    let mut y = x;
+    let mut p = 0;
+    let mut i = 0;
+    while i < n {
+        y = replacer(b, p, y, y);
+        p += 10 + wide(b[p + 9]);
+        i += 1;
+    }
+    y
+}
+
+// The rules: replacement is followed first, and retirement looked at where the chain ends.
+fn follow(b: &[u8], n: usize, x: usize) -> Standing
+    requires { ⌜ (isRoll (now b) ≡ true) × (n ≡ countOf (now b)) × (x < 4294967296) × (lawfulTo (recordOf (now b)) n ≡ true) ⌝ }
     ensures { λ r. ⌜ r ≡ answer (n + 1) (after (recordOf (now (b .entry))) n) x ⌝ }
 {
-    let most = n + 1;
-    let mut y = x;
-    let mut k = 0;
-    while k < most {
-        let f = look_up(b, n, y);
-        if !f.delivered {
-            return Standing::Unknown;
-        }
-        if f.retired {
-            return Standing::Retired;
-        }
-        if f.by == 0 {
-            return Standing::Current(y as u32);
-        }
-        y = f.by;
-        k += 1;
+    let f = look_up(b, n, x);
+    if !f.delivered {
+        return Standing::Unknown;
     }
-    Standing::Unknown
+    let last = end_of(b, n, x);
+    let e = look_up(b, n, last);
+    if e.retired {
+        return Standing::Retired;
+    }
+    Standing::Current(last as u32)
 }
 
 // Which set stands now for a set, by the roll in the first count bytes of the lent slice.

@@ -125,7 +125,8 @@ def appended(roll: Any, kind: int, set: int, earlier: int = 0, label: bytes = b"
 
 
 class State(enum.Enum):
-    """What a roll knows of a set: it was never delivered; it, or one of those that replaced it, was retired; a set stands for it."""
+    """What a roll knows of a set: it was never delivered; the set at the end of its chain of replacements was
+    retired; that set stands for it."""
 
     UNKNOWN, RETIRED, CURRENT = 70, 71, 0
 
@@ -138,7 +139,7 @@ class Standing(NamedTuple):
 
 
 def stands_now(lent: Any, set: int, count: Optional[int] = None) -> Standing:
-    """Which set stands now for a set number: a replaced set answers as the one that replaced it.
+    """Which set stands now for a set number: a replaced set answers as the one that replaced it; retirement counts at the end of the chain.
 
     >>> roll = appended(appended(EMPTY, Kind.DELIVERY, 7), Kind.REPLACEMENT, 8, 7)
     >>> stands_now(roll, 7)

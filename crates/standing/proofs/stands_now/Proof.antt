@@ -31,7 +31,7 @@ returns-2 c =
     no-law _ x (c .before .before .four .result) (told-yes (c .before .before .before .before .is-whole-roll .ensures) (c .before .before .before .if1 .left)) (count-is _ (c .before .before .four .ensures .0)) (told-no (c .before .is-lawful .ensures) (c .if2 .taken)) ∙ ap (λ (l : List ℕ). standsNow l x) (c .before .before .before .before .before .roll-bytes .ensures)
 
 follow-requires : tie.Need-follow-requires
-follow-requires c κs = (told-yes (c .before .before .before .before .is-whole-roll .ensures) (c .before .before .before .if1 .left), count-is _ (c .before .before .four .ensures .0), omega arith)
+follow-requires c κs = (told-yes (c .before .before .before .before .is-whole-roll .ensures) (c .before .before .before .if1 .left), count-is _ (c .before .before .four .ensures .0), omega arith, told-yes (c .before .is-lawful .ensures) (c .if2 .left))
 
 returns-3 : tie.Need-returns-3
 returns-3 c =
