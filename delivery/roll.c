@@ -1,5 +1,5 @@
 /*
- * The dispatch desk's roll: lists one, begins one, appends to one, retires a set everywhere.
+ * The dispatch desk's roll: lists one, begins one, appends to one, retires a set everywhere, brings an older one over.
  *   roll list FILE
  *   roll list FILE SET
  *   roll new FILE
@@ -7,9 +7,12 @@
  *   roll append FILE replacement SET EARLIER [LABEL]
  *   roll append FILE retirement SET [LABEL]
  *   roll retire FILE SET
+ *   roll renew OLD NEW
  * A roll is replaced as a whole: the new bytes are written to a file beside it, which then takes its name, so that nobody ever finds
  * half a roll. A file that is not a roll is named and left alone. Two desks that append at the same time wait for each other.
- * With a set number the list says which set stands now for it. The button shows what it would append, and asks first.
+ * With a set number the list says which set stands now for it. The button shows what it would append, and asks first. An older roll,
+ * whose trailer lists the starts in another order than rising, is read by `renew` alone: its records are appended anew to the new file
+ * NEW, and OLD stays as it is.
  * Exit status: 0 done, 7, 8, 9 and 11 as the library refuses, 1 everything else.
  */
 #include "gullyfork.h"
@@ -41,13 +44,18 @@ static int usage(void)
           "       roll append FILE delivery SET [LABEL]\n"
           "       roll append FILE replacement SET EARLIER [LABEL]\n"
           "       roll append FILE retirement SET [LABEL]\n"
-          "       roll retire FILE SET\n", stderr);
+          "       roll retire FILE SET\n"
+          "       roll renew OLD NEW\n", stderr);
     return 1;
 }
 
-static int not_a_roll(const char *path)
+static int not_a_roll(const char *path, const uint8_t *bytes, size_t n)
 {
-    fprintf(stderr, "roll: %s: not a roll (refusal 7); left as it is\n", path);
+    if (gf_is_roll_former(bytes, n, n))
+        fprintf(stderr, "roll: %s: an older roll, whose trailer does not list the starts in rising order (refusal 7); left as it is:"
+                " roll renew %s NEW brings its records over to a new file\n", path, path);
+    else
+        fprintf(stderr, "roll: %s: not a roll (refusal 7); left as it is\n", path);
     return 7;
 }
 
@@ -130,7 +138,7 @@ static int list(const char *path)
         at = slots[5];
     }
     if (answer != GF_ROLL_END)
-        return not_a_roll(path);
+        return not_a_roll(path, bytes, n);
     printf("%zu record%s, %zu bytes\n", records, records == 1 ? "" : "s", n);
     return told();
 }
@@ -142,7 +150,7 @@ static int ask(const char *path, uint32_t set)
     size_t n = read_file(path, bytes), use_set[1];
     uint8_t answer = gf_stands_now(bytes, sizeof bytes, n, set, use_set, 1);
     if (answer == GF_NOT_A_ROLL)
-        return not_a_roll(path);
+        return not_a_roll(path, bytes, n);
     if (answer == GF_NOT_LAWFUL)
         return not_lawful(path);
     printf("%" PRIu32 ": ", set);
@@ -195,18 +203,35 @@ static void put_in_place(const char *path, mode_t mode, const uint8_t *bytes, si
     }
 }
 
-static int begin(const char *path)
+/* a new file with these bytes; none where there is such a file already */
+static int begin(const char *path, const uint8_t *bytes, size_t n)
 {
-    static const uint8_t empty[8];
     char name[4096];
     mode_t mask = umask(0);
     umask(mask);
-    write_beside(path, 0666 & ~mask, empty, sizeof empty, name, sizeof name);
+    write_beside(path, 0666 & ~mask, bytes, n, name, sizeof name);
     int linked = link(name, path), why = errno; /* fails where there is such a file */
     unlink(name);
     if (linked != 0)
         fail(path, strerror(why));
     return 0;
+}
+
+/* the records of an older roll, read by the former rule and appended anew; the new roll has as many bytes as the older one */
+static int renew(const char *path, const char *new_path)
+{
+    static uint8_t bytes[MOST + 1], new_bytes[MOST]; /* eight zero bytes are an empty roll */
+    size_t n = read_file(path, bytes), at = 0, slots[6], count[1] = {8};
+    uint8_t answer;
+    while ((answer = gf_read_roll_former(bytes, sizeof bytes, n, at, slots, 6)) == GF_DONE) {
+        if (gf_append_roll(new_bytes, sizeof new_bytes, count[0], (uint8_t)slots[0], (uint32_t)slots[1], (uint32_t)slots[2],
+                           bytes + slots[3], slots[4], count, 1) != GF_DONE)
+            fail(path, "a record of it cannot be appended");
+        at = slots[5];
+    }
+    if (answer != GF_ROLL_END)
+        return not_a_roll(path, bytes, n);
+    return begin(new_path, new_bytes, count[0]);
 }
 
 /* opens the file and waits until no other desk appends to it; a desk that did has put another file in its place */
@@ -233,7 +258,7 @@ static int append(const char *named, uint8_t kind, uint32_t set, uint32_t earlie
     int fd = open_alone(path, &is);
     size_t n = read_bytes(fd, named, bytes), count[1];
     if (!gf_is_roll(bytes, sizeof bytes, n))
-        return not_a_roll(named);
+        return not_a_roll(named, bytes, n);
     uint8_t answer = gf_append_roll(bytes, sizeof bytes, n, kind, set, earlier, (const uint8_t *)label, strlen(label), count, 1);
     if (answer == GF_NOT_A_ROLL)
         fprintf(stderr, "roll: %s: the record breaks the rules (refusal 7): set numbers start at 1, a replacement names an earlier set,"
@@ -254,7 +279,7 @@ static int press(const char *named, uint8_t *bytes, size_t n, uint32_t set, size
 {
     uint8_t answer = gf_retire_all(bytes, MOST + 1, n, set, count, 1);
     if (answer == GF_NOT_A_ROLL)
-        return not_a_roll(named);
+        return not_a_roll(named, bytes, n);
     if (answer == GF_NOT_LAWFUL)
         return not_lawful(named);
     if (answer == GF_NO_ROOM)
@@ -328,8 +353,11 @@ int main(int argc, char **argv)
         return ask(argv[2], number(argv[3]));
     if (argc == 4 && strcmp(argv[1], "retire") == 0)
         return retire(argv[2], number(argv[3]));
+    static const uint8_t empty[8];
     if (argc == 3 && strcmp(argv[1], "new") == 0)
-        return begin(argv[2]);
+        return begin(argv[2], empty, sizeof empty);
+    if (argc == 4 && strcmp(argv[1], "renew") == 0)
+        return renew(argv[2], argv[3]);
     if (argc < 5 || strcmp(argv[1], "append") != 0)
         return usage();
     uint8_t kind = 1;

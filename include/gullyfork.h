@@ -18,8 +18,8 @@
  *   Every call but gf_nint, gf_round and gf_sqrt takes every input and answers with a number. 0 says that its work is done. The six
  *   refusals, 1 to 6, are tried in the order of their numbers: all counts before any length, all lengths before any entry, and so on;
  *   the first that applies is answered. The calls on a roll have four more: 7 is looked at before all others, then 9, 11 and 8; and
- *   gf_replace_block_fc2 has 10, after 3. A refused call has written nothing: every slice is as it was. gf_is_roll answers with true or
- *   false.
+ *   gf_replace_block_fc2 has 10, after 3. A refused call has written nothing: every slice is as it was. gf_is_roll and
+ *   gf_is_roll_former answer with true or false.
  *   Limits, beyond which a count is refused: 1,024 atoms at second order and in matching, 256 at third, 64 at fourth, and the same
  *   for n_patom, num_trans and num_first; level 1,000; the length of atom_list, num_rot, num_disp and num_site_sym 1,024. So more than
  *   1,024 operations (num_rot, num_site_sym) in one call are refused as more atoms are. 0 is within every limit; but the shift tables
@@ -52,9 +52,11 @@
  *     earlier number  4 bytes   zero except for a replacement, where it is not
  *     label length    1 byte
  *     label           any bytes
- *   At the end stands a trailer: the start of each record in 4 bytes each, in any order, every start just once; the record count in 4
- *   bytes; and last, in 4 bytes, where the trailer begins. Integers have the lowest byte first. An empty roll is eight zero bytes. A
- *   roll has at most 1,000 records and 65,536 bytes, and fills the first `count` bytes of the lent slice.
+ *   At the end stands a trailer: the start of each record in 4 bytes each, in rising order; the record count in 4 bytes; and last, in 4
+ *   bytes, where the trailer begins. Integers have the lowest byte first. An empty roll is eight zero bytes. A roll has at most 1,000
+ *   records and 65,536 bytes, and fills the first `count` bytes of the lent slice. So two rolls have the same records in the same order
+ *   exactly if they have the same bytes. By a former rule the starts stood in any order, each of them once: such older rolls are read by
+ *   the calls that end in _former, and every other call refuses them with 7.
  *
  * NUMBERS
  *   What each call leaves is proved equal to a definition, which is written to be the result of phonopy/phonors 8e92295164 bit for bit,
@@ -602,6 +604,9 @@ uint8_t gf_compact_to_full_fc4(
 /* Whether the first count bytes of the lent slice are there and are a roll. Never refused. */
 bool gf_is_roll(const uint8_t *lent, size_t lent_len, size_t count);
 
+/* The same by the former rule: the trailer lists every start just once, in any order. Every roll is one by this rule too. */
+bool gf_is_roll_former(const uint8_t *lent, size_t lent_len, size_t count);
+
 /*
  * Reads a roll at a position: begin with 0 and go on with slots[5] until the answer is GF_ROLL_END. GF_DONE: a record starts there, and
  * slots has
@@ -617,6 +622,12 @@ bool gf_is_roll(const uint8_t *lent, size_t lent_len, size_t count);
  * Refusals: 7 (no roll, or neither a record of it nor its trailer starts at the position), then 2 (slots).
  */
 uint8_t gf_read_roll(const uint8_t *lent, size_t lent_len, size_t count, size_t at, size_t *slots, size_t slots_len);
+
+/*
+ * The same by the former rule, for older rolls. Such a roll comes over record by record: what is read here is appended to an empty roll
+ * (gf_append_roll), and the new roll has as many bytes as the older one.
+ */
+uint8_t gf_read_roll_former(const uint8_t *lent, size_t lent_len, size_t count, size_t at, size_t *slots, size_t slots_len);
 
 /*
  * Adds a record at the end of a roll. GF_DONE: new_count[0] is how many bytes the roll has now; it has the former records and then this

@@ -128,6 +128,10 @@ extern "C" {
     pub fn gf_read_roll(
         lent: *const u8, lent_len: usize, count: usize, at: usize, slots: *mut usize, slots_len: usize,
     ) -> u8;
+    pub fn gf_is_roll_former(lent: *const u8, lent_len: usize, count: usize) -> bool;
+    pub fn gf_read_roll_former(
+        lent: *const u8, lent_len: usize, count: usize, at: usize, slots: *mut usize, slots_len: usize,
+    ) -> u8;
     pub fn gf_append_roll(
         lent: *mut u8, lent_len: usize, count: usize, kind: u8, set: u32, earlier: u32, label: *const u8,
         label_len: usize, new_count: *mut usize, new_count_len: usize,

@@ -191,7 +191,7 @@ fn one_place(blocks: [f64; 4], worst: f64, first: [i64; 4]) {
 #[test]
 fn rolls() {
     let mut r = Rng::new(31);
-    for name in [Name3::IsRoll, Name3::ReadRoll, Name3::AppendRoll, Name3::StandsNow, Name3::RetireAll] {
+    for name in [Name3::IsRoll, Name3::ReadRoll, Name3::AppendRoll, Name3::StandsNow, Name3::RetireAll, Name3::IsRollFormer, Name3::ReadRollFormer] {
         for _ in 0..300 {
             let (asked, bit) = (compare_roll::make(&mut r, name), r.below(8));
             let flipped = |flip: &dyn Fn(&mut Asked) -> u8| {

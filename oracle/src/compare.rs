@@ -6,8 +6,8 @@ use crate::rng::Rng;
 use crate::tally::Tally;
 use crate::{compare_agree, compare_common, compare_lists, compare_roll, compare_row_sums, compare_true, makers, port};
 
-/// Every public call, the lists of transposes, the read-outs of the true ones, the lists of swaps, whole rolls, series of edits and the two ways to a full set, in the order in which they are compared.
-pub const CALLS: [&str; 43] = [
+/// Every public call, the lists of transposes, the read-outs of the true ones, the lists of swaps, whole rolls, older rolls, series of edits and the two ways to a full set, in the order in which they are compared.
+pub const CALLS: [&str; 46] = [
     "nint",
     "round",
     "sqrt",
@@ -51,6 +51,9 @@ pub const CALLS: [&str; 43] = [
     "compact_to_full_fc4",
     "compact and full on the grid",
     "compact and full off the grid",
+    "is_roll_former",
+    "read_roll_former",
+    "older rolls",
 ];
 
 /// Of nint, round and sqrt so many patterns are tried for each call of the others.
@@ -102,6 +105,9 @@ fn run(tally: &mut Tally, r: &mut Rng, count: u64) {
         "compact_to_full_fc4" => beside(tally, r, count, |r| makers::read_out(r, 4)),
         "compact and full on the grid" => compare_agree::on_grid(tally, r, count),
         "compact and full off the grid" => compare_agree::off_grid(tally, r, count),
+        "is_roll_former" => compare_roll::run(tally, r, count, compare_roll::Name::IsRollFormer),
+        "read_roll_former" => compare_roll::run(tally, r, count, compare_roll::Name::ReadRollFormer),
+        "older rolls" => compare_roll::older(tally, r, count),
         _ => compare_lists::same_order(tally, r, count),
     }
 }
@@ -110,6 +116,7 @@ fn run(tally: &mut Tally, r: &mut Rng, count: u64) {
 fn present(name: &str) -> bool {
     port::has(match name {
         "whole rolls" => "append_roll",
+        "older rolls" => "read_roll_former",
         "series of edits" => "replace_block_fc2",
         "true transposes read out" => "true_transpose_compact_fc4",
         "lists of swaps" => "swap_pairs_compact_fc4",

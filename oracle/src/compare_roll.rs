@@ -1,7 +1,7 @@
 //! The calls on a delivery roll, by their C names, beside the model in roll.rs. The slots and their order after 7 and before 8 are
 //! include/gullyfork.h's.
 use crate::rng::Rng;
-use crate::roll::{appended, held, retired, roll_of, standing, Record, Standing, NOT_A_ROLL};
+use crate::roll::{appended, held, retired, roll_of, standing, Order, Record, Standing, NOT_A_ROLL};
 use crate::tally::Tally;
 use crate::{c_names, values};
 
@@ -16,7 +16,19 @@ pub enum Name {
     ReadRoll,
     AppendRoll,
     StandsNow,
+    IsRollFormer,
+    ReadRollFormer,
     RetireAll,
+}
+
+impl Name {
+    /// The rule for the order of the starts that the call goes by.
+    fn order(self) -> Order {
+        match self {
+            Name::IsRollFormer | Name::ReadRollFormer => Order::Any,
+            _ => Order::Rising,
+        }
+    }
 }
 
 /// A call with all that it is lent. `at` is the position of a read, `record` the record to add, its set number the set asked for.
@@ -34,8 +46,8 @@ impl Asked {
     /// By document 02: the answer's number, lent slice and slots as they are left. A call that is_roll answers with false is a 7 here.
     pub fn model(&mut self) -> u8 {
         match self.name {
-            Name::IsRoll => held(&self.lent, self.count).map_or(NOT_A_ROLL, |_| 0),
-            Name::ReadRoll => self.model_read(),
+            Name::IsRoll | Name::IsRollFormer => held(&self.lent, self.count, self.name.order()).map_or(NOT_A_ROLL, |_| 0),
+            Name::ReadRoll | Name::ReadRollFormer => self.model_read(),
             Name::AppendRoll => self.model_append(),
             Name::StandsNow => self.model_standing(),
             Name::RetireAll => self.model_retire(),
@@ -74,7 +86,7 @@ impl Asked {
     }
 
     fn model_read(&mut self) -> u8 {
-        let Some(roll) = held(&self.lent, self.count) else { return NOT_A_ROLL };
+        let Some(roll) = held(&self.lent, self.count, self.name.order()) else { return NOT_A_ROLL };
         let found = roll.records.into_iter().find(|(start, _)| *start == self.at);
         if found.is_none() && self.at != roll.trailer {
             return NOT_A_ROLL;
@@ -110,8 +122,10 @@ impl Asked {
         unsafe {
             match name {
                 Name::IsRoll if c_names::gf_is_roll(lent.as_ptr(), lent.len(), *count) => 0,
-                Name::IsRoll => NOT_A_ROLL,
+                Name::IsRollFormer if c_names::gf_is_roll_former(lent.as_ptr(), lent.len(), *count) => 0,
+                Name::IsRoll | Name::IsRollFormer => NOT_A_ROLL,
                 Name::ReadRoll => c_names::gf_read_roll(lent.as_ptr(), lent.len(), *count, *at, slots.as_mut_ptr(), slots.len()),
+                Name::ReadRollFormer => c_names::gf_read_roll_former(lent.as_ptr(), lent.len(), *count, *at, slots.as_mut_ptr(), slots.len()),
                 Name::AppendRoll => c_names::gf_append_roll(
                     lent.as_mut_ptr(), lent.len(), *count, *kind, *set, *earlier, label.as_ptr(), label.len(),
                     slots.as_mut_ptr(), slots.len(),
@@ -178,15 +192,21 @@ fn any(r: &mut Rng) -> Record {
     record
 }
 
-/// The bytes of a roll; its starts in rising order or in any.
-pub fn roll(r: &mut Rng, records: &[Record]) -> Vec<u8> {
-    let rising = (0..records.len()).collect();
-    let order = if r.below(2) == 0 { rising } else { r.order(records.len()) };
-    roll_of(records, &order)
+/// The bytes of a roll: its starts in rising order, in any for one in eight of the rolls and for half of the older ones; in half of these
+/// two starts are exchanged.
+pub fn roll(r: &mut Rng, records: &[Record], order: Order) -> Vec<u8> {
+    let mut listed: Vec<usize> = (0..records.len()).collect();
+    if r.below(if order == Order::Any { 2 } else { 8 }) == 0 && listed.len() > 1 {
+        match r.below(2) {
+            0 => listed = r.order(records.len()),
+            _ => listed.swap(r.below(records.len()), r.below(records.len())),
+        }
+    }
+    roll_of(records, &listed)
 }
 
 /// A roll at a limit or one beyond: 999 to 1,001 records, or 65,535 to 65,537 bytes.
-fn at_a_limit(r: &mut Rng) -> Vec<u8> {
+fn at_a_limit(r: &mut Rng, order: Order) -> Vec<u8> {
     let delivery = |label: usize| Record { kind: 1, set: 5, earlier: 0, label: vec![1; label] };
     let mut records;
     if r.below(2) == 0 {
@@ -196,7 +216,7 @@ fn at_a_limit(r: &mut Rng) -> Vec<u8> {
         let last = [133 - 14, 146, 147, 148][r.below(4)];
         records.push(delivery(last));
     }
-    roll(r, &records)
+    roll(r, &records, order)
 }
 
 /// Changes some bytes: a byte anywhere, a byte of the trailer, a start listed twice, a byte more or less.
@@ -258,12 +278,12 @@ pub fn make(r: &mut Rng, name: Name) -> Asked {
     let asks = name == Name::StandsNow || name == Name::RetireAll;
     let story = if asks { history(r) } else { vec![] };
     let mut bytes = if r.below(400) == 0 {
-        at_a_limit(r)
+        at_a_limit(r, name.order())
     } else if !story.is_empty() {
-        roll(r, &story)
+        roll(r, &story, name.order())
     } else {
         let records: Vec<Record> = (0..r.below(6)).map(|_| good(r)).collect();
-        roll(r, &records)
+        roll(r, &records, name.order())
     };
     (0..[0, 0, 0, 1, 2][r.below(5)]).for_each(|_| if !bytes.is_empty() { damage(r, &mut bytes) });
     let mut record = any(r);
@@ -281,13 +301,13 @@ pub fn make(r: &mut Rng, name: Name) -> Asked {
     };
     let fit = if name == Name::AppendRoll || asks { 1 } else { 6 };
     let slots = vec![9; if r.below(16) == 0 { r.below(8) } else { fit }];
-    let at = position(r, &bytes, count);
+    let at = position(r, &bytes, count, name.order());
     Asked { name, lent: bytes, count, at, record, slots }
 }
 
 /// A position: the start of a record or the trailer, by the model, or any.
-fn position(r: &mut Rng, lent: &[u8], count: usize) -> usize {
-    let Some(roll) = held(lent, count) else { return r.below(lent.len() + 2) };
+fn position(r: &mut Rng, lent: &[u8], count: usize, order: Order) -> usize {
+    let Some(roll) = held(lent, count, order) else { return r.below(lent.len() + 2) };
     let mut places: Vec<usize> = roll.records.iter().map(|(start, _)| *start).collect();
     places.push(roll.trailer);
     match r.below(4) {
@@ -319,20 +339,50 @@ pub fn walks(tally: &mut Tally, r: &mut Rng, count: u64) {
                 added.push(asked.record.clone());
             }
         }
-        (asked.name, asked.slots) = (Name::ReadRoll, vec![9; 6]);
-        let mut read = vec![];
-        loop {
-            one(tally, &asked, &Asked::port);
-            if asked.port() != 0 {
-                break;
-            }
-            let [kind, set, earlier, from, length, next] = asked.slots[..] else { unreachable!() };
-            let label = asked.lent[from..from + length].to_vec();
-            read.push(Record { kind: kind as u8, set: set as u32, earlier: earlier as u32, label });
-            asked.at = next;
-        }
+        let read = walk(tally, &mut asked, Name::ReadRoll);
         if read != added {
             tally.differ(0, || format!("read {read:?}, added {added:?}"));
+        }
+    }
+}
+
+/// Walks the roll from byte 0 to where the call says something else than a record.
+fn walk(tally: &mut Tally, asked: &mut Asked, name: Name) -> Vec<Record> {
+    (asked.name, asked.at, asked.slots) = (name, 0, vec![9; 6]);
+    let mut read = vec![];
+    loop {
+        one(tally, asked, &Asked::port);
+        if asked.port() != 0 {
+            return read;
+        }
+        let [kind, set, earlier, from, length, next] = asked.slots[..] else { unreachable!() };
+        let label = asked.lent[from..from + length].to_vec();
+        read.push(Record { kind: kind as u8, set: set as u32, earlier: earlier as u32, label });
+        asked.at = next;
+    }
+}
+
+/// Older rolls brought over: read by the former rule, appended anew to an empty roll. What comes of it is the roll with the starts in
+/// rising order, at every desk.
+pub fn older(tally: &mut Tally, r: &mut Rng, count: u64) {
+    for _ in 0..count.div_ceil(20) {
+        let records: Vec<Record> = (0..r.below(12)).map(|_| good(r)).collect();
+        let (lent, record) = (roll(r, &records, Order::Any), Record { kind: 1, set: 1, earlier: 0, label: vec![] });
+        let mut asked = Asked { name: Name::ReadRollFormer, count: lent.len(), lent, at: 0, record, slots: vec![] };
+        let read = walk(tally, &mut asked, Name::ReadRollFormer);
+        (asked.name, asked.slots) = (Name::AppendRoll, vec![9]);
+        (asked.lent, asked.count) = (values::bytes(asked.lent.len() + r.below(9), r.bits()), 8);
+        asked.lent[..8].fill(0);
+        for record in read {
+            asked.record = record;
+            one(tally, &asked, &Asked::port);
+            if asked.port() == 0 {
+                asked.count = asked.slots[0];
+            }
+        }
+        let want = roll_of(&records, &(0..records.len()).collect::<Vec<_>>());
+        if asked.lent[..asked.count] != want {
+            tally.differ(0, || format!("brought over {:?}, to be {want:?}", &asked.lent[..asked.count]));
         }
     }
 }

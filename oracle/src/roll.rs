@@ -1,4 +1,4 @@
-//! A delivery roll by the sentences of document 02, A.7, A.8, A.12 and A.14, as plain Rust: nothing here is taken from the port.
+//! A delivery roll by the sentences of document 02, A.7, A.8, A.12, A.13 and A.14, as plain Rust: nothing here is taken from the port.
 use std::collections::{BTreeSet, HashMap};
 
 /// A record: kind 1 delivery, 2 replacement, 3 retirement.
@@ -14,6 +14,13 @@ pub struct Record {
 pub struct Roll {
     pub records: Vec<(usize, Record)>,
     pub trailer: usize,
+}
+
+/// In which order the trailer may list the starts: rising (A.13), or any, the former rule under which older rolls are read (A.7).
+#[derive(Clone, Copy, Debug, PartialEq)]
+pub enum Order {
+    Rising,
+    Any,
 }
 
 pub const MOST_RECORDS: usize = 1000;
@@ -71,7 +78,7 @@ fn record_at(body: &[u8], at: usize) -> Option<(Record, usize)> {
 }
 
 /// The roll that all the bytes are, if they are one.
-pub fn read_roll(bytes: &[u8]) -> Option<Roll> {
+pub fn read_roll(bytes: &[u8], order: Order) -> Option<Roll> {
     if bytes.len() < 8 || bytes.len() > MOST_BYTES {
         return None;
     }
@@ -85,20 +92,22 @@ pub fn read_roll(bytes: &[u8]) -> Option<Roll> {
         at = end;
     }
     let mut listed: Vec<usize> = (0..records.len()).map(|k| integer(bytes, trailer + 4 * k)).collect::<Option<_>>()?;
-    listed.sort();
+    if order == Order::Any {
+        listed.sort();
+    }
     let starts: Vec<usize> = records.iter().map(|(start, _)| *start).collect();
     let whole = trailer + 4 * count + 8 == bytes.len();
     (records.len() == count && count <= MOST_RECORDS && whole && listed == starts).then_some(Roll { records, trailer })
 }
 
 /// The roll in the first bytes of a lent slice, their count given with it.
-pub fn held(lent: &[u8], count: usize) -> Option<Roll> {
-    read_roll(lent.get(..count)?)
+pub fn held(lent: &[u8], count: usize, order: Order) -> Option<Roll> {
+    read_roll(lent.get(..count)?, order)
 }
 
 /// What the appender answers: the new roll's bytes, its starts in rising order, or the number of the refusal.
 pub fn appended(lent: &[u8], count: usize, record: Record) -> Result<Vec<u8>, u8> {
-    let roll = held(lent, count).filter(|_| record.keeps_rules()).ok_or(NOT_A_ROLL)?;
+    let roll = held(lent, count, Order::Rising).filter(|_| record.keeps_rules()).ok_or(NOT_A_ROLL)?;
     let mut records: Vec<Record> = roll.records.into_iter().map(|(_, record)| record).collect();
     records.push(record);
     let bytes = roll_of(&records, &(0..records.len()).collect::<Vec<_>>());
@@ -154,7 +163,7 @@ fn ask(register: &HashMap<u32, Noted>, set: u32) -> Standing {
 
 /// Which set stands now, or the number of the refusal: 7, then 9.
 pub fn standing(lent: &[u8], count: usize, set: u32) -> Result<Standing, u8> {
-    let roll = held(lent, count).ok_or(NOT_A_ROLL)?;
+    let roll = held(lent, count, Order::Rising).ok_or(NOT_A_ROLL)?;
     let records: Vec<Record> = roll.records.into_iter().map(|(_, record)| record).collect();
     register(&records).map(|register| ask(&register, set)).ok_or(NOT_LAWFUL)
 }
@@ -175,7 +184,7 @@ fn line(register: &HashMap<u32, Noted>, set: u32) -> BTreeSet<u32> {
 
 /// The first bytes of the slice with the retirements added, or the number of the refusal: 7, 9, 11, 8.
 pub fn retired(lent: &[u8], count: usize, set: u32) -> Result<Vec<u8>, u8> {
-    let roll = held(lent, count).ok_or(NOT_A_ROLL)?;
+    let roll = held(lent, count, Order::Rising).ok_or(NOT_A_ROLL)?;
     let records: Vec<Record> = roll.records.into_iter().map(|(_, record)| record).collect();
     let register = register(&records).ok_or(NOT_LAWFUL)?;
     if !register.contains_key(&set) {
@@ -202,11 +211,16 @@ mod tests {
 
     #[test]
     fn the_text() {
-        assert!(read_roll(&[0; 8]).is_some_and(|roll| roll.records.is_empty()));
-        assert!(read_roll(&[0; 7]).is_none() && read_roll(&[0; 9]).is_none());
-        let two = roll_of(&[delivery(2), delivery(0)], &[1, 0]);
-        assert_eq!(read_roll(&two).unwrap().records, [(0, delivery(2)), (12, delivery(0))]);
-        assert!(read_roll(&roll_of(&[delivery(2), delivery(0)], &[0, 0])).is_none());
+        for order in [Order::Rising, Order::Any] {
+            assert!(read_roll(&[0; 8], order).is_some_and(|roll| roll.records.is_empty()));
+            assert!(read_roll(&[0; 7], order).is_none() && read_roll(&[0; 9], order).is_none());
+            assert!(read_roll(&roll_of(&[delivery(2), delivery(0)], &[0, 0]), order).is_none());
+        }
+        let older = roll_of(&[delivery(2), delivery(0)], &[1, 0]);
+        assert_eq!(read_roll(&older, Order::Any).unwrap().records, [(0, delivery(2)), (12, delivery(0))]);
+        assert!(read_roll(&older, Order::Rising).is_none());
+        let two = roll_of(&[delivery(2), delivery(0)], &[0, 1]);
+        assert_eq!(read_roll(&two, Order::Rising).unwrap().records, [(0, delivery(2)), (12, delivery(0))]);
         assert_eq!(appended(&two, two.len(), delivery(0)), Err(NO_ROOM));
         assert_eq!(appended(&two, two.len(), delivery(256)), Err(NOT_A_ROLL));
     }
@@ -254,13 +268,13 @@ mod tests {
     #[test]
     fn the_limits() {
         let rising = |n: usize| (0..n).collect::<Vec<_>>();
-        assert!(read_roll(&roll_of(&vec![delivery(0); 1000], &rising(1000))).is_some());
-        assert!(read_roll(&roll_of(&vec![delivery(0); 1001], &rising(1001))).is_none());
+        assert!(read_roll(&roll_of(&vec![delivery(0); 1000], &rising(1000)), Order::Rising).is_some());
+        assert!(read_roll(&roll_of(&vec![delivery(0); 1001], &rising(1001)), Order::Rising).is_none());
         let mut records = vec![delivery(255); 243];
         records.push(delivery(147));
         assert_eq!(roll_of(&records, &rising(244)).len(), MOST_BYTES);
-        assert!(read_roll(&roll_of(&records, &rising(244))).is_some());
+        assert!(read_roll(&roll_of(&records, &rising(244)), Order::Rising).is_some());
         records[243].label.push(0);
-        assert!(read_roll(&roll_of(&records, &rising(244))).is_none());
+        assert!(read_roll(&roll_of(&records, &rising(244)), Order::Rising).is_none());
     }
 }

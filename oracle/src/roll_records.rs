@@ -19,7 +19,7 @@ fn based(name: Name, base: usize, label: usize, lent: usize, record: roll::Recor
     let mut bytes = roll_of(&records, &(0..base).collect::<Vec<_>>());
     let count = bytes.len();
     bytes.resize(lent, 0);
-    let slots = vec![9; if name == Name::ReadRoll || name == Name::IsRoll { 6 } else { 1 }];
+    let slots = vec![9; if name == Name::AppendRoll || name == Name::StandsNow { 1 } else { 6 }];
     Based { asked: Asked { name, lent: bytes, count, at: 0, record, slots }, base, label }
 }
 
@@ -32,7 +32,7 @@ fn record(call: &Based) -> Record {
     let (before, mut after) = (&call.asked, call.asked.clone());
     let number = after.model();
     let r = &before.record;
-    let place = if before.name == Name::ReadRoll { before.at } else { r.kind as usize };
+    let place = if [Name::ReadRoll, Name::ReadRollFormer].contains(&before.name) { before.at } else { r.kind as usize };
     let name = before.name as usize;
     let mut words = vec![number as u64, sum(after.lent.iter().map(|b| *b as u64)), sum(after.slots.iter().map(|n| *n as u64))];
     let counts = [name, before.count, place, r.set as usize, r.earlier as usize, r.label.len(), before.slots.len(), call.base, call.label, before.lent.len()];
@@ -53,7 +53,7 @@ fn limits() -> Vec<Based> {
     let record = |label: usize| roll::Record { kind: 3, set: 4, earlier: 0, label: values::bytes(label, 4) };
     let mut calls = vec![];
     for (base, label, added) in [(999, 0, 0), (1000, 0, 0), (1000, 0, 256), (243, 255, 147), (243, 255, 148), (243, 255, 146)] {
-        for name in [Name::IsRoll, Name::AppendRoll] {
+        for name in [Name::IsRoll, Name::AppendRoll, Name::IsRollFormer] {
             calls.push(based(name, base, label, 65600, record(added)));
         }
     }
@@ -72,8 +72,8 @@ fn limits() -> Vec<Based> {
 pub fn replay() -> Replay {
     let mut r = Rng::new(77);
     let mut calls = limits();
-    for name in [Name::IsRoll, Name::ReadRoll, Name::AppendRoll, Name::StandsNow] {
-        let small: Vec<Based> = (0..400).map(|_| make(&mut r, name)).filter(|a| a.lent.len() < 400).take(300).map(drawn).collect();
+    for name in [Name::IsRoll, Name::ReadRoll, Name::AppendRoll, Name::StandsNow, Name::IsRollFormer, Name::ReadRollFormer] {
+        let small: Vec<Based> = (0..400).map(|_| make(&mut r, name)).filter(|a| a.lent.len() < 400).take(240).map(drawn).collect();
         calls.extend(small);
     }
     let records: Vec<Record> = calls.iter().map(record).collect();

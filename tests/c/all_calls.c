@@ -648,11 +648,32 @@ static void read_roll(void) {
     CHECK(gf_read_roll(S(lent), sizeof lent, 1, slots, 5) == GF_NOT_A_ROLL);
     CHECK(gf_read_roll(S(lent), sizeof lent - 1, 0, S(slots)) == GF_NOT_A_ROLL);
     CHECK(gf_read_roll(S(lent), sizeof lent + 1, 0, S(slots)) == GF_NOT_A_ROLL);
-    /* the starts in another order; then one of them twice */
-    lent[22] = 12, lent[26] = 0;
-    CHECK(gf_is_roll(S(lent), sizeof lent) && gf_read_roll(S(lent), sizeof lent, 12, S(slots)) == GF_DONE);
-    lent[26] = 12;
+    /* one of the starts twice */
+    lent[22] = 12;
     CHECK(!gf_is_roll(S(lent), sizeof lent) && gf_read_roll(S(lent), sizeof lent, 12, S(slots)) == GF_NOT_A_ROLL);
+}
+
+/* the two starts exchanged: read by the former rule alone, and appended anew the roll as it is now */
+static void older_roll(void) {
+    uint8_t lent[sizeof two_records], renewed[sizeof two_records] = {0};
+    size_t slots[] = {9, 9, 9, 9, 9, 9}, count[] = {8}, at = 0;
+    memcpy(lent, two_records, sizeof lent);
+    CHECK(gf_is_roll_former(S(lent), sizeof lent) && gf_read_roll_former(S(lent), sizeof lent, 22, S(slots)) == GF_ROLL_END);
+    lent[22] = 12, lent[26] = 0;
+    CHECK(!gf_is_roll(S(lent), sizeof lent) && gf_is_roll_former(S(lent), sizeof lent));
+    CHECK(gf_read_roll(S(lent), sizeof lent, 12, S(slots)) == GF_NOT_A_ROLL && gf_read_roll(S(lent), sizeof lent, 22, S(slots)) == GF_NOT_A_ROLL);
+    CHECK(gf_append_roll(S(lent), sizeof lent, 1, 5, 0, lent, 0, S(count)) == GF_NOT_A_ROLL);
+    CHECK(gf_stands_now(S(lent), sizeof lent, 7, S(count)) == GF_NOT_A_ROLL && count[0] == 8);
+    CHECK(gf_retire_all(S(lent), sizeof lent, 7, S(count)) == GF_NOT_A_ROLL && count[0] == 8 && lent[22] == 12);
+    CHECK(gf_read_roll_former(S(lent), sizeof lent, 1, S(slots)) == GF_NOT_A_ROLL && gf_read_roll_former(S(lent), sizeof lent, 12, slots, 5) == GF_WRONG_LENGTH);
+    CHECK(slots[0] == 9);
+    while (gf_read_roll_former(S(lent), sizeof lent, at, S(slots)) == GF_DONE) {
+        CHECK(gf_append_roll(S(renewed), count[0], (uint8_t)slots[0], (uint32_t)slots[1], (uint32_t)slots[2], lent + slots[3], slots[4], S(count)) == GF_DONE);
+        at = slots[5];
+    }
+    CHECK(at == 22 && count[0] == sizeof renewed && memcmp(renewed, two_records, sizeof renewed) == 0);
+    lent[26] = 12;
+    CHECK(!gf_is_roll_former(S(lent), sizeof lent) && gf_read_roll_former(S(lent), sizeof lent, 0, S(slots)) == GF_NOT_A_ROLL);
 }
 
 static void stands_now(void) {
@@ -722,6 +743,7 @@ int main(void) {
     fourth_order();
     append_roll();
     read_roll();
+    older_roll();
     stands_now();
     retire_all();
     printf("%d of %d hold\n", checks - failures, checks);

@@ -54,6 +54,8 @@ def good(rng):
         "stands_now": ({"lent": np.zeros(8, np.uint8), "set": 1}, set()),
         "retire_all": ({"lent": np.frombuffer(gf.roll.appended(gf.roll.EMPTY, 1, 5) + bytes(14), np.uint8).copy(), "count": 22, "set": 5}, {"lent"}),
         "is_roll": ({"lent": np.zeros(8, np.uint8)}, set()),
+        "read_roll_former": ({"lent": np.zeros(8, np.uint8), "at": 0}, set()),
+        "is_roll_former": ({"lent": np.zeros(8, np.uint8)}, set()),
         "check_shift_tables": (dict(tables), set()),
     }
 

@@ -348,6 +348,21 @@ class Roll(unittest.TestCase):
         self.assertEqual([tuple(r)[:4] for r in gf.roll.records(roll)], expected)
         self.assertEqual(len(roll), 8 + sum(14 + len(e[3]) for e in expected))
 
+    def test_older(self):
+        roll = gf.roll.EMPTY
+        for k in range(1, 20):
+            roll = gf.roll.appended(roll, 1, k, label=b"x" * (k % 5))
+        starts = len(roll) - 8 - 4 * 19
+        older = roll[:starts] + np.frombuffer(roll[starts:-8], "<u4")[::-1].tobytes() + roll[-8:]
+        self.assertEqual((gf.is_roll(older), gf.is_roll_former(older), gf.is_roll_former(roll)), (False, True, True))
+        for call in (lambda: gf.read_roll(older), lambda: gf.roll.appended(older, 1, 50), lambda: gf.stands_now(older, 1), lambda: gf.roll.retired(older, 1)):
+            with self.assertRaises(gf.Refused) as caught:
+                call()
+            self.assertEqual((caught.exception.number, caught.exception.detail.split(":")[0]), (7, "an older roll"))
+        new = gf.roll.EMPTY
+        for r in gf.roll.records_former(older):
+            new = gf.roll.appended(new, r.kind, r.set, r.earlier, r.label)
+        self.assertEqual(new, roll)
 
     def test_which_set_stands_now(self):
         kind, state = gf.roll.Kind, gf.roll.State

@@ -345,14 +345,16 @@ class Records(unittest.TestCase):
             else:
                 lent = r.take(-(-length // 8)).view(np.uint8)[:length].copy()
             if slots != (1 if call in (2, 3) else 6) or label > 300:
-                passed += call != 0
-                if call != 0:
+                passed += call not in (0, 4)
+                if call not in (0, 4):
                     continue
             kept = np.full(slots, 9, np.int64)
-            if call == 0:
-                got = 0 if gf.is_roll(lent, count) else 7
-            elif call == 1:
-                got, record = answer(lambda: gf.read_roll(lent, place, count))
+            if call in (0, 4):
+                judge = gf.is_roll if call == 0 else gf.is_roll_former
+                got = 0 if judge(lent, count) else 7
+            elif call in (1, 5):
+                read = gf.read_roll if call == 1 else gf.read_roll_former
+                got, record = answer(lambda: read(lent, place, count))
                 if got == 0 and record is None:
                     got = 68
                 elif got == 0:

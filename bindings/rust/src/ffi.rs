@@ -404,6 +404,8 @@ extern "C" {
     ) -> u8;
     pub fn gf_is_roll(lent: *const u8, lent_len: usize, count: usize) -> bool;
     pub fn gf_read_roll(lent: *const u8, lent_len: usize, count: usize, at: usize, slots: *mut usize, slots_len: usize) -> u8;
+    pub fn gf_is_roll_former(lent: *const u8, lent_len: usize, count: usize) -> bool;
+    pub fn gf_read_roll_former(lent: *const u8, lent_len: usize, count: usize, at: usize, slots: *mut usize, slots_len: usize) -> u8;
     pub fn gf_append_roll(
         lent: *mut u8,
         lent_len: usize,

@@ -39,11 +39,27 @@ pub fn is_roll(lent: &[u8], count: usize) -> bool {
     call!(gf_is_roll(&lent, count))
 }
 
+/// The same by the former rule, under which older rolls list their starts in any order.
+pub fn is_roll_former(lent: &[u8], count: usize) -> bool {
+    call!(gf_is_roll_former(&lent, count))
+}
+
 /// What stands at a position of the roll in the first `count` bytes: a record, or `None` at the trailer.
 pub fn read(lent: &[u8], count: usize, at: usize) -> Result<Option<Record<'_>>, Refusal> {
-    const END: u8 = 68;
     let mut slots = [0; 6];
     let number = call!(gf_read_roll(&lent, count, at, &mut slots));
+    found(lent, number, slots)
+}
+
+/// The same of an older roll, by the former rule.
+pub fn read_former(lent: &[u8], count: usize, at: usize) -> Result<Option<Record<'_>>, Refusal> {
+    let mut slots = [0; 6];
+    let number = call!(gf_read_roll_former(&lent, count, at, &mut slots));
+    found(lent, number, slots)
+}
+
+fn found(lent: &[u8], number: u8, slots: [usize; 6]) -> Result<Option<Record<'_>>, Refusal> {
+    const END: u8 = 68;
     if number == END {
         return Ok(None);
     }
@@ -54,9 +70,18 @@ pub fn read(lent: &[u8], count: usize, at: usize) -> Result<Option<Record<'_>>, 
 
 /// The records of a roll from byte 0, one after another; the refusal alone where the bytes are no roll.
 pub fn records(lent: &[u8], count: usize) -> impl Iterator<Item = Result<Record<'_>, Refusal>> {
+    walk(move |at| read(lent, count, at))
+}
+
+/// The records of an older roll, by the former rule; appended to an empty roll they make the roll that all other calls take.
+pub fn records_former(lent: &[u8], count: usize) -> impl Iterator<Item = Result<Record<'_>, Refusal>> {
+    walk(move |at| read_former(lent, count, at))
+}
+
+fn walk<'a>(read: impl Fn(usize) -> Result<Option<Record<'a>>, Refusal>) -> impl Iterator<Item = Result<Record<'a>, Refusal>> {
     let mut at = Some(0);
     std::iter::from_fn(move || {
-        let found = read(lent, count, at?).transpose();
+        let found = read(at?).transpose();
         at = match &found {
             Some(Ok(record)) => Some(record.next),
             _ => None,

@@ -184,6 +184,26 @@ fn a_roll_that_is_none_is_left_alone() {
 }
 
 #[test]
+fn an_older_roll_comes_over() {
+    let (mut file, mut new) = ([0; 50], [0; 50]);
+    let mut count = roll::append(&mut file, 8, roll::DELIVERY, 7, 0, b"AB").unwrap();
+    count = roll::append(&mut file, count, roll::REPLACEMENT, 8, 7, b"").unwrap();
+    let rising = file;
+    file[22..30].rotate_left(4); // the two starts exchanged
+    assert!(!roll::is_roll(&file, count) && roll::is_roll_former(&file, count));
+    assert_eq!(roll::read(&file, count, 12), Err(Refusal::NotARoll));
+    assert_eq!(roll::append(&mut file, count, roll::DELIVERY, 9, 0, b""), Err(Refusal::NotARoll));
+    assert_eq!(roll::retire_all(&mut file, count, 7), Err(Refusal::NotARoll));
+    assert_eq!(roll::read_former(&file, count, 12).unwrap().map(|r| (r.set, r.earlier)), Some((8, 7)));
+    let mut long = roll::EMPTY.len();
+    for record in roll::records_former(&file, count) {
+        let roll::Record { kind, set, earlier, label, .. } = record.unwrap();
+        long = roll::append(&mut new, long, kind, set, earlier, label).unwrap();
+    }
+    assert_eq!((long, new), (count, rising));
+}
+
+#[test]
 fn which_set_stands_now() {
     let mut file = vec![0u8; 200];
     let mut count = roll::EMPTY.len();

@@ -12,9 +12,9 @@ use Rattle.tables.specs.declared.Refusal.{Refusal}
 use Rattle.tables.specs.declared.Refusal.the-variants.{NotARoll}
 use Rattle.tables.specs.Answers.{refusalNumber}
 use Rattle.roll.specs.Format.{Entry}
-use Rattle.roll.specs.Reading.{isRoll, trailerAt, entryAt, rollBytes, holdsRoll}
-use Rattle.roll_read.specs.Calls.{itemNumber, readEntry, holdsRecord, readAt, labelAt, pastAt}
-use Rattle.roll_read.specs.Steps.{record-label, record-room, goes-on}
+use Rattle.roll.specs.Reading.{framed, trailerAt, entryAt, sizeAt, rollBytes, holdsRoll}
+use Rattle.roll_read.specs.Calls.{itemNumber, readEntry, holdsRecord, readBy, readAt, readAtFormer}
+use Rattle.roll_read.specs.Steps.{record-room}
 use Rattle.roll_read.specs.declared.Item.{Item}
 use Rattle.roll_read.specs.declared.Item.the-variants.{Record, End, Refused}
 use Rattle.roll_append.specs.Calls.{numberOfAppended, judgedAppend, appended}
@@ -24,7 +24,7 @@ use Rattle.standing.specs.Register.{standingNumber, standsNow}
 use Rattle.retire.specs.Press.{pressed}
 use Rattle.standing.specs.declared.Standing.{Standing}
 use Rattle.standing.specs.declared.Standing.the-variants.{Unknown, Retired, Current, Refused as NotSaid}
-use Rattle.capi_roll.specs.Roll.{sevenOrTwo, slotsOf, told, readRoll, reported, appendRoll, named, setNow, retireAll}
+use Rattle.capi_roll.specs.Roll.{sevenOrTwo, slotsOf, told, toldIn, readRoll, readRollFormer, reported, appendRoll, named, setNow, retireAll}
 
 pub is-seven : {n : ℕ} → n ≡ 7 → 7 ≡ sevenOrTwo n
 unfolding sevenOrTwo
@@ -52,32 +52,28 @@ one-slot (_ ∷ (_ ∷ _)) n h = absurd (omega (arith, h))
 
 -- ---- the reader
 
+-- a record that was read lies in the bytes
+abbrev pub Within : List ℕ → ℕ → Item → Type 0
+Within b at a = (k s e : ℕ) → a ≡ Record k s e → (at + (10 + getD b (at + 9) 0) ≤ length b) × (length b ≤ 65536)
+
 pick : (h e : Bool) (x : Item) {k s l : ℕ} → cond h x (cond e End (Refused NotARoll)) ≡ Record k s l → h ≡ true
 pick true e x p = refl
 pick false true x p = let z : _≡_ {A = ℕ} 68 0 = ap itemNumber p in absurd (omega (arith, z))
 pick false false x p = let z : _≡_ {A = ℕ} 7 0 = ap itemNumber p in absurd (omega (arith, z))
 
--- a record that is read starts there
-pub holds-of : (b : List ℕ) (at : ℕ) {a : Item} {k s e : ℕ} → a ≡ readAt b at → a ≡ Record k s e → holdsRecord b at ≡ true
-unfolding readAt
-holds-of b at p q = pick (holdsRecord b at) (isRoll b && eqb at (trailerAt b)) (readEntry (entryAt b at)) (sym p ∙ q)
-
--- and lies inside the roll
-pub room-of : (b : List ℕ) (at : ℕ) {a : Item} {k s e : ℕ} → a ≡ readAt b at → a ≡ Record k s e → (at + (10 + getD b (at + 9) 0) ≤ length b) × (length b ≤ 65536)
-room-of b at p q = record-room b at (holds-of b at p q)
-
-label-long : (b : List ℕ) (at : ℕ) → holdsRecord b at ≡ true → length (labelAt b at) ≡ getD b (at + 9) 0
-label-long b at H =
-    let room = record-room b at H .0 in
-    ap length (sym (record-label b at H)) ∙ length-take-le (getD b (at + 9) 0) (drop (at + 10) b) (omega (arith, room, length-drop (at + 10) b))
+-- by either rule, whose answer ok is
+pub read-within : (ok : Bool) (b : List ℕ) (at : ℕ) {a : Item} → (ok ≡ true → framed b ≡ true) → a ≡ readBy ok b at → Within b at a
+unfolding readBy
+read-within ok b at F p k s e q = record-room ok b at (pick (holdsRecord ok b at) (ok && eqb at (trailerAt b)) (readEntry (entryAt b at)) (sym p ∙ q)) F
 
 module _ (b : List ℕ) (at : ℕ) (slots : List ℕ) {a : Item} where
-  pub told-record : {k s e n : ℕ} {z : List ℕ} → a ≡ readAt b at → a ≡ Record k s e → n ≡ getD b (at + 9) 0 → z ≡ (k ∷ s ∷ e ∷ (at + 10) ∷ n ∷ (at + (10 + n)) ∷ [])
+  pub told-record : {k s e n : ℕ} {z : List ℕ} → Within b at a → a ≡ Record k s e → n ≡ getD b (at + 9) 0 → z ≡ (k ∷ s ∷ e ∷ (at + 10) ∷ n ∷ (at + (10 + n)) ∷ [])
       → (0, z) ≡ told b at a slots
-  unfolding told slotsOf
-  told-record {k} {s} {e} {n} p q l h =
-      let H = holds-of b at p q in
-      ap (λ (x : List ℕ). (0, x)) (h ∙ ap (λ (x : ℕ). k ∷ s ∷ e ∷ (at + 10) ∷ n ∷ x ∷ []) (goes-on b at H n l) ∙ ap (λ (x : ℕ). k ∷ s ∷ e ∷ (at + 10) ∷ x ∷ pastAt b at ∷ []) (l ∙ sym (label-long b at H)))
+  unfolding told slotsOf entryAt sizeAt
+  told-record {k} {s} {e} {n} W q l h =
+      let L = getD b (at + 9) 0 in
+      let long : length (take L (drop (at + 10) b)) ≡ L = length-take-le L (drop (at + 10) b) (omega (arith, W k s e q .0, length-drop (at + 10) b)) in
+      ap (λ (x : List ℕ). (0, x)) (h ∙ ap (λ (x : ℕ). k ∷ s ∷ e ∷ (at + 10) ∷ x ∷ (at + (10 + x)) ∷ []) l ∙ ap (λ (x : ℕ). k ∷ s ∷ e ∷ (at + 10) ∷ x ∷ (at + (10 + L)) ∷ []) (sym long))
       ∙ ap (λ (x : Item). told b at x slots) (sym q)
 
   pub told-end : a ≡ End → (68, slots) ≡ told b at a slots
@@ -88,14 +84,23 @@ module _ (b : List ℕ) (at : ℕ) (slots : List ℕ) {a : Item} where
   unfolding told slotsOf
   told-refused q h = ap (λ (x : ℕ). (x, slots)) h ∙ ap (λ (x : Item). told b at x slots) (sym q)
 
-module _ (s : List ℕ) (count at : ℕ) (slots : List ℕ) {b : List ℕ} {a : Item} (e : b ≡ rollBytes s count) (p : a ≡ readAt b at) where
-  pub read-told : {n : ℕ} {z : List ℕ} → length slots ≡ 6 → (n, z) ≡ told b at a slots → (n, z) ≡ readRoll s count at slots
-  unfolding readRoll
-  read-told l h = rw (eq-eqb (length slots) 6 l) (h ∙ ap (λ (x : Item). told b at x slots) p ∙ ap (λ (x : List ℕ). told x at (readAt x at) slots) e)
+module _ (b : List ℕ) (at : ℕ) (slots : List ℕ) (a : Item) where
+  pub told-six : {n : ℕ} {z : List ℕ} → length slots ≡ 6 → (n, z) ≡ told b at a slots → (n, z) ≡ toldIn b at a slots
+  unfolding toldIn
+  told-six l h = rw (eq-eqb (length slots) 6 l) h
 
-  pub read-slots : {n m : ℕ} → (length slots ≡ 6 → ⊥) → m ≡ itemNumber a → n ≡ sevenOrTwo m → (n, slots) ≡ readRoll s count at slots
+  pub told-slots : {n m : ℕ} → (length slots ≡ 6 → ⊥) → m ≡ itemNumber a → n ≡ sevenOrTwo m → (n, slots) ≡ toldIn b at a slots
+  unfolding toldIn
+  told-slots l h k = rw (ne-eqb (length slots) 6 l) (ap (λ (x : ℕ). (x, slots)) (k ∙ ap sevenOrTwo h))
+
+module _ (s : List ℕ) (count at : ℕ) (slots : List ℕ) {b : List ℕ} {a : Item} {x : ℕ × List ℕ} (e : b ≡ rollBytes s count) (h : x ≡ toldIn b at a slots) where
+  pub read-told : a ≡ readAt b at → x ≡ readRoll s count at slots
   unfolding readRoll
-  read-slots l h k = rw (ne-eqb (length slots) 6 l) (ap (λ (x : ℕ). (x, slots)) (k ∙ ap sevenOrTwo (h ∙ ap itemNumber p ∙ ap (λ (x : List ℕ). itemNumber (readAt x at)) e)))
+  read-told p = h ∙ ap (λ (y : Item). toldIn b at y slots) p ∙ ap (λ (y : List ℕ). toldIn y at (readAt y at) slots) e
+
+  pub read-told-former : a ≡ readAtFormer b at → x ≡ readRollFormer s count at slots
+  unfolding readRollFormer
+  read-told-former p = h ∙ ap (λ (y : Item). toldIn b at y slots) p ∙ ap (λ (y : List ℕ). toldIn y at (readAtFormer y at) slots) e
 
 -- ---- the appender
 

@@ -5,9 +5,9 @@ ghost use mathlib.Core.List.{[], _∷_};
 ghost use Prim.Native.Nat.{_+_};
 ghost use lib.ListN.{length};
 ghost use Rattle.roll.specs.Format.{entry};
-ghost use Rattle.roll.specs.Reading.{holdsRoll};
-ghost use Rattle.roll_read.specs.Calls.{readAt};
-ghost use Rattle.capi_roll.specs.Roll.{sevenOrTwo, told, reported, named, readRoll, appendRoll, setNow, retireAll};
+ghost use Rattle.roll.specs.Reading.{holdsRoll, holdsFormerRoll};
+ghost use Rattle.capi_roll.specs.Roll.{sevenOrTwo, told, toldIn, reported, named, readRoll, readRollFormer, appendRoll, setNow, retireAll};
+ghost use Rattle.capi_roll.specs.Told.{Within};
 use roll::numbers::wide;
 use roll_append::Appended;
 use roll_read::Item;
@@ -19,6 +19,14 @@ pub extern "C" fn gf_is_roll(lent: &[u8], count: usize) -> bool
     ensures { λ r. ⌜ r ≡ holdsRoll (now (lent .entry)) count ⌝ }
 {
     roll::judge::is_roll(lent, count)
+}
+
+// The same by the former rule, under which older rolls list their starts in any order.
+#[no_mangle]
+pub extern "C" fn gf_is_roll_former(lent: &[u8], count: usize) -> bool
+    ensures { λ r. ⌜ r ≡ holdsFormerRoll (now (lent .entry)) count ⌝ }
+{
+    roll::judge::is_roll_former(lent, count)
 }
 
 // The answer where a slot has a wrong length: 7 is looked at first of all, then 2.
@@ -55,7 +63,7 @@ fn fill(
 // Puts what the reader said at a position of the roll b into the slots: kind, set number, earlier set number, where the label begins,
 // its length, where the record ends. The end and a refusal leave them.
 fn tell(b: &[u8], at: usize, a: Item, slots: &mut [usize]) -> u8
-    requires { ⌜ (length (now slots) ≡ 6) × (a ≡ readAt (now b) at) ⌝ }
+    requires { ⌜ (length (now slots) ≡ 6) × Within (now b) at a ⌝ }
     ensures { λ r. ⌜ (r, now (slots .exit)) ≡ told (now (b .entry)) at a (now (slots .entry)) ⌝ }
 {
     match a {
@@ -77,6 +85,17 @@ fn tell(b: &[u8], at: usize, a: Item, slots: &mut [usize]) -> u8
     }
 }
 
+// The same where there may be another number of slots.
+fn tell_in(b: &[u8], at: usize, a: Item, slots: &mut [usize]) -> u8
+    requires { ⌜ Within (now b) at a ⌝ }
+    ensures { λ r. ⌜ (r, now (slots .exit)) ≡ toldIn (now (b .entry)) at a (now (slots .entry)) ⌝ }
+{
+    if slots.len() == 6 {
+        return tell(b, at, a, slots);
+    }
+    seven_or_two(roll_read::item_number(a))
+}
+
 // What stands at a position of the roll in the first count bytes of the lent slice: 0 for a record, 68 for the end, 7. slots has six
 // slots, for the record's kind, set number, earlier set number, where its label begins, the label's length, where the record ends.
 #[no_mangle]
@@ -85,10 +104,22 @@ pub extern "C" fn gf_read_roll(lent: &[u8], count: usize, at: usize, slots: &mut
 {
     let b = roll::roll_bytes(lent, count);
     let a = roll_read::reading::read_at(b, at);
-    if slots.len() == 6 {
-        return tell(b, at, a, slots);
-    }
-    seven_or_two(roll_read::item_number(a))
+    tell_in(b, at, a, slots)
+}
+
+// The same of an older roll, by the former rule.
+#[no_mangle]
+pub extern "C" fn gf_read_roll_former(
+    lent: &[u8],
+    count: usize,
+    at: usize,
+    slots: &mut [usize],
+) -> u8
+    ensures { λ r. ⌜ (r, now (slots .exit)) ≡ readRollFormer (now (lent .entry)) count at (now (slots .entry)) ⌝ }
+{
+    let b = roll::roll_bytes(lent, count);
+    let a = roll_read::reading::read_at_former(b, at);
+    tell_in(b, at, a, slots)
 }
 
 // Puts the appender's answer into the slot: how many bytes the roll has now. A refusal leaves it.

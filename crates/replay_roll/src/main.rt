@@ -6,7 +6,9 @@ ghost use mathlib.Core.Path.{_≡_};
 ghost use Prim.Native.Nat.{_≤_};
 use capi_roll::gf_append_roll;
 use capi_roll::gf_is_roll;
+use capi_roll::gf_is_roll_former;
 use capi_roll::gf_read_roll;
+use capi_roll::gf_read_roll_former;
 use capi_roll::gf_stands_now;
 use records::steps::after;
 use records::steps::count_of;
@@ -76,14 +78,30 @@ fn append(r: &[u8], lent: &mut [u8], slots: &mut [usize], label: &[u8]) -> u64 {
     wide(gf_append_roll(lent, count_of(r, 5), kind, set, earlier, label, slots))
 }
 
-// The number of the call's answer; 7 where gf_is_roll says no.
+// The number of a test's answer: 0 for yes, 7 for no.
+fn zero_or_seven(yes: bool) -> u64 {
+    if yes {
+        return 0;
+    }
+    7
+}
+
+// The number of the call's answer, of calls on older rolls.
+fn answer_former(r: &[u8], lent: &[u8], slots: &mut [usize]) -> u64 {
+    if records::word_of(r, 4) == 4 {
+        return zero_or_seven(gf_is_roll_former(lent, count_of(r, 5)));
+    }
+    wide(gf_read_roll_former(lent, count_of(r, 5), count_of(r, 6), slots))
+}
+
+// The number of the call's answer.
 fn answer(r: &[u8], lent: &mut [u8], slots: &mut [usize], label: &[u8]) -> u64 {
     let call = records::word_of(r, 4);
+    if call > 3 {
+        return answer_former(r, lent, slots);
+    }
     if call == 0 {
-        if gf_is_roll(lent, count_of(r, 5)) {
-            return 0;
-        }
-        return 7;
+        return zero_or_seven(gf_is_roll(lent, count_of(r, 5)));
     }
     if call == 1 {
         return wide(gf_read_roll(lent, count_of(r, 5), count_of(r, 6), slots));

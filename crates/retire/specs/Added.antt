@@ -1,57 +1,25 @@
 -- Retirements appended one after the other: they are read after the former records, and the bytes after them stay. Assumes nothing.
-use mathlib.Core.Path.{_≡_, refl, sym, ap, ap₂, _∙_, subst}
-use mathlib.Core.Bool.{Bool, true, false, not, _&&_, cond}
+use mathlib.Core.Path.{_≡_, refl, sym, ap, _∙_, subst}
+use mathlib.Core.Bool.{true, _&&_, cond}
 use mathlib.Core.List.{List, [], _∷_, _++_, map, append-assoc, append-nil}
-use Prim.Native.Nat.{ℕ, zero, suc, _+_, _*_, _-_, _≤_, _<_, _%_, _/_}
+use Prim.Native.Nat.{ℕ, suc, _+_, _*_, _≤_, _<_}
 use native.Mathlib.Omega.{arith}
 use lib.Dec.{eqb, leb}
 use lib.ListN.{length, getD, take, drop, length-append, length-drop}
 use lib.Seq.{drop-drop}
 use borrow.Author.Tests.{le-leb, ne-eqb}
 use Rattle.lists.specs.Elements.{All}
-use Rattle.roll.specs.Format.{Entry, entry, inFour, inFours, bytesOf, joined, startsOf, ruled, keepsRules, rendered}
-use Rattle.roll.specs.Reading.{countOf, trailerAt, entriesOf, holdsRoll}
-use Rattle.roll.specs.Numbers.{Bytes}
-use Rattle.roll.specs.Rendering.{Fits, joined-more, joined-one}
-use Rattle.roll.specs.Holding.{is-there, bytes-take}
+use Rattle.roll.specs.Format.{Entry, ruled, keepsRules}
+use Rattle.roll.specs.Reading.{countOf, entriesOf, holdsRoll}
+use Rattle.roll.specs.Numbers.{Bytes, bytes-none}
+use Rattle.roll.specs.Holding.{is-there}
 use Rattle.roll_append.specs.declared.Appended.{Appended}
 use Rattle.roll_append.specs.declared.Appended.the-variants.{Count}
 use Rattle.roll_append.specs.Calls.{judgedAppend, appended}
-use Rattle.roll_append.specs.Appending.{entries-count, records-are, answer-done}
-use Rattle.roll_append.specs.Laws.{Grown, grown, left-new}
+use Rattle.roll_append.specs.Appending.{entries-count, answer-done}
+use Rattle.roll_append.specs.Laws.{Grown, grown}
+use Rattle.roll_append.specs.Desks.{Desk, one-more as desk-more}
 use Rattle.retire.specs.Press.{retirement, addAll}
-
--- ---- bytes
-
-bytes-append : (a b : List ℕ) → Bytes a → Bytes b → Bytes (a ++ b)
-bytes-append [] b p q k = q k
-bytes-append (x ∷ xs) b p q zero = p 0
-bytes-append (x ∷ xs) b p q (suc k) = bytes-append xs b (λ j. p (suc j)) q k
-
-bytes-cons : (x : ℕ) (xs : List ℕ) → x < 256 → Bytes xs → Bytes (x ∷ xs)
-bytes-cons x xs h p zero = h
-bytes-cons x xs h p (suc k) = p k
-
-bytes-none : Bytes []
-bytes-none k = omega arith
-
-bytes-four : (n : ℕ) → Bytes (inFour n)
-bytes-four n =
-    let a = n % 256 in
-    let b = n / 256 % 256 in
-    let c = n / 65536 % 256 in
-    let d = n / 16777216 % 256 in
-    bytes-cons a (b ∷ c ∷ d ∷ []) (omega arith) (bytes-cons b (c ∷ d ∷ []) (omega arith) (bytes-cons c (d ∷ []) (omega arith) (bytes-cons d [] (omega arith) bytes-none)))
-
-bytes-fours : (ns : List ℕ) → Bytes (inFours ns)
-unfolding inFours
-bytes-fours [] = bytes-none
-bytes-fours (n ∷ ns) = bytes-append (inFour n) (inFours ns) (bytes-four n) (bytes-fours ns)
-
-bytes-drop : (n : ℕ) (l : List ℕ) → Bytes l → Bytes (drop n l)
-bytes-drop zero l B = B
-bytes-drop (suc n) [] B = bytes-none
-bytes-drop (suc n) (x ∷ xs) B = bytes-drop n xs (λ k. B (suc k))
 
 -- ---- one retirement more
 
@@ -87,24 +55,11 @@ module _ (s : List ℕ) (count k y : ℕ) (Y : Named y) (P : Roomy s count (suc 
   long-same : length s₁ ≡ length s
   long-same = omega (arith, is-there s₁ (count + 14) (one-more .holds), ap length (one-more .rest), length-drop (count + 14) s₁, length-drop (count + 14) s, P .within)
 
-  abbrev all : List Entry
-  all = entriesOf (take count s) ++ (e ∷ [])
-
-  record-bytes : Bytes (bytesOf e)
-  record-bytes =
-      bytes-cons 3 (inFour y ++ (inFour 0 ++ (0 ∷ []))) (omega arith)
-      (bytes-append (inFour y) (inFour 0 ++ (0 ∷ [])) (bytes-four y) (bytes-append (inFour 0) (0 ∷ []) (bytes-four 0) (bytes-cons 0 [] (omega arith) bytes-none)))
-
+  -- a desk that appends to its roll still has bytes
   new-bytes : Bytes s₁
-  unfolding rendered
   new-bytes =
-      let joins = subst Bytes (sym (records-are s count e (P .holds) (P .bytes))) (bytes-append (take (trailerAt (take count s)) s) (bytesOf e) (bytes-take s (trailerAt (take count s)) (P .bytes)) record-bytes) in
-      let ends = bytes-append (inFour (length all)) (inFour (length (joined all))) (bytes-four (length all)) (bytes-four (length (joined all))) in
-      let trailer = bytes-append (inFours (startsOf all)) (inFour (length all) ++ inFour (length (joined all))) (bytes-fours (startsOf all)) ends in
-      subst Bytes (sym (left-new s count e (P .bytes) (Y .1, omega arith) (count + 14) done))
-      (bytes-append (rendered all (startsOf all)) (drop (count + 14) s)
-      (bytes-append (joined all) (inFours (startsOf all) ++ (inFour (length all) ++ inFour (length (joined all)))) joins trailer)
-      (bytes-drop (count + 14) s (P .bytes)))
+      let D : Desk s count (entriesOf (take count s)) = record { bytes = P .bytes; holds = P .holds; reads = refl } in
+      desk-more s count (entriesOf (take count s)) D e ((Y .1, omega arith), bytes-none) (count + 14) done .bytes
 
   count-more : countOf (take (count + 14) s₁) ≡ countOf (take count s) + 1
   count-more =

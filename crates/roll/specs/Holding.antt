@@ -13,44 +13,61 @@ use Rattle.lists.specs.Tests.{every, every-at, and-fst, and-snd, or-true, refut
 use Rattle.lists.specs.Tab.{tab, length-tab}
 use Rattle.lists.specs.Cases.{lt-or-le}
 use Rattle.roll.specs.Format.{Entry, bytesOf, sizeOf, inFour, inFours, joined, startsFrom, startsOf, ruled, keepsRules, rendered}
-use Rattle.roll.specs.Reading.{fourAt, trailerAt, countOf, entryAt, start, follow, listedOnce, framed, eachOnce, isRoll, rollBytes, holdsRoll}
+use Rattle.roll.specs.Reading.{fourAt, trailerAt, countOf, listed, entryAt, start, follow, listedOnce, sized, framed, inOrder, isRoll, eachOnce, isFormerRoll, rollBytes, holdsRoll, holdsFormerRoll}
 use Rattle.roll.specs.Roll.{Sized}
 use Rattle.roll.specs.Starts.{follow-ends}
 use Rattle.roll.specs.Numbers.{Bytes, four-same, length-fours}
 use Rattle.roll.specs.Rendering.{startAt, startList, start-at, tab-starts, starts-in, joined-more, joined-one, length-bytes, records-back}
 
+-- ---- what the two rules have in common
+
+pub sized-says : (b : List ℕ) → sized b ≡ true → (8 ≤ length b) × (length b ≤ 65536) × (countOf b ≤ 1000) × (trailerAt b + 4 * countOf b + 8 ≡ length b)
+sized-says b e =
+    let e₁ = and-snd (leb 8 (length b)) _ e in
+    let e₂ = and-snd (leb (length b) 65536) _ e₁ in (
+      leb-true 8 (length b) (and-fst (leb 8 (length b)) _ e),
+      leb-true (length b) 65536 (and-fst (leb (length b) 65536) _ e₁),
+      leb-true (countOf b) 1000 (and-fst (leb (countOf b) 1000) _ e₂),
+      eqb-true (trailerAt b + 4 * countOf b + 8) (length b) (and-snd (leb (countOf b) 1000) _ e₂),
+    )
+
+module _ (b : List ℕ) (F : framed b ≡ true) where
+  pub framed-following : follow b (countOf b) (trailerAt b) ≡ true
+  unfolding framed
+  framed-following = and-snd (sized b) (follow b (countOf b) (trailerAt b)) F
+
+  pub framed-sized : Sized b (countOf b) (trailerAt b)
+  unfolding framed
+  framed-sized =
+      let says = sized-says b (and-fst (sized b) (follow b (countOf b) (trailerAt b)) F) in
+      record { few = says .2; small = says .1; whole = says .3; ends = follow-ends b (countOf b) (trailerAt b) framed-following }
+
 -- ---- a roll that passed the check
 
 module _ (b : List ℕ) (R : isRoll b ≡ true) where
-  rest-0 : framed b ≡ true
+  pub is-framed : framed b ≡ true
   unfolding isRoll
-  rest-0 = and-fst (framed b) (eachOnce b) R
-
-  rest-1 : (leb (length b) 65536 && (leb (countOf b) 1000 && (eqb (trailerAt b + 4 * countOf b + 8) (length b) && follow b (countOf b) (trailerAt b)))) ≡ true
-  unfolding framed
-  rest-1 = and-snd (leb 8 (length b)) _ rest-0
-
-  rest-2 : (leb (countOf b) 1000 && (eqb (trailerAt b + 4 * countOf b + 8) (length b) && follow b (countOf b) (trailerAt b))) ≡ true
-  rest-2 = and-snd (leb (length b) 65536) _ rest-1
-
-  rest-3 : (eqb (trailerAt b + 4 * countOf b + 8) (length b) && follow b (countOf b) (trailerAt b)) ≡ true
-  rest-3 = and-snd (leb (countOf b) 1000) _ rest-2
+  is-framed = and-fst (framed b) _ R
 
   pub is-following : follow b (countOf b) (trailerAt b) ≡ true
-  is-following = and-snd (eqb (trailerAt b + 4 * countOf b + 8) (length b)) _ rest-3
-
-  pub is-listing : (i : ℕ) → i < countOf b → listedOnce b i ≡ true
-  unfolding isRoll eachOnce
-  is-listing = every-at (countOf b) (λ i. listedOnce b i) (and-snd (framed b) (eachOnce b) R)
+  is-following = framed-following b is-framed
 
   pub is-sized : Sized b (countOf b) (trailerAt b)
-  is-sized =
-      record {
-        few = leb-true (countOf b) 1000 (and-fst (leb (countOf b) 1000) _ rest-2);
-        small = leb-true (length b) 65536 (and-fst (leb (length b) 65536) _ rest-1);
-        whole = eqb-true (trailerAt b + 4 * countOf b + 8) (length b) (and-fst (eqb (trailerAt b + 4 * countOf b + 8) (length b)) _ rest-3);
-        ends = follow-ends b (countOf b) (trailerAt b) is-following;
-      }
+  is-sized = framed-sized b is-framed
+
+  pub is-listing : (i : ℕ) → i < countOf b → listed b i ≡ start b i
+  unfolding isRoll
+  is-listing i h = eqb-true (listed b i) (start b i) (every-at (countOf b) (λ i. eqb (listed b i) (start b i)) (and-snd (framed b) (inOrder b) R) i h)
+
+-- by the former rule
+module _ (b : List ℕ) (R : isFormerRoll b ≡ true) where
+  pub former-framed : framed b ≡ true
+  unfolding isFormerRoll
+  former-framed = and-fst (framed b) _ R
+
+  pub former-listing : (i : ℕ) → i < countOf b → listedOnce b i ≡ true
+  unfolding isFormerRoll eachOnce
+  former-listing = every-at (countOf b) (λ i. listedOnce b i) (and-snd (framed b) (eachOnce b) R)
 
 -- ---- a roll in the first bytes of a slice
 
@@ -125,12 +142,20 @@ no-and x y e = rw e refl
 pub yes-and : {r : Bool} (x y : Bool) → x ≡ true → r ≡ y → r ≡ (x && y)
 yes-and x y e h = rw e h
 
-module _ (b : List ℕ) where
-  pub not-a-roll : (isRoll b ≡ true → ⊥) → false ≡ isRoll b
-  not-a-roll f = sym (refuted (isRoll b) f)
+pub and-no : (x y : Bool) → false ≡ y → false ≡ (x && y)
+and-no true y e = e
+and-no false y e = refl
 
+pub and-yes : {r : Bool} (x y : Bool) → r ≡ x → y ≡ true → r ≡ (x && y)
+and-yes true y h e = h ∙ sym e
+and-yes false y h e = h
+
+module _ (b : List ℕ) where
   pub at-least-eight : isRoll b ≡ true → 8 ≤ length b
   at-least-eight R = omega (arith, is-sized b R .whole)
+
+  pub framed-eight : framed b ≡ true → 8 ≤ length b
+  framed-eight F = omega (arith, framed-sized b F .whole)
 
   pub count-is : {n : ℕ} → n ≡ fourAt b (length b - 8) → n ≡ countOf b
   unfolding countOf
@@ -140,20 +165,52 @@ module _ (b : List ℕ) where
   unfolding trailerAt
   trailer-is e = e
 
-  pub roll-by : (n t : ℕ) (r : Bool) → 8 ≤ length b → length b ≤ 65536 → n ≤ 1000 → t + 4 * n + 8 ≡ length b → n ≡ countOf b → t ≡ trailerAt b
-      → r ≡ (follow b n t && every n (λ i. listedOnce b i)) → r ≡ isRoll b
-  unfolding isRoll framed eachOnce
-  roll-by n t r h g f w e q p =
-      rw (le-leb 8 (length b) h, le-leb (length b) 65536 g, le-leb (countOf b) 1000 (omega arith), eq-eqb (trailerAt b + 4 * countOf b + 8) (length b) (omega arith))
-      (p ∙ ap₂ (λ m u. follow b m u && every m (λ i. listedOnce b i)) e q)
+  pub not-sized : (sized b ≡ true → ⊥) → false ≡ sized b
+  not-sized f = sym (refuted (sized b) f)
 
-pub held-past : (s : List ℕ) (count : ℕ) → length s < count → false ≡ holdsRoll s count
-unfolding holdsRoll
-held-past s count h = rw (lt-leb count (length s) h) refl
+  pub sized-by : (n t : ℕ) → 8 ≤ length b → length b ≤ 65536 → n ≤ 1000 → n ≡ countOf b → t ≡ trailerAt b → eqb (t + 4 * n + 8) (length b) ≡ sized b
+  sized-by n t h g f e q =
+      rw (le-leb 8 (length b) h, le-leb (length b) 65536 g, le-leb (countOf b) 1000 (omega arith)) (ap₂ (λ m u. eqb (u + 4 * m + 8) (length b)) e q)
 
-pub held-by : (s : List ℕ) (count : ℕ) {r : Bool} → count ≤ length s → r ≡ isRoll (take count s) → r ≡ holdsRoll s count
-unfolding holdsRoll
-held-by s count h e = rw (le-leb count (length s) h) e
+  -- what the records and the list ask for
+  pub sized-for : (n t : ℕ) → sized b ≡ true → n ≡ countOf b → t ≡ trailerAt b
+      → (n ≡ countOf b) × (t ≡ trailerAt b) × (n ≤ 1000) × (length b ≤ 65536) × (t + 4 * n + 8 ≡ length b)
+  sized-for n t S e q = let says = sized-says b S in (e, q, omega (arith, says .2, e), says .1, omega (arith, says .3, e, q))
+
+  pub not-roll : sized b ≡ false → false ≡ isRoll b
+  unfolding isRoll framed
+  not-roll e = rw e refl
+
+  pub not-former : sized b ≡ false → false ≡ isFormerRoll b
+  unfolding isFormerRoll framed
+  not-former e = rw e refl
+
+  module _ (n t : ℕ) (r : Bool) (S : sized b ≡ true) (e : n ≡ countOf b) (q : t ≡ trailerAt b) where
+    pub roll-by : r ≡ (follow b n t && every n (λ i. eqb (listed b i) (start b i))) → r ≡ isRoll b
+    unfolding isRoll framed
+    roll-by p = rw S (p ∙ ap₂ (λ m u. follow b m u && every m (λ i. eqb (listed b i) (start b i))) e q)
+
+    pub former-by : r ≡ (follow b n t && every n (λ i. listedOnce b i)) → r ≡ isFormerRoll b
+    unfolding isFormerRoll framed eachOnce
+    former-by p = rw S (p ∙ ap₂ (λ m u. follow b m u && every m (λ i. listedOnce b i)) e q)
+
+-- a roll in the first bytes of a slice s
+module _ (s : List ℕ) (count : ℕ) where
+  pub held-past : length s < count → false ≡ holdsRoll s count
+  unfolding holdsRoll
+  held-past h = rw (lt-leb count (length s) h) refl
+
+  pub held-by : {r : Bool} → count ≤ length s → r ≡ isRoll (take count s) → r ≡ holdsRoll s count
+  unfolding holdsRoll
+  held-by h e = rw (le-leb count (length s) h) e
+
+  pub former-past : length s < count → false ≡ holdsFormerRoll s count
+  unfolding holdsFormerRoll
+  former-past h = rw (lt-leb count (length s) h) refl
+
+  pub former-held : {r : Bool} → count ≤ length s → r ≡ isFormerRoll (take count s) → r ≡ holdsFormerRoll s count
+  unfolding holdsFormerRoll
+  former-held h e = rw (le-leb count (length s) h) e
 
 -- the part of a slice that a roll is looked for in
 pub bytes-past : (s : List ℕ) (count : ℕ) → length s < count → [] ≡ rollBytes s count

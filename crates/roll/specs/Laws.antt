@@ -1,8 +1,9 @@
--- Document 02, A.7, as laws about the definitions: a rendered roll is a roll and is read back, and a roll is rendered from its records.
+-- Document 02, A.7 and A.13, as laws about the definitions: a rendered roll is a roll and is read back, and a roll is rendered from its
+-- records; so two rolls have the same records in the same order exactly when they have the same bytes.
 -- Assumes nothing.
 use mathlib.Core.Path.{_≡_, refl, sym, ap, ap₂, _∙_, subst}
 use mathlib.Core.Bool.{Bool, true, false, not, _&&_, _||_, cond, true≢false}
-use mathlib.Core.Logic.{_⊎_, inl, inr}
+use mathlib.Core.Logic.{_⊎_, inl, inr, _↔_}
 use mathlib.Core.List.{List, [], _∷_, _++_, append-assoc, append-nil}
 use Prim.Native.Nat.{ℕ, zero, suc, _+_, _*_, _-_, _≤_, _<_}
 use native.Mathlib.Omega.{arith}
@@ -11,17 +12,17 @@ use lib.ListN.{length, getD, take, drop, length-append, length-take, take-append
 use lib.Seq.{split-at, take-at, drop-at, take-add, drop-drop, length-take-le, drop-length}
 use borrow.Author.Tests.{ltb-false, leb-true, eqb-true, le-leb, lt-leb, eq-eqb, ne-eqb}
 use Rattle.lists.specs.Tests.{every, some, every-of, some-of, and-fst, and-snd, both, refuted, not-both, some-at, split}
-use Rattle.lists.specs.Tab.{tab, length-tab, getD-tab}
+use Rattle.lists.specs.Tab.{tab, length-tab, getD-tab, tab-ext}
 use Rattle.lists.specs.Elements.{All, all-at}
 use Rattle.lists.specs.Members.{of-getD}
 use Rattle.roll.specs.Format.{Entry, bytesOf, inFour, inFours, joined, startsFrom, startsOf, ruled, keepsRules, rendered}
-use Rattle.roll.specs.Reading.{fourAt, trailerAt, countOf, listed, entryAt, sizeAt, start, isStart, ruledAt, follow, listedOnce, framed, eachOnce, isRoll, entriesOf}
+use Rattle.roll.specs.Reading.{fourAt, trailerAt, countOf, listed, entryAt, sizeAt, start, isStart, ruledAt, follow, listedOnce, sized, framed, inOrder, isRoll, eachOnce, isFormerRoll, entriesOf}
 use Rattle.roll.specs.Roll.{Sized}
-use Rattle.roll.specs.Starts.{start-next, start-apart, ends-before, follow-ends, follow-ruled, no-start}
+use Rattle.roll.specs.Starts.{start-next, start-apart, ends-before, head-before, follow-ends, follow-ruled, no-start}
 use Rattle.roll.specs.Numbers.{Bytes, four-written, four-small, read-back, length-fours, fours-more, fours-tab, length-fours-tab, tab-more}
 use Rattle.roll.specs.Rendering.{Fits, startAt, startList, start-at, tab-starts, tab-entries, starts-in, entries-in, records-back}
-use Rattle.roll.specs.Holding.{is-following, is-sized, length-starts-from, length-rendered}
-use Rattle.roll.specs.Listing.{Differ}
+use Rattle.roll.specs.Holding.{framed-following, framed-sized, is-framed, is-listing, former-framed, former-listing, length-starts-from, length-rendered}
+use Rattle.roll.specs.Listing.{Differ, listed-in-order}
 
 -- the list `order` has each start of the records once: as many numbers as records, each of them a start, none twice
 pub record Lists (rs : List Entry) (order : List ℕ) : Type 0 where
@@ -103,7 +104,7 @@ module _ (rs : List Entry) (order : List ℕ) (few : length rs ≤ 1000) (small 
       let l : trailerAt b + 4 * i ≡ length x = omega (arith, trailer-back, length-append (joined rs) (inFours p), length-fours p, length-take-le i order (omega arith)) in
       ap (fourAt b) l ∙ ap (λ z. fourAt z (length x)) e ∙ four-written x v (inFours q ++ rest) g
 
-  module _ (G : All Good rs) (L : Lists rs order) where
+  module _ (G : All Good rs) (many : length order ≡ length rs) where
     fits : All Fits rs
     fits = of-getD Fits rs (entryAt b 0) (λ k h. all-at Good rs k (entryAt b 0) G h .0)
 
@@ -123,6 +124,18 @@ module _ (rs : List Entry) (order : List ℕ) (few : length rs ≤ 1000) (small 
         rw (count-back, trailer-back)
         (both (eqb (start b n) t) (every n (λ i. ruledAt b (start b i))) (eq-eqb (start b n) t end-back) (every-of n (λ i. ruledAt b (start b i)) ruled-at))
 
+    -- a rendered roll is framed as one
+    pub rendered-framed : framed b ≡ true
+    unfolding framed
+    rendered-framed =
+        both (sized b) (follow b (countOf b) (trailerAt b))
+        (both (leb 8 (length b)) _ (le-leb 8 (length b) (omega (arith, long)))
+        (both (leb (length b) 65536) _ (le-leb (length b) 65536 small)
+        (both (leb (countOf b) 1000) _ (le-leb (countOf b) 1000 (omega (arith, count-back)))
+        (eq-eqb (trailerAt b + 4 * countOf b + 8) (length b) (omega (arith, long, count-back, trailer-back, many))))))
+        follows
+
+  module _ (G : All Good rs) (L : Lists rs order) where
     value-at : (i : ℕ) → i < n → (k : ℕ) × (k < n) × (start b k ≡ listed b i) × (listed b i ≡ getD order i 0)
     value-at i h =
         let (k, l, e) = L .starts i h in
@@ -145,37 +158,37 @@ module _ (rs : List Entry) (order : List ℕ) (few : length rs ≤ 1000) (small 
         (some-of (countOf b) (λ k. eqb (start b k) (listed b i)) k (subst (λ m. k < m) (sym count-back) l) (eq-eqb (start b k) (listed b i) e))
         (ap not (not-before i h))
 
-    -- a rendered roll is a roll
-    pub rendered-is : isRoll b ≡ true
-    unfolding isRoll framed eachOnce
-    rendered-is =
-        both (framed b) (eachOnce b)
-        (both (leb 8 (length b)) _ (le-leb 8 (length b) (omega (arith, long)))
-        (both (leb (length b) 65536) _ (le-leb (length b) 65536 small)
-        (both (leb (countOf b) 1000) _ (le-leb (countOf b) 1000 (omega (arith, count-back)))
-        (both (eqb (trailerAt b + 4 * countOf b + 8) (length b)) _ (eq-eqb (trailerAt b + 4 * countOf b + 8) (length b) (omega (arith, long, count-back, trailer-back, L .many))) follows))))
-        (every-of (countOf b) (λ i. listedOnce b i) (λ i h. once-at i (subst (λ m. i < m) count-back h)))
+    -- by the former rule it is a roll, in whatever order its starts are listed
+    pub rendered-former : isFormerRoll b ≡ true
+    unfolding isFormerRoll eachOnce
+    rendered-former =
+        both (framed b) (eachOnce b) (rendered-framed G (L .many)) (every-of (countOf b) (λ i. listedOnce b i) (λ i h. once-at i (subst (λ m. i < m) count-back h)))
 
--- the appender's order: the starts as they rise
-rising-at : (rs : List Entry) (k : ℕ) → k < length rs → start (joined rs ++ []) k ≡ getD (startsOf rs) k 0
-rising-at rs k h =
-    let b = joined rs ++ [] in
-    sym (getD-tab (length rs) (start b) k 0 h) ∙ ap (λ l. getD l k 0) (sym (tab-starts b (length rs)) ∙ starts-in b rs 0 [] refl .1)
+-- a roll rendered with its starts in rising order is a roll
+module _ (rs : List Entry) (few : length rs ≤ 1000) (small : length (rendered rs (startsOf rs)) ≤ 65536) (G : All Good rs) where
+  abbrev u : List ℕ
+  u = rendered rs (startsOf rs)
 
-pub rising : (rs : List Entry) → Lists rs (startsOf rs)
-rising rs =
-    record {
-      many = length-starts-from 0 rs;
-      starts = λ i h. (i, h, refl);
-      once = λ k i l h e. absurd (omega (arith, start-apart (joined rs ++ []) k i (rising-at rs k (omega arith) ∙ e ∙ sym (rising-at rs i h))));
-    }
+  listed-start : (i : ℕ) → i < length rs → listed u i ≡ start u i
+  listed-start i h =
+      let s = start-back rs (startsOf rs) few small i h in
+      let g : getD (startsOf rs) i 0 < 4294967296 =
+      omega (arith, s, ends-before u i (length rs) h, end-back rs (startsOf rs) few small, length-rendered rs (startsOf rs), small) in
+      listed-back rs (startsOf rs) few small i (subst (λ m. i < m) (sym (length-starts-from 0 rs)) h) g ∙ sym s
+
+  pub rendered-is : isRoll u ≡ true
+  unfolding isRoll
+  rendered-is =
+      both (framed u) (inOrder u) (rendered-framed rs (startsOf rs) few small G (length-starts-from 0 rs))
+      (every-of (countOf u) (λ i. eqb (listed u i) (start u i)) (λ i h.
+      eq-eqb (listed u i) (start u i) (listed-start i (subst (λ m. i < m) (count-back rs (startsOf rs) few small) h))))
 
 -- ---- a roll is rendered from its records
 
-module _ (b : List ℕ) (B : Bytes b) (R : isRoll b ≡ true) where
+module _ (b : List ℕ) (B : Bytes b) (F : framed b ≡ true) where
   rules-at : (k : ℕ) → k < countOf b → ruled (getD b (start b k) 0) (fourAt b (start b k + 1)) (fourAt b (start b k + 5)) ≡ true
   unfolding ruledAt
-  rules-at k l = follow-ruled b (countOf b) (trailerAt b) (is-following b R) k l
+  rules-at k l = follow-ruled b (countOf b) (trailerAt b) (framed-following b F) k l
 
   good-at : (k : ℕ) → k < countOf b → Good (entryAt b (start b k))
   unfolding entryAt
@@ -188,9 +201,9 @@ module _ (b : List ℕ) (B : Bytes b) (R : isRoll b ≡ true) where
       )
 
   -- each record that is read keeps the rules
-  pub good-entries : All Good (entriesOf b)
+  pub good-framed : All Good (entriesOf b)
   unfolding entriesOf
-  good-entries =
+  good-framed =
       of-getD Good (tab (countOf b) (λ i. entryAt b (start b i))) (entryAt b 0)
       (λ k h. let l : k < countOf b = subst (λ m. k < m) (length-tab (countOf b) (λ i. entryAt b (start b i))) h in
       subst Good (sym (getD-tab (countOf b) (λ i. entryAt b (start b i)) k (entryAt b 0) l)) (good-at k l))
@@ -209,11 +222,11 @@ module _ (b : List ℕ) (B : Bytes b) (R : isRoll b ≡ true) where
 
   ends-8 : (n t : ℕ) → length b - 8 ≡ t + 4 * n → inFour (countOf b) ≡ take 4 (drop (t + 4 * n) b)
   unfolding countOf
-  ends-8 n t a = read-back b (length b - 8) B (omega (arith, is-sized b R .whole)) ∙ ap (λ m. take 4 (drop m b)) a
+  ends-8 n t a = read-back b (length b - 8) B (omega (arith, framed-sized b F .whole)) ∙ ap (λ m. take 4 (drop m b)) a
 
   ends-4 : (n t : ℕ) → length b - 4 ≡ t + 4 * n + 4 → inFour (trailerAt b) ≡ take 4 (drop (t + (4 * n + 4)) b)
   unfolding trailerAt
-  ends-4 n t c = read-back b (length b - 4) B (omega (arith, is-sized b R .whole)) ∙ ap (λ m. take 4 (drop m b)) (let z : length b - 4 ≡ t + (4 * n + 4) = omega arith in z)
+  ends-4 n t c = read-back b (length b - 4) B (omega (arith, framed-sized b F .whole)) ∙ ap (λ m. take 4 (drop m b)) (let z : length b - 4 ≡ t + (4 * n + 4) = omega arith in z)
 
   parts : (n : ℕ) (l : List ℕ) → drop (4 * n + 8) l ≡ [] → l ≡ take (4 * n) l ++ (take 4 (drop (4 * n) l) ++ take 4 (drop (4 * n + 4) l))
   parts n l w =
@@ -223,13 +236,13 @@ module _ (b : List ℕ) (B : Bytes b) (R : isRoll b ≡ true) where
       sym (take-append-drop m l)
       ∙ ap (λ z. take m l ++ z) (sym (take-append-drop 4 (drop m l)) ∙ ap (λ z. take 4 (drop m l) ++ z) (drop-drop 4 m l ∙ f))
 
-  -- a roll is its records, rendered with its own list
-  pub roll-is : b ≡ rendered (entriesOf b) (tab (countOf b) (listed b))
+  -- framed bytes are their records, rendered with their own list
+  pub framed-is : b ≡ rendered (entriesOf b) (tab (countOf b) (listed b))
   unfolding rendered entriesOf
-  roll-is =
+  framed-is =
       let n = countOf b in
       let t = trailerAt b in
-      let S = is-sized b R in
+      let S = framed-sized b F in
       let J : joined (tab n (λ i. entryAt b (start b i))) ≡ take t b = records-back b B n (omega (arith, S .ends, S .whole)) ∙ ap (λ m. take m b) (S .ends) in
       let j : length (joined (tab n (λ i. entryAt b (start b i)))) ≡ t = ap length J ∙ length-take-le t b (omega (arith, S .whole)) in
       let a : length b - 8 ≡ t + 4 * n = omega (arith, S .whole) in
@@ -241,3 +254,81 @@ module _ (b : List ℕ) (B : Bytes b) (R : isRoll b ≡ true) where
       ∙ ap₂ _++_ (sym J) (parts n (drop t b) w
       ∙ ap₂ _++_ (sym (list-back n (omega (arith, S .whole)))) (ap₂ _++_ (sym X) (sym Y)))
       ∙ ap₂ (λ x y. joined (tab n (λ i. entryAt b (start b i))) ++ (inFours (tab n (listed b)) ++ (inFour x ++ inFour y))) (sym (length-tab n (λ i. entryAt b (start b i)))) (sym j)
+
+  -- the starts of the records that are read are where those stand
+  starts-are : tab (countOf b) (start b) ≡ startsOf (entriesOf b)
+  unfolding rendered entriesOf
+  starts-are =
+      let rs = tab (countOf b) (λ i. entryAt b (start b i)) in
+      let l : length rs ≡ countOf b = length-tab (countOf b) (λ i. entryAt b (start b i)) in
+      let e = starts-in b rs 0 (inFours (tab (countOf b) (listed b)) ++ (inFour (length rs) ++ inFour (length (joined rs)))) framed-is .1 in
+      sym (tab-starts b (countOf b)) ∙ ap (startList b 0) (sym l) ∙ e
+
+  pub many-entries : length (entriesOf b) ≡ countOf b
+  unfolding entriesOf
+  many-entries = length-tab (countOf b) (λ i. entryAt b (start b i))
+
+-- each record of a roll keeps the rules
+pub good-entries : (b : List ℕ) → Bytes b → isRoll b ≡ true → All Good (entriesOf b)
+good-entries b B R = good-framed b B (is-framed b R)
+
+-- ---- A.13: there is one roll of a list of records
+
+-- a roll is its records, rendered with their starts in rising order
+pub roll-is : (b : List ℕ) → Bytes b → isRoll b ≡ true → b ≡ rendered (entriesOf b) (startsOf (entriesOf b))
+roll-is b B R =
+    let F = is-framed b R in
+    framed-is b B F ∙ ap (rendered (entriesOf b)) (tab-ext 0 (countOf b) (listed b) (start b) (is-listing b R) ∙ starts-are b B F)
+
+-- two rolls have the same records in the same order exactly when they have the same bytes
+pub same-bytes : (a b : List ℕ) → Bytes a → Bytes b → isRoll a ≡ true → isRoll b ≡ true → (entriesOf a ≡ entriesOf b) ↔ (a ≡ b)
+same-bytes a b A B P Q = (λ e. roll-is a A P ∙ ap (λ rs. rendered rs (startsOf rs)) e ∙ sym (roll-is b B Q), ap entriesOf)
+
+-- ---- the two rules beside each other
+
+-- a roll is one by the former rule
+pub is-former : (b : List ℕ) → isRoll b ≡ true → isFormerRoll b ≡ true
+unfolding isFormerRoll eachOnce listedOnce isStart
+is-former b R = both (framed b) (every (countOf b) (listedOnce b)) (is-framed b R) (every-of (countOf b) (listedOnce b) once)
+  where
+    once : (i : ℕ) → i < countOf b → listedOnce b i ≡ true
+    once i h =
+        let e = is-listing b R i h in
+        both (isStart b (listed b i)) (not (some i (λ k. eqb (listed b k) (listed b i))))
+        (some-of (countOf b) (λ k. eqb (start b k) (listed b i)) i h (eq-eqb (start b i) (listed b i) (sym e)))
+        (ap not (refuted (some i (λ k. eqb (listed b k) (listed b i))) (λ q.
+        let (k, l, w) = some-at i (λ k. eqb (listed b k) (listed b i)) q in
+        let s : start b k ≡ start b i = sym (is-listing b R k (omega arith)) ∙ eqb-true (listed b k) (listed b i) w ∙ e in
+        absurd (omega (arith, start-apart b k i s)))))
+
+-- a list rises
+abbrev pub Rises : List ℕ → Type 0
+Rises b = (i : ℕ) → i + 1 < countOf b → listed b i < listed b (i + 1)
+
+-- what A.13 refuses is just the other orders: a roll is a roll by the former rule whose list rises
+pub in-order : (b : List ℕ) → (isRoll b ≡ true) ↔ ((isFormerRoll b ≡ true) × Rises b)
+unfolding isRoll
+in-order b = (λ R. (is-former b R, rises R), λ p. back (p .0) (p .1))
+  where
+    rises : isRoll b ≡ true → Rises b
+    rises R i h = omega (arith, is-listing b R i (omega arith), is-listing b R (i + 1) h, head-before b i (i + 1) (omega arith))
+
+    back : isFormerRoll b ≡ true → Rises b → isRoll b ≡ true
+    back R up =
+        both (framed b) (inOrder b) (former-framed b R)
+        (every-of (countOf b) (λ i. eqb (listed b i) (start b i)) (λ i h. eq-eqb (listed b i) (start b i) (listed-in-order b (former-listing b R) up i h)))
+
+-- an older roll comes over: its records, rendered anew, are a roll of as many bytes that holds the same records
+pub comes-over : (b : List ℕ) → Bytes b → isFormerRoll b ≡ true
+    → let u = rendered (entriesOf b) (startsOf (entriesOf b)) in (isRoll u ≡ true) × (entriesOf u ≡ entriesOf b) × (length u ≡ length b)
+comes-over b B R =
+    let F = former-framed b R in
+    let rs = entriesOf b in
+    let S = framed-sized b F in
+    let G = good-framed b B F in
+    let n = many-entries b B F in
+    let long : length (rendered rs (startsOf rs)) ≡ length b =
+    length-rendered rs (startsOf rs) ∙ omega (arith, length-starts-from 0 rs, n, length-tab (countOf b) (listed b), length-rendered rs (tab (countOf b) (listed b)), ap length (framed-is b B F)) in
+    let few : length rs ≤ 1000 = omega (arith, n, S .few) in
+    let small : length (rendered rs (startsOf rs)) ≤ 65536 = omega (arith, long, S .small) in
+    (rendered-is rs few small G, entries-back rs (startsOf rs) few small (fits rs (startsOf rs) few small G (length-starts-from 0 rs)), long)

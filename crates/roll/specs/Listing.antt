@@ -12,7 +12,7 @@ use borrow.Author.Tests.{lt-ltb, le-ltb, eqb-true, eqb-false, eq-eqb, not-true}
 use Rattle.lists.specs.Tests.{some, some-at, some-of, split, not-both, and-fst, and-snd}
 use Rattle.lists.specs.Cases.{lt-or-le}
 use Rattle.roll.specs.Reading.{start, listed, listedOnce, isStart, countOf}
-use Rattle.roll.specs.Starts.{start-apart}
+use Rattle.roll.specs.Starts.{start-apart, head-before}
 
 -- the first n values differ
 abbrev pub Differ : ℕ → (ℕ → ℕ) → Type 0
@@ -131,3 +131,33 @@ module _ (b : List ℕ) (once : (i : ℕ) → i < countOf b → listedOnce b i �
       (all-met n which (λ i g. which-is i g .0)
       (λ a i l g e. listed-differ a i l g (sym (which-is a (omega arith) .1) ∙ ap (start b) e ∙ which-is i g .1)) k h) in
       (i, l, sym (which-is i l .1) ∙ ap (start b) (eqb-true (which i) k e))
+
+  -- a list that rises has the starts in the order of the records: n numbers below n that rise are 0, 1, ..
+  module _ (up : (i : ℕ) → i + 1 < n → listed b i < listed b (i + 1)) where
+    which-up : (i : ℕ) → i + 1 < n → which i < which (i + 1)
+    which-up i h = go (lt-or-le (which i) (which (i + 1))) (lt-or-le (which (i + 1)) (which i))
+      where
+        s : start b (which i) < start b (which (i + 1))
+        s = omega (arith, which-is i (omega arith) .1, which-is (i + 1) h .1, up i h)
+
+        go : (which i < which (i + 1)) ⊎ (which (i + 1) ≤ which i) → (which (i + 1) < which i) ⊎ (which i ≤ which (i + 1)) → which i < which (i + 1)
+        go (inl l) q = l
+        go (inr l) (inl q) = absurd (omega (arith, s, head-before b (which (i + 1)) (which i) q))
+        go (inr l) (inr q) = let e : which i ≡ which (i + 1) = omega arith in absurd (omega (arith, s, ap (start b) e))
+
+    further : (i k : ℕ) → i + k < n → which i + k ≤ which (i + k)
+    further i zero h = let e : i + 0 ≡ i = omega arith in rw e (omega arith)
+    further i (suc k) h =
+        let e : i + suc k ≡ i + k + 1 = omega arith in
+        let r = further i k (omega arith) in
+        let w = which-up (i + k) (omega arith) in
+        rw e (omega arith)
+
+    pub listed-in-order : (i : ℕ) → i < n → listed b i ≡ start b i
+    listed-in-order i h =
+        let z : 0 + i ≡ i = omega arith in
+        let last : i + (n - 1 - i) ≡ n - 1 = omega arith in
+        let low : i ≤ which i = omega (arith, further 0 i (omega arith), ap which z) in
+        let high : which i ≤ i = omega (arith, further i (n - 1 - i) (omega arith), ap which last, which-is (n - 1) (omega arith) .0) in
+        let same : which i ≡ i = omega arith in
+        sym (which-is i h .1) ∙ ap (start b) same

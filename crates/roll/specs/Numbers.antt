@@ -16,6 +16,36 @@ use Rattle.roll.specs.Reading.{fourAt}
 abbrev pub Bytes : List ℕ → Type 0
 Bytes b = (k : ℕ) → getD b k 0 < 256
 
+pub bytes-none : Bytes []
+bytes-none k = omega arith
+
+pub bytes-cons : (x : ℕ) (xs : List ℕ) → x < 256 → Bytes xs → Bytes (x ∷ xs)
+bytes-cons x xs h p zero = h
+bytes-cons x xs h p (suc k) = p k
+
+pub bytes-append : (a b : List ℕ) → Bytes a → Bytes b → Bytes (a ++ b)
+bytes-append [] b p q k = q k
+bytes-append (x ∷ xs) b p q zero = p 0
+bytes-append (x ∷ xs) b p q (suc k) = bytes-append xs b (λ j. p (suc j)) q k
+
+pub bytes-drop : (n : ℕ) (l : List ℕ) → Bytes l → Bytes (drop n l)
+bytes-drop zero l B = B
+bytes-drop (suc n) [] B = bytes-none
+bytes-drop (suc n) (x ∷ xs) B = bytes-drop n xs (λ k. B (suc k))
+
+pub bytes-four : (n : ℕ) → Bytes (inFour n)
+bytes-four n =
+    let a = n % 256 in
+    let b = n / 256 % 256 in
+    let c = n / 65536 % 256 in
+    let d = n / 16777216 % 256 in
+    bytes-cons a (b ∷ c ∷ d ∷ []) (omega arith) (bytes-cons b (c ∷ d ∷ []) (omega arith) (bytes-cons c (d ∷ []) (omega arith) (bytes-cons d [] (omega arith) bytes-none)))
+
+pub bytes-fours : (ns : List ℕ) → Bytes (inFours ns)
+unfolding inFours
+bytes-fours [] = bytes-none
+bytes-fours (n ∷ ns) = bytes-append (inFour n) (inFours ns) (bytes-four n) (bytes-fours ns)
+
 -- a number of at most 4 bytes is the sum of its bytes
 sum-of : (n : ℕ) → n < 4294967296 → n % 256 + 256 * (n / 256 % 256) + 65536 * (n / 65536 % 256) + 16777216 * (n / 16777216 % 256) ≡ n
 sum-of n h =

@@ -1,4 +1,4 @@
--- What it means that bytes are a roll (document 02, A.7), and which records they hold. Assumes nothing.
+-- What it means that bytes are a roll (document 02, A.7 and A.13), and which records they hold. Assumes nothing.
 use mathlib.Core.Bool.{Bool, not, _&&_, cond}
 use mathlib.Core.List.{List, []}
 use Prim.Native.Nat.{ℕ, zero, suc, _+_, _*_, _-_}
@@ -51,25 +51,29 @@ listedOnce b i = isStart b (listed b i) && not (some i (λ k. eqb (listed b k) (
 unfoldable pub follow : List ℕ → ℕ → ℕ → Bool
 follow b n t = eqb (start b n) t && every n (λ i. ruledAt b (start b i))
 
--- all but the trailer's list: at most 1,000 records and 65,536 bytes; records that keep the rules follow each other from byte 0 up to the
--- trailer; it has one number for each record, and the two last numbers
-unfoldable pub framed : List ℕ → Bool
-framed b =
-    let n = countOf b in
-    let t = trailerAt b in
-    leb 8 (length b)
-    && (leb (length b) 65536
-    && (leb n 1000
-    && (eqb (t + 4 * n + 8) (length b)
-    && follow b n t)))
+-- at most 1,000 records and 65,536 bytes; the trailer has one number for each record, and the two last numbers
+abbrev pub sized : List ℕ → Bool
+sized b = leb 8 (length b) && (leb (length b) 65536 && (leb (countOf b) 1000 && eqb (trailerAt b + 4 * countOf b + 8) (length b)))
 
--- the rule for the list: each number is the start of a record, none stands there twice; their order is free
-unfoldable pub eachOnce : List ℕ → Bool
-eachOnce b = every (countOf b) (λ i. listedOnce b i)
+-- all but the trailer's list: records that keep the rules follow each other from byte 0 up to the trailer
+unfoldable pub framed : List ℕ → Bool
+framed b = sized b && follow b (countOf b) (trailerAt b)
+
+-- the rule for the list: number i is where record i starts, so the starts stand in rising order
+abbrev pub inOrder : List ℕ → Bool
+inOrder b = every (countOf b) (λ i. eqb (listed b i) (start b i))
 
 -- the bytes are a roll
 unfoldable pub isRoll : List ℕ → Bool
-isRoll b = framed b && eachOnce b
+isRoll b = framed b && inOrder b
+
+-- the former rule for the list (A.7): each number is the start of a record, none stands there twice; their order is free
+unfoldable pub eachOnce : List ℕ → Bool
+eachOnce b = every (countOf b) (λ i. listedOnce b i)
+
+-- the bytes are a roll by the former rule
+unfoldable pub isFormerRoll : List ℕ → Bool
+isFormerRoll b = framed b && eachOnce b
 
 -- the records of a roll, in the order in which they stand
 unfoldable pub entriesOf : List ℕ → List Entry
@@ -82,3 +86,7 @@ rollBytes s count = cond (leb count (length s)) (take count s) []
 -- the first count bytes of s are there, and are a roll
 unfoldable pub holdsRoll : List ℕ → ℕ → Bool
 holdsRoll s count = leb count (length s) && isRoll (take count s)
+
+-- the same by the former rule
+unfoldable pub holdsFormerRoll : List ℕ → ℕ → Bool
+holdsFormerRoll s count = leb count (length s) && isFormerRoll (take count s)

@@ -2,11 +2,11 @@
 ghost use mathlib.Core.Path.{_≡_};
 ghost use mathlib.Core.Bool.{true, _&&_};
 ghost use Prim.Native.Nat.{_+_, _*_, _≤_};
-ghost use lib.Dec.{leb};
+ghost use lib.Dec.{eqb, leb};
 ghost use lib.ListN.{length, replicate};
 ghost use Rattle.lists.specs.Tests.{every};
 ghost use Rattle.roll.specs.Format.{ruled};
-ghost use Rattle.roll.specs.Reading.{sizeAt, ruledAt, follow, listedOnce, countOf, trailerAt, isRoll, holdsRoll};
+ghost use Rattle.roll.specs.Reading.{sizeAt, start, ruledAt, follow, listed, listedOnce, countOf, trailerAt, sized, isRoll, isFormerRoll, holdsRoll, holdsFormerRoll};
 ghost use Rattle.roll.specs.Roll.{Sized, Marked};
 use super::numbers::four;
 use super::numbers::wide;
@@ -69,7 +69,8 @@ fn lists_once(b: &[u8], n: usize, t: usize, marks: &mut [u8; 65536]) -> bool
 {
     let mut i = 0;
     while i < n {
-        let x = four(b, t + 4 * i);
+        let from = t + 4 * i;
+        let x = four(b, from);
         if t <= x {
             return false;
         }
@@ -94,9 +95,30 @@ fn has_records(b: &[u8], n: usize, t: usize) -> bool
     lists_once(b, n, t, &mut marks)
 }
 
-// Whether all the bytes are a roll.
-pub fn is_whole_roll(b: &[u8]) -> bool
-    ensures { λ r. ⌜ r ≡ isRoll (now (b .entry)) ⌝ }
+// Whether n records follow each other from byte 0 up to t, and number i of the trailer's list is where record i starts.
+fn lists_in_order(b: &[u8], n: usize, t: usize) -> bool
+    requires { ⌜ (n ≡ countOf (now b)) × (t ≡ trailerAt (now b)) × (n ≤ 1000) × (length (now b) ≤ 65536) × (t + 4 * n + 8 ≡ length (now b)) ⌝ }
+    ensures { λ r. ⌜ r ≡ (follow (now (b .entry)) n t && every n (λ i. eqb (listed (now (b .entry)) i) (start (now (b .entry)) i))) ⌝ }
+{
+    let mut p = 0;
+    let mut i = 0;
+    while i < n {
+        if !fits(b, p, t) {
+            return false;
+        }
+        let place = t + 4 * i;
+        if four(b, place) != p {
+            return false;
+        }
+        p += 10 + wide(b[p + 9]);
+        i += 1;
+    }
+    p == t
+}
+
+// Whether the number of bytes and the two last numbers of the trailer agree with each other and keep the limits.
+fn is_sized(b: &[u8]) -> bool
+    ensures { λ r. ⌜ r ≡ sized (now (b .entry)) ⌝ }
 {
     let len = b.len();
     if len < 8 {
@@ -110,10 +132,29 @@ pub fn is_whole_roll(b: &[u8]) -> bool
     if 1000 < n {
         return false;
     }
-    if t + 4 * n + 8 != len {
+    t + 4 * n + 8 == len
+}
+
+// Whether all the bytes are a roll.
+pub fn is_whole_roll(b: &[u8]) -> bool
+    ensures { λ r. ⌜ r ≡ isRoll (now (b .entry)) ⌝ }
+{
+    if !is_sized(b) {
         return false;
     }
-    has_records(b, n, t)
+    let len = b.len();
+    lists_in_order(b, four(b, len - 8), four(b, len - 4))
+}
+
+// Whether all the bytes are a roll by the former rule, which leaves the order of the starts free.
+pub fn is_whole_roll_former(b: &[u8]) -> bool
+    ensures { λ r. ⌜ r ≡ isFormerRoll (now (b .entry)) ⌝ }
+{
+    if !is_sized(b) {
+        return false;
+    }
+    let len = b.len();
+    has_records(b, four(b, len - 8), four(b, len - 4))
 }
 
 // Whether the first count bytes of the lent slice are there and are a roll.
@@ -124,4 +165,14 @@ pub fn is_roll(lent: &[u8], count: usize) -> bool
         return false;
     }
     is_whole_roll(&lent[..count])
+}
+
+// The same by the former rule.
+pub fn is_roll_former(lent: &[u8], count: usize) -> bool
+    ensures { λ r. ⌜ r ≡ holdsFormerRoll (now (lent .entry)) count ⌝ }
+{
+    if count > lent.len() {
+        return false;
+    }
+    is_whole_roll_former(&lent[..count])
 }

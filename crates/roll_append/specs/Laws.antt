@@ -23,7 +23,7 @@ use Rattle.roll.specs.Numbers.{Bytes, four-written, four-small, read-back, leng
 use Rattle.roll.specs.Rendering.{Fits, startAt, startList, start-at, tab-starts, tab-entries, starts-in, entries-in, records-back}
 use Rattle.roll.specs.Listing.{Differ}
 use Rattle.roll.specs.Holding.{is-roll, bytes-take}
-use Rattle.roll.specs.Laws.{Good, good-entries, rendered-is, entries-back, rising}
+use Rattle.roll.specs.Laws.{Good, good-entries, rendered-is, entries-back}
 use Rattle.roll_append.specs.Appending.{new-length}
 use Rattle.tables.specs.declared.Refusal.{Refusal}
 use Rattle.tables.specs.declared.Refusal.the-variants.{NotARoll, NoRoom}
@@ -134,7 +134,7 @@ module _ (s : List ℕ) (count : ℕ) (e : Entry) (B : Bytes s) (F : Fits e) (m 
       let t : take m (new ++ drop m s) ≡ new = take-at new (drop m s) m long-new in
       let l : m ≤ length (new ++ drop m s) = omega (arith, length-append new (drop m s), long-new) in
       record {
-        holds = rw left-new (both (leb m (length (new ++ drop m s))) _ (le-leb m (length (new ++ drop m s)) l) (rw t (rendered-is all (startsOf all) (limits .0) (limits .1) good-all (rising all))));
+        holds = rw left-new (both (leb m (length (new ++ drop m s))) _ (le-leb m (length (new ++ drop m s)) l) (rw t (rendered-is all (limits .0) (limits .1) good-all)));
         reads = ap (λ x. entriesOf (take m x)) left-new ∙ ap entriesOf t ∙ entries-back all (startsOf all) (limits .0) (limits .1) (fits-all all good-all);
         rest = ap (drop m) left-new ∙ drop-at new (drop m s) m long-new;
       }

@@ -3,4 +3,5 @@ pub mod Laid
 pub mod Storing
 pub mod Appending
 pub mod Laws
+pub mod Desks
 pub mod Samples

@@ -68,7 +68,8 @@ fn lay_starts(s: &mut [u8], n: usize, t: usize)
     let mut at = 0;
     let mut i = 0;
     while i < n {
-        lay_four(s, t + 4 * i, at);
+        let place = t + 4 * i;
+        lay_four(s, place, at);
         at += 10 + wide(s[at + 9]);
         i += 1;
     }
@@ -80,8 +81,9 @@ fn lay_trailer(s: &mut [u8], n: usize, t: usize)
     ensures { λ _. ⌜ now (s .exit) ≡ laid (now (s .entry)) t (inFours (tab n (start (now (s .entry)))) ++ (inFour n ++ inFour t)) ⌝ }
 {
     lay_starts(s, n, t);
-    lay_four(s, t + 4 * n, n);
-    lay_four(s, t + 4 * n + 4, t);
+    let place = t + 4 * n;
+    lay_four(s, place, n);
+    lay_four(s, place + 4, t);
 }
 
 // The appender's answer alone, with nothing written: 7 first of all, 8 last.

@@ -1,4 +1,5 @@
--- What the reader says of the roll b at a position (document 02, A.7), on every input. Assumes nothing.
+-- What the reader says of the roll b at a position (document 02, A.7), on every input, by the rule of A.13 and by the former one of A.7.
+-- Assumes nothing.
 use mathlib.Core.Bool.{Bool, not, _&&_, cond}
 use mathlib.Core.List.{List, []}
 use Prim.Native.Nat.{ℕ, _+_}
@@ -6,7 +7,7 @@ use lib.Dec.{eqb}
 use Rattle.tables.specs.declared.Refusal.the-variants.{NotARoll}
 use Rattle.tables.specs.Answers.{refusalNumber}
 use Rattle.roll.specs.Format.{Entry}
-use Rattle.roll.specs.Reading.{isRoll, isStart, trailerAt, entryAt, sizeAt}
+use Rattle.roll.specs.Reading.{isRoll, isFormerRoll, isStart, trailerAt, entryAt, sizeAt}
 use Rattle.roll_read.specs.declared.Item.{Item}
 use Rattle.roll_read.specs.declared.Item.the-variants.{Record, End, Refused}
 
@@ -20,20 +21,42 @@ itemNumber (Refused r) = refusalNumber r
 abbrev pub readEntry : Entry → Item
 readEntry r = Record (r .kind) (r .number) (r .earlier)
 
+-- ---- whichever rule says whether the bytes are a roll: ok is its answer
+
 -- a record of the roll starts at the position
-unfoldable pub holdsRecord : List ℕ → ℕ → Bool
-holdsRecord b at = isRoll b && isStart b at
+unfoldable pub holdsRecord : Bool → List ℕ → ℕ → Bool
+holdsRecord ok b at = ok && isStart b at
 
 -- the record that starts there, the end at the trailer, 7 otherwise
-unfoldable pub readAt : List ℕ → ℕ → Item
-readAt b at =
-    cond (holdsRecord b at) (readEntry (entryAt b at))
-    (cond (isRoll b && eqb at (trailerAt b)) End (Refused NotARoll))
+unfoldable pub readBy : Bool → List ℕ → ℕ → Item
+readBy ok b at =
+    cond (holdsRecord ok b at) (readEntry (entryAt b at))
+    (cond (ok && eqb at (trailerAt b)) End (Refused NotARoll))
 
 -- the label of the record that starts there; none where no record does
-unfoldable pub labelAt : List ℕ → ℕ → List ℕ
-labelAt b at = cond (holdsRecord b at) (entryAt b at .label) []
+unfoldable pub labelBy : Bool → List ℕ → ℕ → List ℕ
+labelBy ok b at = cond (holdsRecord ok b at) (entryAt b at .label) []
 
 -- where that record ends; the position itself where no record starts
-unfoldable pub pastAt : List ℕ → ℕ → ℕ
-pastAt b at = cond (holdsRecord b at) (at + sizeAt b at) at
+unfoldable pub pastBy : Bool → List ℕ → ℕ → ℕ
+pastBy ok b at = cond (holdsRecord ok b at) (at + sizeAt b at) at
+
+-- ---- the two rules
+
+abbrev pub readAt : List ℕ → ℕ → Item
+readAt b at = readBy (isRoll b) b at
+
+abbrev pub labelAt : List ℕ → ℕ → List ℕ
+labelAt b at = labelBy (isRoll b) b at
+
+abbrev pub pastAt : List ℕ → ℕ → ℕ
+pastAt b at = pastBy (isRoll b) b at
+
+abbrev pub readAtFormer : List ℕ → ℕ → Item
+readAtFormer b at = readBy (isFormerRoll b) b at
+
+abbrev pub labelAtFormer : List ℕ → ℕ → List ℕ
+labelAtFormer b at = labelBy (isFormerRoll b) b at
+
+abbrev pub pastAtFormer : List ℕ → ℕ → ℕ
+pastAtFormer b at = pastBy (isFormerRoll b) b at

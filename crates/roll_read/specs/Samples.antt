@@ -1,4 +1,4 @@
--- A small roll read (document 02, A.7). Assumes nothing.
+-- A small roll read (document 02, A.7 and A.13). Assumes nothing.
 use mathlib.Core.Path.{_≡_, refl}
 use mathlib.Core.Bool.{true, false, _&&_}
 use mathlib.Core.List.{List, [], _∷_, _++_}
@@ -7,15 +7,22 @@ use lib.ListN.{length, set, take, replicate}
 use Rattle.lists.specs.Tests.{every, some}
 use Rattle.lists.specs.Tab.{tab, tabFrom}
 use Rattle.roll.specs.Format.{Entry, ruled, joined, startsFrom, inFours, rendered}
-use Rattle.roll.specs.Reading.{fourAt, trailerAt, countOf, listed, entryAt, sizeAt, start, isStart, ruledAt, listedOnce, follow, framed, eachOnce, isRoll, entriesOf}
+use Rattle.roll.specs.Reading.{fourAt, trailerAt, countOf, listed, entryAt, sizeAt, start, isStart, ruledAt, listedOnce, follow, framed, isRoll, eachOnce, isFormerRoll, entriesOf}
 use Rattle.tables.specs.declared.Refusal.the-variants.{NotARoll}
-use Rattle.roll.specs.Samples.{first, second, empty, one, two}
-use Rattle.roll_read.specs.Calls.{holdsRecord, readAt, labelAt, pastAt}
+use Rattle.roll.specs.Samples.{first, second, two, older}
+use Rattle.roll_read.specs.Calls.{holdsRecord, readBy, labelBy, pastBy, readAt, labelAt, pastAt, readAtFormer, labelAtFormer, pastAtFormer}
 use Rattle.roll_read.specs.declared.Item.the-variants.{Record, End, Refused}
 
--- the records of the second roll, its end, and a position inside a record
+-- the records of a roll of two, its end, and a position inside a record
 pub reads :
     (readAt two 0 ≡ Record 1 7 0) × (readAt two 12 ≡ Record 2 300 7) × (readAt two 22 ≡ End) × (readAt two 1 ≡ Refused NotARoll)
     × (pastAt two 0 ≡ 12) × (pastAt two 12 ≡ 22) × (pastAt two 22 ≡ 22) × (labelAt two 0 ≡ 65 ∷ 66 ∷ []) × (labelAt two 22 ≡ [])
-unfolding empty one two first second rendered joined inFours isRoll framed eachOnce follow countOf trailerAt fourAt start sizeAt every some listedOnce isStart listed ruledAt ruled entryAt holdsRecord readAt labelAt pastAt
+unfolding two first second rendered joined inFours isRoll framed follow countOf trailerAt fourAt start sizeAt every some isStart listed ruledAt ruled entryAt holdsRecord readBy labelBy pastBy
 reads = (refl, refl, refl, refl, refl, refl, refl, refl, refl)
+
+-- the older roll of the same records: 7 at every position, and read by the former rule
+pub reads-older :
+    (readAt older 0 ≡ Refused NotARoll) × (readAt older 22 ≡ Refused NotARoll) × (readAtFormer older 12 ≡ Record 2 300 7) × (readAtFormer older 22 ≡ End)
+    × (pastAtFormer older 0 ≡ 12) × (labelAtFormer older 0 ≡ 65 ∷ 66 ∷ []) × (readAtFormer two 12 ≡ Record 2 300 7)
+unfolding two older first second rendered joined inFours isRoll isFormerRoll framed eachOnce listedOnce follow countOf trailerAt fourAt start sizeAt every some isStart listed ruledAt ruled entryAt holdsRecord readBy labelBy pastBy
+reads-older = (refl, refl, refl, refl, refl, refl, refl)

@@ -9,11 +9,11 @@ use lib.ListN.{length, getD, take, drop}
 use borrow.Author.Tests.{eq-eqb, ne-eqb, eqb-true}
 use Rattle.lists.specs.Tests.{some-at, and-fst, and-snd}
 use Rattle.tables.specs.declared.Refusal.the-variants.{NotARoll}
-use Rattle.roll.specs.Reading.{fourAt, trailerAt, countOf, entryAt, sizeAt, start, isStart, isRoll}
+use Rattle.roll.specs.Reading.{fourAt, trailerAt, countOf, entryAt, sizeAt, start, isStart, framed}
 use Rattle.roll.specs.Roll.{Sized}
 use Rattle.roll.specs.Starts.{ends-before, head-before}
-use Rattle.roll.specs.Holding.{is-sized}
-use Rattle.roll_read.specs.Calls.{readEntry, holdsRecord, readAt, labelAt, pastAt}
+use Rattle.roll.specs.Holding.{framed-sized}
+use Rattle.roll_read.specs.Calls.{readEntry, holdsRecord, readBy, labelBy, pastBy}
 use Rattle.roll_read.specs.declared.Item.{Item}
 use Rattle.roll_read.specs.declared.Item.the-variants.{Record, End, Refused}
 
@@ -26,10 +26,10 @@ unfolding trailerAt
 its-trailer b e = e
 
 -- a record that starts in a roll ends in it
-pub ends-in : (b : List ℕ) (at : ℕ) → isRoll b ≡ true → isStart b at ≡ true → at + (10 + getD b (at + 9) 0) ≤ length b
+pub ends-in : (b : List ℕ) (at : ℕ) → framed b ≡ true → isStart b at ≡ true → at + (10 + getD b (at + 9) 0) ≤ length b
 unfolding isStart sizeAt
-ends-in b at R e =
-    let S = is-sized b R in
+ends-in b at F e =
+    let S = framed-sized b F in
     let (k, l, q) = some-at (countOf b) (λ i. eqb (start b i) at) e in
     let s : start b k ≡ at = eqb-true (start b k) at q in
     let h : at + (10 + getD b (at + 9) 0) ≤ start b (countOf b) = subst-end b k at (countOf b) s (ends-before b k (countOf b) l) in
@@ -38,63 +38,64 @@ ends-in b at R e =
     subst-end : (b : List ℕ) (k at n : ℕ) → start b k ≡ at → start b k + (10 + getD b (start b k + 9) 0) ≤ start b n → at + (10 + getD b (at + 9) 0) ≤ start b n
     subst-end b k at n s h = rw s at h
 
-module _ (b : List ℕ) (at : ℕ) where
-  pub not-held : isRoll b ≡ false → false ≡ holdsRecord b at
+-- the head of record i is inside the roll
+pub inside : (b : List ℕ) → framed b ≡ true → (i p : ℕ) → i < countOf b → p ≡ start b i → (p + 10 ≤ 65536) × (p + 10 ≤ length b)
+inside b F i p h e =
+    let S = framed-sized b F in
+    (omega (arith, head-before b i (countOf b) h, S .ends, S .whole, S .small), omega (arith, head-before b i (countOf b) h, S .ends, S .whole))
+
+-- ok is the answer of either rule
+module _ (ok : Bool) (b : List ℕ) (at : ℕ) where
+  pub not-held : ok ≡ false → false ≡ holdsRecord ok b at
   unfolding holdsRecord
   not-held e = rw e refl
 
-  pub held-by : {r : Bool} → isRoll b ≡ true → r ≡ isStart b at → r ≡ holdsRecord b at
+  pub held-by : {r : Bool} → ok ≡ true → r ≡ isStart b at → r ≡ holdsRecord ok b at
   unfolding holdsRecord
   held-by e h = rw e h
 
-  pub read-not : isRoll b ≡ false → Refused NotARoll ≡ readAt b at
-  unfolding readAt holdsRecord
+  pub read-not : ok ≡ false → Refused NotARoll ≡ readBy ok b at
+  unfolding readBy holdsRecord
   read-not e = rw e refl
 
-  module _ (R : isRoll b ≡ true) where
-    pub read-record : {r : Item} → isStart b at ≡ true → r ≡ readEntry (entryAt b at) → r ≡ readAt b at
-    unfolding readAt holdsRecord
+  module _ (R : ok ≡ true) where
+    pub read-record : {r : Item} → isStart b at ≡ true → r ≡ readEntry (entryAt b at) → r ≡ readBy ok b at
+    unfolding readBy holdsRecord
     read-record e h = rw (R, e) h
 
-    pub read-end : isStart b at ≡ false → at ≡ trailerAt b → End ≡ readAt b at
-    unfolding readAt holdsRecord
+    pub read-end : isStart b at ≡ false → at ≡ trailerAt b → End ≡ readBy ok b at
+    unfolding readBy holdsRecord
     read-end e h = rw (R, e, eq-eqb at (trailerAt b) h) refl
 
-    pub read-none : isStart b at ≡ false → (at ≡ trailerAt b → ⊥) → Refused NotARoll ≡ readAt b at
-    unfolding readAt holdsRecord
+    pub read-none : isStart b at ≡ false → (at ≡ trailerAt b → ⊥) → Refused NotARoll ≡ readBy ok b at
+    unfolding readBy holdsRecord
     read-none e h = rw (R, e, ne-eqb at (trailerAt b) h) refl
 
-  pub no-label : holdsRecord b at ≡ false → [] ≡ labelAt b at
-  unfolding labelAt
+  pub no-label : holdsRecord ok b at ≡ false → [] ≡ labelBy ok b at
+  unfolding labelBy
   no-label e = rw e refl
 
-  pub stays : holdsRecord b at ≡ false → at ≡ pastAt b at
-  unfolding pastAt
+  pub stays : holdsRecord ok b at ≡ false → at ≡ pastBy ok b at
+  unfolding pastBy
   stays e = rw e refl
 
-  module _ (H : holdsRecord b at ≡ true) where
-    is-roll : isRoll b ≡ true
-    unfolding holdsRecord
-    is-roll = and-fst (isRoll b) (isStart b at) H
-
+  module _ (H : holdsRecord ok b at ≡ true) where
     is-start : isStart b at ≡ true
     unfolding holdsRecord
-    is-start = and-snd (isRoll b) (isStart b at) H
+    is-start = and-snd ok (isStart b at) H
 
-    pub record-label : take (getD b (at + 9) 0) (drop (at + 10) b) ≡ labelAt b at
-    unfolding labelAt entryAt
+    is-roll : ok ≡ true
+    unfolding holdsRecord
+    is-roll = and-fst ok (isStart b at) H
+
+    pub record-label : take (getD b (at + 9) 0) (drop (at + 10) b) ≡ labelBy ok b at
+    unfolding labelBy entryAt
     record-label = rw H refl
 
-    pub goes-on : (w : ℕ) → w ≡ getD b (at + 9) 0 → at + (10 + w) ≡ pastAt b at
-    unfolding pastAt sizeAt
+    pub goes-on : (w : ℕ) → w ≡ getD b (at + 9) 0 → at + (10 + w) ≡ pastBy ok b at
+    unfolding pastBy sizeAt
     goes-on w e = rw (H, e) refl
 
     -- the record is inside the roll
-    pub record-room : (at + (10 + getD b (at + 9) 0) ≤ length b) × (length b ≤ 65536)
-    record-room = (ends-in b at is-roll is-start, is-sized b is-roll .small)
-
--- the head of record i is inside the roll
-pub inside : (b : List ℕ) → isRoll b ≡ true → (i p : ℕ) → i < countOf b → p ≡ start b i → (p + 10 ≤ 65536) × (p + 10 ≤ length b)
-inside b R i p h e =
-    let S = is-sized b R in
-    (omega (arith, head-before b i (countOf b) h, S .ends, S .whole, S .small), omega (arith, head-before b i (countOf b) h, S .ends, S .whole))
+    pub record-room : (ok ≡ true → framed b ≡ true) → (at + (10 + getD b (at + 9) 0) ≤ length b) × (length b ≤ 65536)
+    record-room F = (ends-in b at (F is-roll) is-start, framed-sized b (F is-roll) .small)

@@ -1,6 +1,7 @@
-// The reader of a delivery roll (document 02, A.7): it walks a roll held with its position, record by record.
+// The reader of a delivery roll (document 02, A.7): it walks a roll held with its position, record by record. Older rolls, whose trailer
+// lists the starts in another order, are read by the calls that end in `_former` (A.13).
 ghost use mathlib.Core.Path.{_≡_};
-ghost use Rattle.roll_read.specs.Calls.{itemNumber, readAt, labelAt, pastAt};
+ghost use Rattle.roll_read.specs.Calls.{itemNumber, readAt, labelAt, pastAt, readAtFormer, labelAtFormer, pastAtFormer};
 use tables::Refusal;
 
 pub mod reading;
@@ -64,5 +65,29 @@ pub fn next<'a>(r: Roll<'a>) -> Roll<'a>
     Roll {
         bytes: r.bytes,
         at: reading::past_at(r.bytes, r.at),
+    }
+}
+
+// What stands at the position of an older roll, by the former rule.
+pub fn read_former<'a>(r: Roll<'a>) -> Item
+    ensures { λ e. ⌜ e ≡ readAtFormer (now (r .entry .bytes)) (r .entry .at) ⌝ }
+{
+    reading::read_at_former(r.bytes, r.at)
+}
+
+// The label of the record there, as part of the older roll.
+pub fn label_former<'a>(r: Roll<'a>) -> &'a [u8]
+    ensures { λ l. ⌜ now l ≡ labelAtFormer (now (r .entry .bytes)) (r .entry .at) ⌝ }
+{
+    reading::label_at_former(r.bytes, r.at)
+}
+
+// The older roll held past that record; where no record starts, at the same position.
+pub fn next_former<'a>(r: Roll<'a>) -> Roll<'a>
+    ensures { λ q. ⌜ (q .bytes ≡ r .entry .bytes) × (q .at ≡ pastAtFormer (now (r .entry .bytes)) (r .entry .at)) ⌝ }
+{
+    Roll {
+        bytes: r.bytes,
+        at: reading::past_at_former(r.bytes, r.at),
     }
 }

@@ -1,19 +1,20 @@
-// The reader's work, on a plain slice and a position.
+// The reader's work, on a plain slice and a position, by either rule for the trailer's list.
 ghost use mathlib.Core.Path.{_≡_};
 ghost use mathlib.Core.Bool.{true, _&&_};
 ghost use Prim.Native.Nat.{_+_, _≤_, _<_};
 ghost use lib.ListN.{length};
-ghost use Rattle.roll.specs.Reading.{isRoll, isStart, entryAt, fourAt};
-ghost use Rattle.roll_read.specs.Calls.{holdsRecord, readEntry, readAt, labelAt, pastAt};
+ghost use Rattle.roll.specs.Reading.{framed, isStart, entryAt, fourAt};
+ghost use Rattle.roll_read.specs.Calls.{holdsRecord, readEntry, readBy, labelBy, pastBy, readAt, labelAt, pastAt, readAtFormer, labelAtFormer, pastAtFormer};
 use super::Item;
 use roll::judge::is_whole_roll;
+use roll::judge::is_whole_roll_former;
 use roll::numbers::four;
 use roll::numbers::wide;
 use tables::Refusal;
 
 // Whether a record of the roll b starts at `at`.
 fn starts_at(b: &[u8], at: usize) -> bool
-    requires { ⌜ isRoll (now b) ≡ true ⌝ }
+    requires { ⌜ framed (now b) ≡ true ⌝ }
     ensures { λ r. ⌜ r ≡ isStart (now (b .entry)) at ⌝ }
 {
     let n = four(b, b.len() - 8);
@@ -29,11 +30,12 @@ fn starts_at(b: &[u8], at: usize) -> bool
     false
 }
 
-// Whether the bytes are a roll and a record of it starts at `at`.
-fn holds_record(b: &[u8], at: usize) -> bool
-    ensures { λ r. ⌜ r ≡ holdsRecord (now (b .entry)) at ⌝ }
+// Whether the bytes are a roll, which ok says, and a record of it starts at `at`.
+fn holds_record(ok: bool, b: &[u8], at: usize) -> bool
+    requires { ⌜ (ok ≡ true → framed (now b) ≡ true) ⌝ }
+    ensures { λ r. ⌜ r ≡ holdsRecord ok (now (b .entry)) at ⌝ }
 {
-    if !is_whole_roll(b) {
+    if !ok {
         return false;
     }
     starts_at(b, at)
@@ -60,10 +62,11 @@ fn record_at(b: &[u8], at: usize) -> Item
 }
 
 // What stands at a position of the bytes: a record of the roll, its end, or 7.
-pub fn read_at(b: &[u8], at: usize) -> Item
-    ensures { λ r. ⌜ r ≡ readAt (now (b .entry)) at ⌝ }
+fn read_by(ok: bool, b: &[u8], at: usize) -> Item
+    requires { ⌜ (ok ≡ true → framed (now b) ≡ true) ⌝ }
+    ensures { λ r. ⌜ r ≡ readBy ok (now (b .entry)) at ⌝ }
 {
-    if !is_whole_roll(b) {
+    if !ok {
         return Item::Refused(Refusal::NotARoll);
     }
     if starts_at(b, at) {
@@ -76,10 +79,11 @@ pub fn read_at(b: &[u8], at: usize) -> Item
 }
 
 // The label of the record that starts at a position, as a part of the roll; an empty part where none starts there.
-pub fn label_at(b: &[u8], at: usize) -> &[u8]
-    ensures { λ r. ⌜ now r ≡ labelAt (now (b .entry)) at ⌝ }
+fn label_by(ok: bool, b: &[u8], at: usize) -> &[u8]
+    requires { ⌜ (ok ≡ true → framed (now b) ≡ true) ⌝ }
+    ensures { λ r. ⌜ now r ≡ labelBy ok (now (b .entry)) at ⌝ }
 {
-    if !holds_record(b, at) {
+    if !holds_record(ok, b, at) {
         return &b[0..0];
     }
     let from = at + 10;
@@ -88,11 +92,50 @@ pub fn label_at(b: &[u8], at: usize) -> &[u8]
 }
 
 // Where the record that starts at a position ends; the position itself where none starts there.
-pub fn past_at(b: &[u8], at: usize) -> usize
-    ensures { λ r. ⌜ r ≡ pastAt (now (b .entry)) at ⌝ }
+fn past_by(ok: bool, b: &[u8], at: usize) -> usize
+    requires { ⌜ (ok ≡ true → framed (now b) ≡ true) ⌝ }
+    ensures { λ r. ⌜ r ≡ pastBy ok (now (b .entry)) at ⌝ }
 {
-    if !holds_record(b, at) {
+    if !holds_record(ok, b, at) {
         return at;
     }
     at + (10 + wide(b[at + 9]))
+}
+
+// What stands at a position of the bytes, the label of the record there, and where it ends.
+pub fn read_at(b: &[u8], at: usize) -> Item
+    ensures { λ r. ⌜ r ≡ readAt (now (b .entry)) at ⌝ }
+{
+    read_by(is_whole_roll(b), b, at)
+}
+
+pub fn label_at(b: &[u8], at: usize) -> &[u8]
+    ensures { λ r. ⌜ now r ≡ labelAt (now (b .entry)) at ⌝ }
+{
+    label_by(is_whole_roll(b), b, at)
+}
+
+pub fn past_at(b: &[u8], at: usize) -> usize
+    ensures { λ r. ⌜ r ≡ pastAt (now (b .entry)) at ⌝ }
+{
+    past_by(is_whole_roll(b), b, at)
+}
+
+// The same of an older roll, by the former rule.
+pub fn read_at_former(b: &[u8], at: usize) -> Item
+    ensures { λ r. ⌜ r ≡ readAtFormer (now (b .entry)) at ⌝ }
+{
+    read_by(is_whole_roll_former(b), b, at)
+}
+
+pub fn label_at_former(b: &[u8], at: usize) -> &[u8]
+    ensures { λ r. ⌜ now r ≡ labelAtFormer (now (b .entry)) at ⌝ }
+{
+    label_by(is_whole_roll_former(b), b, at)
+}
+
+pub fn past_at_former(b: &[u8], at: usize) -> usize
+    ensures { λ r. ⌜ r ≡ pastAtFormer (now (b .entry)) at ⌝ }
+{
+    past_by(is_whole_roll_former(b), b, at)
 }

@@ -39,12 +39,12 @@ from .fc4 import (
     compact_to_full_fc4, distribute_fc4, rotate_delta_fc3s, set_permutation_symmetry_compact_fc4, set_permutation_symmetry_fc4,
     swap_pairs_compact_fc4, transpose_compact_fc4, true_transpose_compact_fc4,
 )
-from .roll import append_roll, is_roll, read_roll, retire_all, stands_now
+from .roll import append_roll, is_roll, is_roll_former, read_roll, read_roll_former, retire_all, stands_now
 from .tables import Tables, check_shift_tables
 
 __version__ = version()
 __all__ = [
     "Along", "Drift", "DriftKind", "Match", "Pairing", "Refused", "Tables", "version", "words",
     *common.__all__[0:1], "sqrt", *(n for m in (cells, fc2, fc3, fc4) for n in m.__all__ if n[0].islower()),
-    "append_roll", "check_shift_tables", "is_roll", "read_roll", "retire_all", "stands_now",
+    "append_roll", "check_shift_tables", "is_roll", "is_roll_former", "read_roll", "read_roll_former", "retire_all", "stands_now",
 ]

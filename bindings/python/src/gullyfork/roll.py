@@ -12,7 +12,7 @@ REPLACEMENT 8 7 b''
 from __future__ import annotations
 
 import enum
-from typing import Any, Iterator, NamedTuple, Optional
+from typing import Any, Callable, Iterator, NamedTuple, Optional
 
 import numpy as np
 
@@ -21,8 +21,10 @@ from ._library import CALLS
 from ._refused import Refused
 from ._run import run
 
-__all__ = ["EMPTY", "Kind", "Record", "Standing", "State", "append_roll", "appended", "is_roll", "read_roll", "records", "retire_all", "retired",
-           "stands_now"]
+__all__ = [
+    "EMPTY", "Kind", "Record", "Standing", "State", "append_roll", "appended", "is_roll", "is_roll_former", "read_roll", "read_roll_former",
+    "records", "records_former", "retire_all", "retired", "stands_now",
+]
 
 EMPTY = bytes(8)
 _END, _NO_ROOM, _NOT_LAWFUL, _UNKNOWN_SET = 68, 8, 9, 11
@@ -66,6 +68,17 @@ def is_roll(lent: Any, count: Optional[int] = None) -> bool:
     return CALLS["is_roll"].function(_arrays.address(a), a.size, _count(a, count))
 
 
+def is_roll_former(lent: Any, count: Optional[int] = None) -> bool:
+    """The same by the former rule, under which older rolls list their starts in any order.
+
+    >>> older = bytes.fromhex("01070000000000000000" "01080000000000000000" "0a000000" "00000000" "02000000" "14000000")
+    >>> is_roll(older), is_roll_former(older)
+    (False, True)
+    """
+    a = _arrays.octets(lent, "lent")
+    return CALLS["is_roll_former"].function(_arrays.address(a), a.size, _count(a, count))
+
+
 def read_roll(lent: Any, at: int = 0, count: Optional[int] = None) -> Optional[Record]:
     """The record that starts at the position, or None where the trailer begins. Begin with 0 and go on with `next`. The whole roll is
     judged in each call.
@@ -73,14 +86,27 @@ def read_roll(lent: Any, at: int = 0, count: Optional[int] = None) -> Optional[R
     >>> read_roll(EMPTY) is None
     True
     """
+    return _read("read_roll", is_roll, lent, at, count)
+
+
+def read_roll_former(lent: Any, at: int = 0, count: Optional[int] = None) -> Optional[Record]:
+    """The same of an older roll, by the former rule.
+
+    >>> read_roll_former(EMPTY) is None
+    True
+    """
+    return _read("read_roll_former", is_roll_former, lent, at, count)
+
+
+def _read(call: str, judge: Callable[..., bool], lent: Any, at: int, count: Optional[int]) -> Optional[Record]:
     a = _arrays.octets(lent, "lent")
     slots = np.empty(6, np.uintp)
     count, at = _count(a, count), _arrays.whole(at, "at")
     try:
-        answer = run("read_roll", 2, read={"lent": (a, a.shape)}, made={"slots": slots}, values={"count": count, "at": at})
+        answer = run(call, 2, read={"lent": (a, a.shape)}, made={"slots": slots}, values={"count": count, "at": at})
     except Refused as e:
-        detail = f"neither a record nor the trailer starts at {at}" if is_roll(a, count) else _what_is_wrong(a, count)
-        raise Refused(e.number, e.call, "at" if is_roll(a, count) else "lent", detail) from None
+        detail = f"neither a record nor the trailer starts at {at}" if judge(a, count) else _what_is_wrong(a, count)
+        raise Refused(e.number, e.call, "at" if judge(a, count) else "lent", detail) from None
     if answer == _END:
         return None
     kind, number, earlier, start, length, following = (int(x) for x in slots)
@@ -91,6 +117,22 @@ def records(lent: Any, count: Optional[int] = None) -> Iterator[Record]:
     """The records of a roll, in order."""
     at = 0
     while (record := read_roll(lent, at, count)) is not None:
+        yield record
+        at = record.next
+
+
+def records_former(lent: Any, count: Optional[int] = None) -> Iterator[Record]:
+    """The records of an older roll, by the former rule; `appended` to an empty roll they make the roll that all other calls take.
+
+    >>> older = bytes.fromhex("01070000000000000000" "01080000000000000000" "0a000000" "00000000" "02000000" "14000000")
+    >>> roll = EMPTY
+    >>> for record in records_former(older):
+    ...     roll = appended(roll, record.kind, record.set, record.earlier, record.label)
+    >>> is_roll(roll), [record.set for record in records(roll)], len(roll) == len(older)
+    (True, [7, 8], True)
+    """
+    at = 0
+    while (record := read_roll_former(lent, at, count)) is not None:
         yield record
         at = record.next
 
@@ -215,6 +257,8 @@ def _unlawful(a: np.ndarray, count: int) -> Optional[str]:
 def _what_is_wrong(a: np.ndarray, count: int) -> str:
     if count > a.size:
         return f"count {count} passes its {a.size} bytes"
+    if is_roll_former(a, count):
+        return "an older roll: its starts are not in rising order; records_former reads it"
     return f"its first {count} bytes are not a roll"
 
 

@@ -22,11 +22,11 @@ abbrev μ-loop : tie.MeasureT-loop
 loop-holds : tie.Need-loop-holds Inv-loop μ-loop
 loop-holds c = let a = c .before .args in (omega arith, refl, start-first (a .s .now), no-starts (a .s .now) (a .t))
 
-mul-lay-four : tie.Need-mul-lay-four Inv-loop μ-loop
-mul-lay-four c = search needs
+mul-place : tie.Need-mul-place Inv-loop μ-loop
+mul-place c = search needs
 
-add-lay-four : tie.Need-add-lay-four Inv-loop μ-loop
-add-lay-four c = search needs
+add-place : tie.Need-add-place Inv-loop μ-loop
+add-place c = search needs
 
 lay-four-requires : tie.Need-lay-four-requires Inv-loop μ-loop
 lay-four-requires c κs = omega arith
@@ -79,8 +79,8 @@ lay-starts-spec =
     Inv-loop
     μ-loop
     loop-holds
-    mul-lay-four
-    add-lay-four
+    mul-place
+    add-place
     lay-four-requires
     add-wide
     slice-read-wide

@@ -7,23 +7,17 @@ use Rattle.roll_append.proofs.lay_trailer.Tie as tie
 lay-starts-requires : tie.Need-lay-starts-requires
 lay-starts-requires c κs = search needs
 
-mul-lay-four : tie.Need-mul-lay-four
-mul-lay-four c = search needs
+mul-place : tie.Need-mul-place
+mul-place c = search needs
 
-add-lay-four : tie.Need-add-lay-four
-add-lay-four c = search needs
+add-place : tie.Need-add-place
+add-place c = search needs
 
 lay-four-requires : tie.Need-lay-four-requires
 lay-four-requires c κs = search needs
 
-mul-lay-four-2 : tie.Need-mul-lay-four-2
-mul-lay-four-2 c = search needs
-
-add-lay-four-2 : tie.Need-add-lay-four-2
-add-lay-four-2 c = search needs
-
-add-lay-four-3 : tie.Need-add-lay-four-3
-add-lay-four-3 c = search needs
+add-lay-four : tie.Need-add-lay-four
+add-lay-four c = search needs
 
 lay-four-requires-2 : tie.Need-lay-four-requires-2
 lay-four-requires-2 c κs = search needs
@@ -41,12 +35,10 @@ lay-trailer-spec =
     tie.close
     (tie.spec
     lay-starts-requires
-    mul-lay-four
-    add-lay-four
+    mul-place
+    add-place
     lay-four-requires
-    mul-lay-four-2
-    add-lay-four-2
-    add-lay-four-3
+    add-lay-four
     lay-four-requires-2
     same-length
     returns)

@@ -24,11 +24,11 @@ loop-holds c =
     let p = c .before .pre in
     (omega arith, all-open (a .b .now) (a .marks .now) (subst (λ m. Marked (a .b .now) m (a .marks .now)) (p .0) (p .3)), below-none _)
 
-mul-four : tie.Need-mul-four Inv-loop μ-loop
-mul-four c = search needs
+mul-from : tie.Need-mul-from Inv-loop μ-loop
+mul-from c = search needs
 
-add-four : tie.Need-add-four Inv-loop μ-loop
-add-four c = search needs
+add-from : tie.Need-add-from Inv-loop μ-loop
+add-from c = search needs
 
 four-requires : tie.Need-four-requires Inv-loop μ-loop
 four-requires c κs = search needs
@@ -88,8 +88,8 @@ lists-once-spec =
     Inv-loop
     μ-loop
     loop-holds
-    mul-four
-    add-four
+    mul-from
+    add-from
     four-requires
     returns
     element-copy-out-if2

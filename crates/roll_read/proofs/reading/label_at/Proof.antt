@@ -1,100 +1,21 @@
-use mathlib.Core.Path.{_≡_, sym, ap, _∙_}
-use Prim.Native.Nat.{ℕ, _+_, _-_}
-use native.Mathlib.Omega.{arith}
-use lib.ListN.{take, drop, getD}
-use Rattle.roll.specs.Starts.{told-no, told-yes}
-use Rattle.roll_read.specs.Steps.{no-label, record-label, record-room}
+-- `roll_read::reading::label_at` meets its contract. Assumes nothing.
+use mathlib.Core.Path.{sym, ap, _∙_}
+use Rattle.roll.specs.Holding.{is-framed}
+use Rattle.roll_read.specs.Calls.{labelBy}
 use borrow.Author.Needs.{needs}
 use Rattle.roll_read.proofs.reading.label_at.Statement.{statement}
 use Rattle.roll_read.proofs.reading.label_at.Tie as tie
-use Rattle.roll_read.proofs.reading.label_at.Reads as reads
-use Rattle.roll_read.proofs.reading.label_at.Lts as lts
-use Rattle.roll.proofs.numbers.wide.Reads as wide-reads
-use Rattle.roll_read.proofs.reading.holds_record.Reads as holds-record-reads
 
-holds-record-requires : tie.Need-holds-record-requires
-holds-record-requires c κs = search needs
-
-sub-result : tie.Need-sub-result
-sub-result c = search needs
-
-part-result-start : tie.Need-part-result-start
-part-result-start c = search needs
-
-part-result-end : tie.Need-part-result-end
-part-result-end c = search needs
+label-by-requires : tie.Need-label-by-requires
+label-by-requires c κs = λ e. is-framed (c .before .before .args .b .now) (sym (c .is-whole-roll .ensures) ∙ e)
 
 returns : tie.Need-returns
 returns c =
-    let a = c .before .before .before .before .args in
-    no-label (a .b .now) (a .at) (told-no (c .before .before .holds-record .ensures) (c .before .if1 .taken))
-
-add-from : tie.Need-add-from
-add-from c =
     let a = c .before .before .before .args in
-    let H = told-yes (c .before .holds-record .ensures) (c .if1 .left) in
-    let room = record-room (a .b .now) (a .at) H in
-    omega (arith, room .0, room .1)
+    c .label-by .ensures ∙ ap (λ ok. labelBy ok (a .b .now) (a .at)) (c .before .is-whole-roll .ensures)
 
-add-wide : tie.Need-add-wide
-add-wide c =
-    let a = c .before .before .before .args in
-    let H = told-yes (c .before .holds-record .ensures) (c .if1 .left) in
-    let room = record-room (a .b .now) (a .at) H in
-    omega (arith, room .0, room .1)
-
-shared-slice-read-wide : tie.Need-shared-slice-read-wide
-shared-slice-read-wide c =
-    let a = c .before .before .before .before .args in
-    let H = told-yes (c .before .before .holds-record .ensures) (c .before .if1 .left) in
-    let room = record-room (a .b .now) (a .at) H in
-    omega (arith, room .0, room .1)
-
-wide-requires : tie.Need-wide-requires
-wide-requires c κs = search needs
-
-add-end : tie.Need-add-end
-add-end c =
-    let a = c .before .before .before .before .before .args in
-    let H = told-yes (c .before .before .before .holds-record .ensures) (c .before .before .if1 .left) in
-    let room = record-room (a .b .now) (a .at) H in
-    omega (arith, c .wide .ensures .0, room .0, room .1)
-
-sub-result-2 : tie.Need-sub-result-2
-sub-result-2 c = search needs
-
-part-result-start-2 : tie.Need-part-result-start-2
-part-result-start-2 c = search needs
-
-part-result-end-2 : tie.Need-part-result-end-2
-part-result-end-2 c =
-    let a = c .before .before .before .before .before .args in
-    let H = told-yes (c .before .before .before .holds-record .ensures) (c .before .before .if1 .left) in
-    let room = record-room (a .b .now) (a .at) H in
-    omega (arith, c .wide .ensures .0, room .0, room .1)
-
-returns-2 : tie.Need-returns-2
-returns-2 c =
-    let a = c .before .before .before .before .before .before .args in
-    let H = told-yes (c .before .before .before .before .holds-record .ensures) (c .before .before .before .if1 .left) in
-    let e : a .at + 10 + c .before .wide .result - (a .at + 10) ≡ getD (a .b .now) (a .at + 9) 0 = omega (arith, c .before .wide .ensures .0) in
-    ap (λ n. take n (drop (a .at + 10) (a .b .now))) e ∙ record-label (a .b .now) (a .at) H
+is-whole-roll-requires : tie.Need-is-whole-roll-requires
+is-whole-roll-requires c κs = search needs
 
 pub label-at-spec : {M : Type 1} → statement M
-label-at-spec =
-    tie.close
-    (tie.spec
-    holds-record-requires
-    sub-result
-    part-result-start
-    part-result-end
-    returns
-    add-from
-    add-wide
-    shared-slice-read-wide
-    wide-requires
-    add-end
-    sub-result-2
-    part-result-start-2
-    part-result-end-2
-    returns-2)
+label-at-spec = tie.close (tie.spec is-whole-roll-requires label-by-requires returns)

@@ -1,64 +1,21 @@
-use mathlib.Core.Path.{_≡_, sym, _∙_}
-use native.Mathlib.Omega.{arith}
-use Rattle.roll.specs.Starts.{told-no, told-yes}
-use Rattle.roll_read.specs.Steps.{stays, goes-on, record-room}
+-- `roll_read::reading::past_at` meets its contract. Assumes nothing.
+use mathlib.Core.Path.{sym, ap, _∙_}
+use Rattle.roll.specs.Holding.{is-framed}
+use Rattle.roll_read.specs.Calls.{pastBy}
 use borrow.Author.Needs.{needs}
 use Rattle.roll_read.proofs.reading.past_at.Statement.{statement}
 use Rattle.roll_read.proofs.reading.past_at.Tie as tie
-use Rattle.roll_read.proofs.reading.past_at.Reads as reads
-use Rattle.roll_read.proofs.reading.past_at.Lts as lts
-use Rattle.roll.proofs.numbers.wide.Reads as wide-reads
-use Rattle.roll_read.proofs.reading.holds_record.Reads as holds-record-reads
 
-holds-record-requires : tie.Need-holds-record-requires
-holds-record-requires c κs = search needs
+past-by-requires : tie.Need-past-by-requires
+past-by-requires c κs = λ e. is-framed (c .before .before .args .b .now) (sym (c .is-whole-roll .ensures) ∙ e)
 
 returns : tie.Need-returns
 returns c =
     let a = c .before .before .before .args in
-    stays (a .b .now) (a .at) (told-no (c .before .holds-record .ensures) (c .if1 .taken))
+    c .past-by .ensures ∙ ap (λ ok. pastBy ok (a .b .now) (a .at)) (c .before .is-whole-roll .ensures)
 
-add-wide : tie.Need-add-wide
-add-wide c =
-    let a = c .before .before .before .args in
-    let H = told-yes (c .before .holds-record .ensures) (c .if1 .left) in
-    let room = record-room (a .b .now) (a .at) H in
-    omega (arith, room .0, room .1)
-
-shared-slice-read-wide : tie.Need-shared-slice-read-wide
-shared-slice-read-wide c =
-    let a = c .before .before .before .before .args in
-    let H = told-yes (c .before .before .holds-record .ensures) (c .before .if1 .left) in
-    let room = record-room (a .b .now) (a .at) H in
-    omega (arith, room .0, room .1)
-
-wide-requires : tie.Need-wide-requires
-wide-requires c κs = search needs
-
-add-result : tie.Need-add-result
-add-result c = search needs
-
-add-result-2 : tie.Need-add-result-2
-add-result-2 c =
-    let a = c .before .before .before .before .before .args in
-    let H = told-yes (c .before .before .before .holds-record .ensures) (c .before .before .if1 .left) in
-    let room = record-room (a .b .now) (a .at) H in
-    omega (arith, c .wide .ensures .0, room .0, room .1)
-
-returns-2 : tie.Need-returns-2
-returns-2 c =
-    let a = c .before .before .before .before .before .args in
-    goes-on (a .b .now) (a .at) (told-yes (c .before .before .before .holds-record .ensures) (c .before .before .if1 .left)) _ (c .wide .ensures .0)
+is-whole-roll-requires : tie.Need-is-whole-roll-requires
+is-whole-roll-requires c κs = search needs
 
 pub past-at-spec : {M : Type 1} → statement M
-past-at-spec =
-    tie.close
-    (tie.spec
-    holds-record-requires
-    returns
-    add-wide
-    shared-slice-read-wide
-    wide-requires
-    add-result
-    add-result-2
-    returns-2)
+past-at-spec = tie.close (tie.spec is-whole-roll-requires past-by-requires returns)

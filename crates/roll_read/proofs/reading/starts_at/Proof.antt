@@ -9,7 +9,7 @@ use borrow.Author.Tests.{eq-eqb, ne-eqb}
 use borrow.Author.Count.{below-none, below-more}
 use Rattle.roll.specs.Reading.{start, isStart, countOf}
 use Rattle.roll.specs.Starts.{start-first, next-start, ends-before, head-before, one-passed, all-failed}
-use Rattle.roll.specs.Holding.{is-sized, count-is, at-least-eight}
+use Rattle.roll.specs.Holding.{count-is, framed-eight}
 use Rattle.roll.specs.Roll.{Sized}
 use Rattle.roll_read.specs.Steps.{inside}
 use borrow.Author.Needs.{needs}
@@ -23,10 +23,10 @@ abbrev μ-loop : tie.MeasureT-loop
 μ-loop b at n p₀ i₀ p i = n - i
 
 sub-four : tie.Need-sub-four Inv-loop μ-loop
-sub-four c = omega (arith, at-least-eight (c .before .args .b .now) (c .before .pre))
+sub-four c = omega (arith, framed-eight (c .before .args .b .now) (c .before .pre))
 
 four-requires : tie.Need-four-requires Inv-loop μ-loop
-four-requires c κs = omega (arith, at-least-eight (c .before .args .b .now) (c .before .pre))
+four-requires c κs = omega (arith, framed-eight (c .before .args .b .now) (c .before .pre))
 
 loop-holds : tie.Need-loop-holds Inv-loop μ-loop
 loop-holds c = (omega arith, start-first (c .before .before .args .b .now), below-none _)

@@ -1,0 +1,44 @@
+-- `roll::judge::is_sized` meets its contract. Assumes nothing.
+use native.Mathlib.Omega.{arith}
+use Rattle.roll.specs.Holding.{sized-says, not-sized, sized-by, count-is, trailer-is}
+use borrow.Author.Needs.{needs}
+use Rattle.roll.proofs.judge.is_sized.Statement.{statement}
+use Rattle.roll.proofs.judge.is_sized.Tie as tie
+
+returns : tie.Need-returns
+returns c = let b = c .before .before .args .b .now in not-sized b (λ p. omega (arith, sized-says b p .0))
+
+returns-2 : tie.Need-returns-2
+returns-2 c = let b = c .before .before .before .args .b .now in not-sized b (λ p. omega (arith, sized-says b p .1))
+
+returns-3 : tie.Need-returns-3
+returns-3 c =
+    let b = c .before .before .before .before .before .before .args .b .now in
+    let e = count-is b (c .before .before .four .ensures .0) in
+    not-sized b (λ p. omega (arith, sized-says b p .2, e))
+
+returns-4 : tie.Need-returns-4
+returns-4 c =
+    let b = c .before .before .before .before .before .before .args .b .now in
+    sized-by b _ _ (omega arith) (omega arith) (omega arith) (count-is b (c .before .before .four .ensures .0)) (trailer-is b (c .before .four2 .ensures .0))
+
+four-requires : tie.Need-four-requires
+four-requires c κs = search needs
+
+sub-four : tie.Need-sub-four
+sub-four c = search needs
+
+four-requires-2 : tie.Need-four-requires-2
+four-requires-2 c κs = search needs
+
+mul-result : tie.Need-mul-result
+mul-result c = search needs
+
+add-result : tie.Need-add-result
+add-result c = search needs
+
+add-result-2 : tie.Need-add-result-2
+add-result-2 c = search needs
+
+pub is-sized-spec : {M : Type 1} → statement M
+is-sized-spec = tie.close (tie.spec returns returns-2 four-requires sub-four four-requires-2 returns-3 mul-result add-result add-result-2 returns-4)

@@ -1,0 +1,46 @@
+-- `roll::judge::is_whole_roll_former` meets its contract. Assumes nothing.
+use native.Mathlib.Omega.{arith}
+use Rattle.roll.specs.Starts.{told-no, told-yes}
+use Rattle.roll.specs.Holding.{sized-says, sized-for, not-former, former-by, count-is, trailer-is}
+use borrow.Author.Needs.{needs}
+use Rattle.roll.proofs.judge.is_whole_roll_former.Statement.{statement}
+use Rattle.roll.proofs.judge.is_whole_roll_former.Tie as tie
+
+returns : tie.Need-returns
+returns c = not-former (c .before .before .before .args .b .now) (told-no (c .before .is-sized .ensures) (c .if1 .taken))
+
+sub-four : tie.Need-sub-four
+sub-four c =
+    let b = c .before .before .before .args .b .now in
+    omega (arith, sized-says b (told-yes (c .before .is-sized .ensures) (c .if1 .left)) .0)
+
+four-requires : tie.Need-four-requires
+four-requires c κs =
+    let b = c .before .before .before .args .b .now in
+    omega (arith, sized-says b (told-yes (c .before .is-sized .ensures) (c .if1 .left)) .0)
+
+sub-four-2 : tie.Need-sub-four-2
+sub-four-2 c =
+    let b = c .before .before .before .before .args .b .now in
+    omega (arith, sized-says b (told-yes (c .before .before .is-sized .ensures) (c .before .if1 .left)) .0)
+
+four-requires-2 : tie.Need-four-requires-2
+four-requires-2 c κs =
+    let b = c .before .before .before .before .args .b .now in
+    omega (arith, sized-says b (told-yes (c .before .before .is-sized .ensures) (c .before .if1 .left)) .0)
+
+has-records-requires : tie.Need-has-records-requires
+has-records-requires c κs =
+    let b = c .before .before .before .before .before .args .b .now in
+    sized-for b _ _ (told-yes (c .before .before .before .is-sized .ensures) (c .before .before .if1 .left)) (count-is b (c .before .four .ensures .0)) (trailer-is b (c .four2 .ensures .0))
+
+returns-2 : tie.Need-returns-2
+returns-2 c =
+    let b = c .before .before .before .before .before .before .args .b .now in
+    former-by b _ _ _ (told-yes (c .before .before .before .before .is-sized .ensures) (c .before .before .before .if1 .left)) (count-is b (c .before .before .four .ensures .0)) (trailer-is b (c .before .four2 .ensures .0)) (c .has-records .ensures)
+
+is-sized-requires : tie.Need-is-sized-requires
+is-sized-requires c κs = search needs
+
+pub is-whole-roll-former-spec : {M : Type 1} → statement M
+is-whole-roll-former-spec = tie.close (tie.spec is-sized-requires returns sub-four four-requires sub-four-2 four-requires-2 has-records-requires returns-2)

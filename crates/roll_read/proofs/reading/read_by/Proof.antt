@@ -1,0 +1,62 @@
+use mathlib.Core.Path.{_≡_, sym, _∙_}
+use native.Mathlib.Omega.{arith}
+use borrow.Author.Tests.{not-true, not-false}
+use Rattle.roll.specs.Holding.{framed-sized}
+use Rattle.roll_read.specs.Steps.{ends-in, read-not, read-record, read-end, read-none, its-trailer}
+use borrow.Author.Needs.{needs}
+use Rattle.roll_read.proofs.reading.read_by.Statement.{statement}
+use Rattle.roll_read.proofs.reading.read_by.Tie as tie
+use Rattle.roll_read.proofs.reading.read_by.Reads as reads
+use Rattle.roll_read.proofs.reading.read_by.Lts as lts
+use Rattle.roll.proofs.numbers.four.Reads as four-reads
+use Rattle.roll_read.proofs.reading.record_at.Reads as record-at-reads
+use Rattle.roll_read.proofs.reading.starts_at.Reads as starts-at-reads
+
+returns : tie.Need-returns
+returns c =
+    let a = c .before .before .args in
+    read-not (a .ok) (a .b .now) (a .at) (not-true _ (c .if1 .taken))
+
+starts-at-requires : tie.Need-starts-at-requires
+starts-at-requires c κs = c .before .before .pre (not-false _ (c .if1 .left))
+
+record-at-requires : tie.Need-record-at-requires
+record-at-requires c κs =
+    let a = c .before .before .before .before .args in
+    let R = not-false _ (c .before .before .if1 .left) in
+    omega (arith, ends-in (a .b .now) (a .at) (c .before .before .before .before .pre R) (sym (c .before .starts-at .ensures) ∙ c .if2 .taken))
+
+returns-2 : tie.Need-returns-2
+returns-2 c =
+    let a = c .before .before .before .before .before .args in
+    let R = not-false _ (c .before .before .before .if1 .left) in
+    read-record (a .ok) (a .b .now) (a .at) R (sym (c .before .before .starts-at .ensures) ∙ c .before .if2 .taken) (c .record-at .ensures)
+
+sub-four : tie.Need-sub-four
+sub-four c =
+    let a = c .before .before .before .before .args in
+    let R = not-false _ (c .before .before .if1 .left) in
+    omega (arith, framed-sized (a .b .now) (c .before .before .before .before .pre R) .whole)
+
+four-requires : tie.Need-four-requires
+four-requires c κs =
+    let a = c .before .before .before .before .args in
+    let R = not-false _ (c .before .before .if1 .left) in
+    omega (arith, framed-sized (a .b .now) (c .before .before .before .before .pre R) .whole)
+
+returns-3 : tie.Need-returns-3
+returns-3 c =
+    let a = c .before .before .before .before .before .before .args in
+    let R = not-false _ (c .before .before .before .before .if1 .left) in
+    read-end (a .ok) (a .b .now) (a .at) R (sym (c .before .before .before .starts-at .ensures) ∙ c .before .before .if2 .left) (c .if3 .taken ∙ its-trailer (a .b .now) (c .before .four .ensures .0))
+
+returns-4 : tie.Need-returns-4
+returns-4 c =
+    let a = c .before .before .before .before .before .before .args in
+    let R = not-false _ (c .before .before .before .before .if1 .left) in
+    read-none (a .ok) (a .b .now) (a .at) R (sym (c .before .before .before .starts-at .ensures) ∙ c .before .before .if2 .left) (λ q. c .if3 .left (q ∙ sym (its-trailer (a .b .now) (c .before .four .ensures .0))))
+
+pub read-by-spec : {M : Type 1} → statement M
+read-by-spec =
+    tie.close
+    (tie.spec returns starts-at-requires record-at-requires returns-2 sub-four four-requires returns-3 returns-4)
