@@ -225,7 +225,7 @@ pub fn transposes(b: &Bench) {
 pub fn swaps(b: &Bench) {
     println!("| swap_pairs_compact_fc4, legs | size | us | beside legs 0 and 1 | beside a copy of the set |\n|---|---|---|---|---|");
     const LEGS: [[usize; 2]; 6] = [[0, 1], [0, 2], [0, 3], [1, 2], [1, 3], [2, 3]];
-    for sizes in [[2, 16], [2, 18]] {
+    for sizes in [[2, 16], [2, 18], [4, 16], [4, 20]] {
         let mut c = Compact::new(Name::Swap4, shifts(sizes[0], sizes[1]));
         c.set = plain(&mut Rng::new(29), c.stated());
         let mut to = c.set.clone();

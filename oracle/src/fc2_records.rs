@@ -346,13 +346,26 @@ fn sheets(all: &mut Recorder) {
 }
 
 /// Full sets, drift reports, the distributor.
-pub fn second() -> Replay {
+fn full_records() -> Vec<Record> {
     let mut all = Recorder { r: Rng::new(8), records: vec![] };
     sheets(&mut all);
     full_sets(&mut all);
     distributed(&mut all);
-    let stdout = report("second order", &all.records, 2);
-    Replay::new(all.records, stdout, 4)
+    all.records
+}
+
+/// Full sets and the distributor.
+pub fn second() -> Replay {
+    let records: Vec<Record> = full_records().into_iter().filter(|r| r[1] != 5).collect();
+    let stdout = report("second order", &records, 2);
+    Replay::new(records, stdout, 2)
+}
+
+/// Drift reports.
+pub fn drifts() -> Replay {
+    let records: Vec<Record> = full_records().into_iter().filter(|r| r[1] == 5).collect();
+    let stdout = report("drift report", &records, 2);
+    Replay::new(records, stdout, 1)
 }
 
 /// Compact sets.
@@ -371,7 +384,7 @@ mod tests {
 
     #[test]
     fn every_call_and_refusal_is_recorded() {
-        let records = [second().records, compact_second().records].concat();
+        let records = [second().records, drifts().records, compact_second().records].concat();
         let all: [(u64, &[u64]); 5] = [(1, &[0, 1, 2]), (2, &[0, 1, 2, 3, 6]), (3, &[0, 1, 2, 3, 6]), (4, &[0, 1, 2, 3, 5]), (5, &[0, 1, 2])];
         for (call, answers) in all {
             for answer in answers {

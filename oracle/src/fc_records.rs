@@ -434,6 +434,7 @@ pub fn true_replay() -> Replay {
 pub fn replay(order: u32) -> Replay {
     let mut memory = vec![0.0; room(order)];
     let records: Vec<Record> = calls(order).into_iter().map(|call| call.record(&mut memory)).collect();
-    let stdout = report(if order == 3 { "third order" } else { "fourth order" }, &records, 1);
-    Replay::new(records, stdout, 4)
+    let (title, pages) = if order == 3 { ("third order", 4) } else { ("fourth order", 2) };
+    let stdout = report(title, &records, 1);
+    Replay::new(records, stdout, pages)
 }

@@ -62,7 +62,7 @@ mod wild;
 #[global_allocator]
 static HEAP: memory::Counting = memory::Counting;
 
-const USAGE: &str = "oracle record common|shifts|matching|second|compact|third|fourth|true|distribute|deltas|roll|retire|row_sums|finding|read_out FOLDER
+const USAGE: &str = "oracle record common|shifts|matching|second|drift|compact|third|fourth|true|distribute|deltas|roll|retire|row_sums|finding|read_out FOLDER
 oracle flip PROGRAM FOLDER COUNT
 oracle compare all|limits|CALL [SEED [COUNT]]
 oracle bench all|common|cells|fc2|fc3|fc4|tables|transposes|swaps|drift|finding [SECONDS]";
@@ -77,6 +77,7 @@ fn record(name: &str, folder: &Path) -> Outcome {
         "shifts" => shift_records::replay(),
         "matching" => matching::replay(),
         "second" => fc2_records::second(),
+        "drift" => fc2_records::drifts(),
         "compact" => fc2_records::compact_second(),
         "third" => fc_records::replay(3),
         "fourth" => fc_records::replay(4),

@@ -178,7 +178,7 @@ pub fn distribute() -> Replay {
         }
     }
     let stdout = report("distributed", &records, 1);
-    Replay::new(records, stdout, 4)
+    Replay::new(records, stdout, 1)
 }
 
 /// A call of rotate_delta_fc2s (order 3) or rotate_delta_fc3s (order 4).
@@ -348,7 +348,7 @@ pub fn deltas() -> Replay {
         }
     }
     let stdout = report("rotated", &records, 1);
-    Replay::new(records, stdout, 4)
+    Replay::new(records, stdout, 1)
 }
 
 #[cfg(test)]

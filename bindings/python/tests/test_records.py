@@ -243,6 +243,9 @@ class Records(unittest.TestCase):
     def test_second(self):
         self.second("fc2", 300)
 
+    def test_drift(self):
+        self.second("drift", 80)
+
     def test_compact(self):
         self.second("fc2_compact", 120)
 

@@ -2,14 +2,14 @@
 ghost use mathlib.Core.Path.{_≡_};
 ghost use mathlib.Core.Bool.{true};
 ghost use Prim.Native.Nat.{_+_, _*_, _≤_};
-ghost use lib.ListN.{length, getD};
+ghost use lib.ListN.{length};
 ghost use Rattle.blocks.specs.Block.{block, putBlock};
 ghost use Rattle.blocks.specs.Permuted.{permutedBlock, permuted as permutedBy};
 ghost use Rattle.places.specs.Moves.{order4};
 ghost use Rattle.orbits.specs.Trading.{theOther};
 ghost use Rattle.orbits.specs.BlockPairs.{joinedPair};
 ghost use Rattle.blocks_fc4.specs.Runs.{traded};
-ghost use Rattle.blocks_fc4.specs.Written.{Inside81, FirstTwo};
+ghost use Rattle.blocks_fc4.specs.Pairs.{Inside54, fromPairs, FirstTwo};
 use places::with_leg;
 
 // Blocks a and b change places whole.
@@ -36,7 +36,7 @@ fn swap_nines(fc4: &mut [f64], x: usize, y: usize)
 
 // Block b where it stands, with its first two directions exchanged. They number its nine blocks of nine numbers: block (x, y) comes from block (y, x), so
 // that (0, 0), (1, 1) and (2, 2) stay and the others change places in pairs.
-fn permute(fc4: &mut [f64], b: usize)
+fn permute_nines(fc4: &mut [f64], b: usize)
     requires { ⌜ b * 81 + 81 ≤ length (now fc4) ⌝ }
     ensures { λ _. ⌜ now (fc4 .exit) ≡ putBlock 81 b (permutedBlock 81 (permutedBy 3 (order4 0)) (block 81 b (now (fc4 .entry)))) (now (fc4 .entry)) ⌝ }
 {
@@ -52,39 +52,53 @@ fn exchange_nines(fc4: &mut [f64], a: usize, b: usize)
     ensures { λ _. ⌜ now (fc4 .exit) ≡ joinedPair theOther 81 (permutedBy 3 (order4 0)) a b (now (fc4 .entry)) ⌝ }
 {
     if a == b {
-        permute(fc4, a);
+        permute_nines(fc4, a);
         return;
     }
     swap_blocks(fc4, a, b);
-    permute(fc4, a);
-    permute(fc4, b);
+    permute_nines(fc4, a);
+    permute_nines(fc4, b);
 }
 
-// Block b becomes v with its numbers taken from the positions m, as it is written.
-fn write_permuted(fc4: &mut [f64], b: usize, v: [f64; 81], m: &[u8; 81])
-    requires { ⌜ Inside81 (now m) × (b * 81 + 81 ≤ length (now fc4)) ⌝ }
-    ensures { λ _. ⌜ now (fc4 .exit) ≡ putBlock 81 b (permutedBlock 81 (λ k. getD (now (m .entry)) k 0) v) (now (fc4 .entry)) ⌝ }
+// Block b where it stands, with 27 pairs of its numbers exchanged: those at positions m[n] and m[n + 27].
+fn permute_pairs(fc4: &mut [f64], b: usize, m: &[u8; 54])
+    requires { ⌜ Inside54 (now m) × (b * 81 + 81 ≤ length (now fc4)) ⌝ }
+    ensures { λ _. ⌜ now (fc4 .exit) ≡ putBlock 81 b (permutedBlock 81 (fromPairs (now (m .entry)) 27) (block 81 b (now (fc4 .entry)))) (now (fc4 .entry)) ⌝ }
 {
-    let mut k = 0;
-    while k < 81 {
-        let q = m[k] as usize;
-        fc4[b * 81 + k] = v[q];
-        k += 1;
+    let mut n = 0;
+    while n < 27 {
+        let x = with_leg(b, 81, m[n] as usize);
+        let y = with_leg(b, 81, m[n + 27] as usize);
+        let one = fc4[x];
+        let other = fc4[y];
+        fc4[x] = other;
+        fc4[y] = one;
+        n += 1;
     }
 }
 
-// Blocks a and b change places, their numbers taken from the positions m. Where these are the first two directions exchanged, nine numbers stay side by
-// side, which is faster.
-pub fn exchange(fc4: &mut [f64], first_two: bool, m: &[u8; 81], a: usize, b: usize)
-    requires { ⌜ Inside81 (now m) × («first_two» ≡ true → FirstTwo (now m)) × (a * 81 + 81 ≤ length (now fc4)) × (b * 81 + 81 ≤ length (now fc4)) ⌝ }
-    ensures { λ _. ⌜ now (fc4 .exit) ≡ joinedPair theOther 81 (λ k. getD (now (m .entry)) k 0) a b (now (fc4 .entry)) ⌝ }
+// Blocks a and b change places, each with the pairs m of its numbers exchanged.
+fn exchange_pairs(fc4: &mut [f64], m: &[u8; 54], a: usize, b: usize)
+    requires { ⌜ Inside54 (now m) × (a * 81 + 81 ≤ length (now fc4)) × (b * 81 + 81 ≤ length (now fc4)) ⌝ }
+    ensures { λ _. ⌜ now (fc4 .exit) ≡ joinedPair theOther 81 (fromPairs (now (m .entry)) 27) a b (now (fc4 .entry)) ⌝ }
+{
+    if b == a {
+        permute_pairs(fc4, a, m);
+        return;
+    }
+    swap_blocks(fc4, a, b);
+    permute_pairs(fc4, a, m);
+    permute_pairs(fc4, b, m);
+}
+
+// The same; where the pairs exchange the first two directions, nine numbers stay side by side, which is faster.
+pub fn exchange(fc4: &mut [f64], first_two: bool, m: &[u8; 54], a: usize, b: usize)
+    requires { ⌜ Inside54 (now m) × («first_two» ≡ true → FirstTwo (now m)) × (a * 81 + 81 ≤ length (now fc4)) × (b * 81 + 81 ≤ length (now fc4)) ⌝ }
+    ensures { λ _. ⌜ now (fc4 .exit) ≡ joinedPair theOther 81 (fromPairs (now (m .entry)) 27) a b (now (fc4 .entry)) ⌝ }
 {
     if first_two {
         exchange_nines(fc4, a, b);
         return;
     }
-    let one = blocks::read81(fc4, a);
-    let other = blocks::read81(fc4, b);
-    write_permuted(fc4, a, other, m);
-    write_permuted(fc4, b, one, m);
+    exchange_pairs(fc4, m, a, b);
 }

@@ -150,7 +150,7 @@ pub extern "C" fn gf_drift_report(
     ensures { λ r. ⌜ (r, now (value .exit), now (place .exit)) ≡ driftCall (now (fc .entry)) «n_satom» (now (value .entry)) (now (place .entry)) ⌝ }
 {
     if slots_fit(value.len(), place.len()) {
-        let a = drift::drift_report(fc, n_satom);
+        let a = drift_fc2::drift_report(fc, n_satom);
         return report(a, value, place);
     }
     if n_satom > LIMIT2 {

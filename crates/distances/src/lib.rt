@@ -7,6 +7,7 @@ ghost use lib.Ieee.{binary64, mul, lt};
 ghost use Rattle.common.specs.Root.{sqrt as rootOf};
 ghost use Rattle.distances.specs.Near.{wrapped as wrappedOf, difference as differenceOf, dot as dotOf, squares, told, isNear, near as nearOf, distance as distanceOf};
 ghost use Rattle.distances.specs.Reach.{plus, Rests, Early, EarlyOf, everywhere as everywhereOf, OnlyIf, Reaches, Fit};
+use places::with_leg;
 
 // A crystal's cell: the lattice's nine numbers, row after row, the tolerance, and along which axes the cell repeats. Component k of a difference is row k times the
 // difference of the coordinates, so the basis vectors stand in the columns; axis k is coordinate k.
@@ -193,12 +194,10 @@ pub fn distance_of(
     requires { ⌜ (i * 3 + 3 ≤ length (now pos)) × (j * 3 + 3 ≤ length (now «rot_pos»)) × Fit cell reach ⌝ }
     ensures { λ r. ⌜ r ≡ distanceOf cell (now (pos .entry)) (now («rot_pos» .entry)) i j ⌝ }
 {
-    let a = i * 3;
-    let b = j * 3;
     let f = cell.periodic;
-    let x = difference(f[0], pos[a], rot_pos[b]);
-    let y = difference(f[1], pos[a + 1], rot_pos[b + 1]);
-    let z = difference(f[2], pos[a + 2], rot_pos[b + 2]);
+    let x = difference(f[0], pos[with_leg(i, 3, 0)], rot_pos[with_leg(j, 3, 0)]);
+    let y = difference(f[1], pos[with_leg(i, 3, 1)], rot_pos[with_leg(j, 3, 1)]);
+    let z = difference(f[2], pos[with_leg(i, 3, 2)], rot_pos[with_leg(j, 3, 2)]);
     let l = cell.lattice;
     short(l, cell.symprec, reach, x, y, z)
 }
@@ -234,12 +233,10 @@ pub fn near(cell: Cell, reach: Reach, pos: &[f64], rot_pos: &[f64], i: usize, j:
     requires { ⌜ (i * 3 + 3 ≤ length (now pos)) × (j * 3 + 3 ≤ length (now «rot_pos»)) × Fit cell reach ⌝ }
     ensures { λ r. ⌜ r ≡ nearOf cell (now (pos .entry)) (now («rot_pos» .entry)) i j ⌝ }
 {
-    let a = i * 3;
-    let b = j * 3;
     let f = cell.periodic;
-    let x = difference(f[0], pos[a], rot_pos[b]);
-    let y = difference(f[1], pos[a + 1], rot_pos[b + 1]);
-    let z = difference(f[2], pos[a + 2], rot_pos[b + 2]);
+    let x = difference(f[0], pos[with_leg(i, 3, 0)], rot_pos[with_leg(j, 3, 0)]);
+    let y = difference(f[1], pos[with_leg(i, 3, 1)], rot_pos[with_leg(j, 3, 1)]);
+    let z = difference(f[2], pos[with_leg(i, 3, 2)], rot_pos[with_leg(j, 3, 2)]);
     let l = cell.lattice;
     shorter(l, cell.symprec, reach, x, y, z)
 }

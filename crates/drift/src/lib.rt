@@ -1,16 +1,14 @@
-// The drift report of a full set (document 01, "Drift report"; document 02, A.4): how far its rows and its columns are from adding up to zero.
-mod scan;
-mod seen;
+// Drift reports (document 01, "Drift report"; document 02, A.4): how far the rows and the columns of a set are from adding up to zero. What is known of
+// the sums that were looked at, and the report from it.
+pub mod seen;
 
 use places::last_leg;
 use places::legs_before;
-use scan::scan_set;
 use seen::Seen;
 use tables::Answer;
 use tables::Refusal;
 ghost use mathlib.Core.Path.{_≡_};
-ghost use lib.ListN.{length};
-ghost use Rattle.drift.specs.Drift.{numberOf, valueOf, alongNumber, answerOf, alongOf, atomOf, reportAt, stillReport, judgedDrift, driftReport};
+ghost use Rattle.drift.specs.Drift.{numberOf, valueOf, alongNumber, answerOf, alongOf, atomOf, reportAt, stillReport};
 ghost use Rattle.drift.specs.Loops as loops;
 
 // Still: all sums are zero. Worst: the largest absolute value of a sum. NoNumber: a sum is NaN.
@@ -129,7 +127,8 @@ fn still() -> DriftReport
     }
 }
 
-fn conclude(n: usize, c: Seen) -> DriftReport
+// The report from what was seen of the sums.
+pub fn conclude(n: usize, c: Seen) -> DriftReport
     ensures { λ r. ⌜ r ≡ loops.concluded n c ⌝ }
 {
     if c.none {
@@ -139,30 +138,4 @@ fn conclude(n: usize, c: Seen) -> DriftReport
         return still();
     }
     report_at(n, Drift::Worst(c.worst), c.at)
-}
-
-fn judge_drift(len: usize, n: usize) -> Answer
-    ensures { λ r. ⌜ r ≡ judgedDrift «len» n ⌝ }
-{
-    if n > tables::limits::LIMIT2 {
-        return Answer::Refused(Refusal::CountAboveLimit);
-    }
-    if len != n * n * 9 {
-        return Answer::Refused(Refusal::WrongLength);
-    }
-    Answer::Done
-}
-
-// The drift of each row sum over the second atom and of each column sum over the first, and its place.
-pub fn drift_report(fc: &[f64], n_satom: usize) -> DriftAnswer
-    ensures { λ r. ⌜ r ≡ driftReport (now (fc .entry)) «n_satom» ⌝ }
-{
-    let a = judge_drift(fc.len(), n_satom);
-    match a {
-        Answer::Refused(r) => DriftAnswer::Refused(r),
-        Answer::Done => {
-            let seen = scan_set(fc, n_satom);
-            DriftAnswer::Report(conclude(n_satom, seen))
-        }
-    }
 }

@@ -10,7 +10,7 @@ use lib.ListN.{length, getD}
 use lib.Ieee.{Float, nan}
 use lib.Dec.{eqb}
 use borrow.Author.Tests.{eqb-true, lt-ltb, le-ltb, ne-eqb}
-use Rattle.lists.specs.Tab.{tab, times, times-nest, times-same, getD-tab}
+use Rattle.lists.specs.Tab.{times, times-nest, times-same}
 use Rattle.lists.specs.Elements.{Below, all-at, pick}
 use Rattle.lists.specs.Digits.{horner, room, rest, digits, quotient, remainder}
 use Rattle.tables.specs.Shifts.{Shifts, Laws, p2sAt}
@@ -23,7 +23,7 @@ use Rattle.places.specs.ReadOuts.{storedIn, stored-in}
 use Rattle.orbits.specs.Blockwise.{inBlock}
 use Rattle.orbits.specs.Counterparts.{Blocks, Paired, visit, workedOver}
 use Rattle.orbits.specs.BlockPairs.{joinedPair, pair-is}
-use Rattle.orbits.specs.Transposed.{counterpart, blocksBy, counterpart-below, paired, permuted-is-below}
+use Rattle.orbits.specs.Transposed.{counterpart, blocksBy, counterpart-below, paired}
 use Rattle.orbits.specs.AtBlocks.{counterpart-at}
 use Rattle.orbits.specs.Trading.{theOther, never, staysAt, moves}
 use Rattle.blocks.specs.Permuted.{permuted}
@@ -31,15 +31,17 @@ use Rattle.half_shifts.specs.Exchanging.{exchanging, exchanging-permutes, excha
 use Rattle.half_shifts.specs.HalfShift.{Sound, Trading, block-in, PairAt}
 use Rattle.half_shifts.specs.TrueTransposes.{swapped}
 use Rattle.half_shifts.specs.Moved.{stayIf, stay-if}
-use Rattle.blocks_fc4.specs.Written.{Inside81, FirstTwo, same-positions}
-use Rattle.legs_fc4.specs.Rows.{first-two}
+use Rattle.blocks_fc4.specs.Pairs.{fromPairs, Inside54, FirstTwo, same-positions}
+use Rattle.legs_fc4.specs.Rows.{pairRow, takenTo, first-two, pairs-in, exchanges-legs}
 
--- an order of four legs that undoes itself and moves leg 1 to leg 0 only where no other moves, and where the numbers of a block come from under it
+-- an order of four legs that undoes itself and moves leg 1 to leg 0 only where no other moves, and the pairs of numbers of a block that change places
+-- under it
 pub record Swap (o m : List ℕ) : Type 0 where
   pub isOrder : Permutation 3 o
   pub twice : (xs : List Leg) → length xs ≡ 4 → taken o (taken o xs) ≡ xs
   pub runs : getD o 0 0 ≡ 1 → o ≡ order4 0
-  pub sources : m ≡ tab 81 (permuted 3 o)
+  pub inside : Inside54 m
+  pub exchanges : (k : ℕ) → k < 81 → fromPairs m 27 k ≡ permuted 3 o k
 
 -- atoms of a block, and its number
 abbrev pub Atoms : ShiftTables → ℕ → ℕ → ℕ → ℕ → Type 0
@@ -66,17 +68,9 @@ plane4 h o T q xs = times (T .nSatom) (λ k. line4 h o T q k) xs
 unfoldable pub pairs4 : Bool → List ℕ → ShiftTables → List Float → List Float
 pairs4 h o T xs = times (T .nPatom * T .nSatom) (λ q. plane4 h o T q) xs
 
--- ---- the positions
-
-module _ (o m : List ℕ) (W : Swap o m) where
-  pub source-is : (k : ℕ) → k < 81 → getD m k 0 ≡ permuted 3 o k
-  source-is k h = ap (λ m. getD m k 0) (W .sources) ∙ getD-tab 81 (permuted 3 o) k 0 h
-
-  pub inside : Inside81 m
-  inside k h = rw (source-is k h) (rw in81 at (permuted-is-below 3 o k (W .isOrder) (rw in81 h)))
-
-  pub in-runs : eqb (getD o 0 0) 1 ≡ true → FirstTwo m
-  in-runs e k h = source-is k h ∙ ap (λ o. permuted 3 o k) (W .runs (eqb-true (getD o 0 0) 1 e))
+-- where leg 1 comes to stand at leg 0, the pairs exchange the first two directions
+pub in-runs : (o m : List ℕ) → Swap o m → eqb (getD o 0 0) 1 ≡ true → FirstTwo m
+in-runs o m W e k h = W .exchanges k h ∙ ap (λ o. permuted 3 o k) (W .runs (eqb-true (getD o 0 0) 1 e))
 
 -- ---- THE LOOPS LEAVE THE MOVED SET
 
@@ -89,8 +83,9 @@ one-loop h o T xs =
     sym (times-nest (T .nPatom * n * n) n f xs ∙ times-nest (T .nPatom * n) n (λ x. times n (λ l. f (x * n + l))) xs)
 
 -- two legs
-pub two-legs : (a b : ℕ) → a < 4 → b < 4 → {o m : List ℕ} → o ≡ exchanging 3 a b → m ≡ tab 81 (permuted 3 (exchanging 3 a b)) → Swap o m
-two-legs a b ha hb {o} {m} e f = rw e (record { isOrder = exchanging-permutes 3 a b ha hb; twice = exchanging-twice 3 a b ha hb; runs = first-two a b; sources = f })
+pub two-legs : (a b : ℕ) → a < 4 → b < 4 → (a ≡ b → ⊥) → {o m : List ℕ} → o ≡ exchanging 3 a b → m ≡ takenTo (pairRow a b) → Swap o m
+two-legs a b ha hb n {o} {m} e f =
+    rw (e, f) (record { isOrder = exchanging-permutes 3 a b ha hb; twice = exchanging-twice 3 a b ha hb; runs = first-two a b; inside = pairs-in a b ha hb n; exchanges = exchanges-legs a b ha hb n })
 
 pub swaps : (a b : ℕ) (T : ShiftTables) → a < 4 → b < 4 → (a ≡ b → ⊥) → Laws (shiftsOf T) → (old : List Float) → length old ≡ size (shiftsOf T) 3
     → pairs4 false (exchanging 3 a b) T old ≡ swapped (shiftsOf T) 3 (a, b) old
@@ -157,11 +152,11 @@ module _ (lenSet : ℕ) (T : ShiftTables) (o m : List ℕ) (W : Swap o m) (p i j
       let g : c < room n 3 (T .nPatom) = rw found (counterpart-below S L 3 o (W .isOrder) (at4 T p j k l) at-below) in
       (block-in T (M .trading) 81 in81 b (rw own at-below), block-in T (M .trading) 81 in81 c g)
 
-  pub found-now : b ≤ c → (xs : List Float) {new : List Float} → new ≡ joinedPair theOther 81 (λ k. getD m k 0) b c xs → new ≡ tradeAt false o T (at4 T p j k l) xs
+  pub found-now : b ≤ c → (xs : List Float) {new : List Float} → new ≡ joinedPair theOther 81 (fromPairs m 27) b c xs → new ≡ tradeAt false o T (at4 T p j k l) xs
   unfolding tradeAt visit stayIf
   found-now h xs e =
       let a = at4 T p j k l in
-      e ∙ same-positions (λ k. getD m k 0) (permuted 3 o) (source-is o m W) b c xs ∙ ap₂ (λ b c. joinedPair theOther 81 (permuted 3 o) b c xs) own found
+      e ∙ same-positions (fromPairs m 27) (permuted 3 o) (W .exchanges) b c xs ∙ ap₂ (λ b c. joinedPair theOther 81 (permuted 3 o) b c xs) own found
       ∙ ap (λ w. joinedPair theOther w (permuted 3 o) a (counterpart S 3 o a) xs) (sym in81)
       ∙ pair-is theOther (blocksBy S 3 o never) (paired S L 3 o (W .isOrder) (W .twice) nan theOther never (λ b g. refl)) xs a at-below
       ∙ sym (rw (le-ltb (counterpart S 3 o a) a (rw (← found, ← own) h)) refl)

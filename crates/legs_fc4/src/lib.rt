@@ -6,13 +6,11 @@ ghost use mathlib.Core.Path.{_≡_};
 ghost use mathlib.Core.Bool.{false};
 ghost use Prim.Native.Nat.{_+_, _*_, _<_};
 ghost use lib.ListN.{length, getD};
-ghost use Rattle.lists.specs.Tab.{tab};
 ghost use Rattle.tables.specs.Compact.{shiftTables};
-ghost use Rattle.blocks.specs.Permuted.{permuted as permutedBy};
 ghost use Rattle.half_shifts.specs.Exchanging.{partner as partnerOf, exchanging};
 ghost use Rattle.half_shifts.specs.HalfShift.{Trading, PairAt};
-ghost use Rattle.positions.specs.Positions.{addressTable, permutationAt};
-ghost use Rattle.legs_fc4.specs.Rows.{swapRows};
+ghost use Rattle.positions.specs.Positions.{addressTable};
+ghost use Rattle.legs_fc4.specs.Rows.{firstPairs, pairRows, pairRow, takenTo};
 ghost use Rattle.legs_fc4.specs.Loops.{Swap, at4, tradeAt, line4, plane4, pairs4};
 use blocks_fc4::exchange;
 use half_shifts::stays;
@@ -20,27 +18,93 @@ use places::block4;
 use places::last_leg;
 use places::legs_before;
 use places::read_out4;
+use places::with_leg;
 use positions::addresses;
 use positions::entry;
 use tables::atoms::PrimAtom;
 use tables::atoms::SuperAtom;
 use tables::atoms::p2s_at;
 
-// Which of the 24 permutations exchanges legs a and b, at 4 a + b.
-const SWAP_ROWS: [usize; 16] = [0, 6, 14, 21, 6, 0, 2, 5, 14, 2, 0, 1, 21, 5, 1, 0];
+// Positions of the 27 pairs of numbers of a block that change places where its first two directions do, and of their partners 27 places on: (0, 1, c, d),
+// (0, 2, c, d) and (1, 2, c, d), and (1, 0, c, d), (2, 0, c, d) and (2, 1, c, d).
+const FIRST_PAIRS: [u8; 54] = [
+    9,
+    10,
+    11,
+    12,
+    13,
+    14,
+    15,
+    16,
+    17,
+    18,
+    19,
+    20,
+    21,
+    22,
+    23,
+    24,
+    25,
+    26,
+    45,
+    46,
+    47,
+    48,
+    49,
+    50,
+    51,
+    52,
+    53,
+    27,
+    28,
+    29,
+    30,
+    31,
+    32,
+    33,
+    34,
+    35,
+    54,
+    55,
+    56,
+    57,
+    58,
+    59,
+    60,
+    61,
+    62,
+    63,
+    64,
+    65,
+    66,
+    67,
+    68,
+    69,
+    70,
+    71,
+];
 
-fn swap_rows() -> [usize; 16]
-    ensures { λ r. ⌜ r ≡ swapRows ⌝ }
+fn first_pairs() -> [u8; 54]
+    ensures { λ r. ⌜ r ≡ firstPairs ⌝ }
 {
-    SWAP_ROWS
+    FIRST_PAIRS
 }
 
-fn swap_row(leg_a: usize, leg_b: usize) -> usize
-    requires { ⌜ («leg_a» < 4) × («leg_b» < 4) ⌝ }
-    ensures { λ r. ⌜ (r < 24) × (permutationAt r ≡ exchanging 3 «leg_a» «leg_b») ⌝ }
+// Which of the 24 permutations takes directions 0 and 1 to legs a and b, in row a and column b.
+const PAIR_ROWS: [usize; 16] = [0, 0, 2, 3, 0, 0, 12, 13, 2, 12, 0, 16, 3, 13, 16, 0];
+
+fn pair_rows() -> [usize; 16]
+    ensures { λ r. ⌜ r ≡ pairRows ⌝ }
 {
-    let rows = swap_rows();
-    rows[leg_a * 4 + leg_b]
+    PAIR_ROWS
+}
+
+fn pair_row(leg_a: usize, leg_b: usize) -> usize
+    requires { ⌜ («leg_a» < 4) × («leg_b» < 4) ⌝ }
+    ensures { λ r. ⌜ r ≡ pairRow «leg_a» «leg_b» ⌝ }
+{
+    let rows = pair_rows();
+    rows[with_leg(leg_a, 4, leg_b)]
 }
 
 // The leg that comes to stand at leg k.
@@ -68,16 +132,18 @@ fn order_of(leg_a: usize, leg_b: usize) -> [usize; 4]
     ]
 }
 
-// Where the 81 numbers of a block come from once their directions are taken in permutation s.
-fn sources(t: &[u8; 1944], s: usize) -> [u8; 81]
+// The 27 pairs of numbers of a block that change places where two of its directions do: those of the first two directions, taken to the legs by row s of
+// the table.
+fn pairs_by(t: &[u8; 1944], s: usize) -> [u8; 54]
     requires { ⌜ (now t ≡ addressTable) × (s < 24) ⌝ }
-    ensures { λ r. ⌜ r ≡ tab 81 (permutedBy 3 (permutationAt s)) ⌝ }
+    ensures { λ r. ⌜ r ≡ takenTo s ⌝ }
 {
-    let mut m = [0u8; 81];
-    let mut k = 0;
-    while k < 81 {
-        m[k] = entry(t, s, k);
-        k += 1;
+    let first = first_pairs();
+    let mut m = [0u8; 54];
+    let mut n = 0;
+    while n < 54 {
+        m[n] = entry(t, s, first[n] as usize);
+        n += 1;
     }
     m
 }
@@ -102,7 +168,7 @@ fn trade(
     n_patom: usize,
     num_trans: usize,
     o: &[usize; 4],
-    m: &[u8; 81],
+    m: &[u8; 54],
     p: PrimAtom,
     i: SuperAtom,
     j: SuperAtom,
@@ -141,7 +207,7 @@ fn line(
     n_patom: usize,
     num_trans: usize,
     o: &[usize; 4],
-    m: &[u8; 81],
+    m: &[u8; 54],
     p: PrimAtom,
     i: SuperAtom,
     j: SuperAtom,
@@ -185,7 +251,7 @@ fn plane(
     n_patom: usize,
     num_trans: usize,
     o: &[usize; 4],
-    m: &[u8; 81],
+    m: &[u8; 54],
     p: PrimAtom,
     i: SuperAtom,
     j: SuperAtom,
@@ -227,7 +293,7 @@ fn pair(
     num_trans: usize,
     half_shifts_stay: bool,
     o: &[usize; 4],
-    m: &[u8; 81],
+    m: &[u8; 54],
     q: usize,
 )
     requires { ⌜ Trading 3 (length (now fc4)) (shiftTables (now p2s) (now s2pp) (now «nsym_list») (now perms) «n_satom» «n_patom» «num_trans») × (q < «n_patom» * «n_satom») × Swap (now o) (now m) ⌝ }
@@ -281,7 +347,7 @@ fn pairs(
     num_trans: usize,
     half_shifts_stay: bool,
     o: &[usize; 4],
-    m: &[u8; 81],
+    m: &[u8; 54],
 )
     requires { ⌜ Trading 3 (length (now fc4)) (shiftTables (now p2s) (now s2pp) (now «nsym_list») (now perms) «n_satom» «n_patom» «num_trans») × Swap (now o) (now m) ⌝ }
     ensures { λ _. ⌜ now (fc4 .exit) ≡ pairs4 «half_shifts_stay» (now (o .entry)) (shiftTables (now (p2s .entry)) (now (s2pp .entry)) (now («nsym_list» .entry)) (now (perms .entry)) «n_satom» «n_patom» «num_trans») (now (fc4 .entry)) ⌝ }
@@ -307,7 +373,7 @@ fn pairs(
     }
 }
 
-// Legs a and b of every number change places, but for blocks that stay.
+// Legs a and b of every number, two different ones, change places, but for blocks that stay.
 pub fn exchange_legs(
     fc4: &mut [f64],
     p2s: &[i64],
@@ -321,12 +387,12 @@ pub fn exchange_legs(
     leg_a: usize,
     leg_b: usize,
 )
-    requires { ⌜ Trading 3 (length (now fc4)) (shiftTables (now p2s) (now s2pp) (now «nsym_list») (now perms) «n_satom» «n_patom» «num_trans») × («leg_a» < 4) × («leg_b» < 4) ⌝ }
+    requires { ⌜ Trading 3 (length (now fc4)) (shiftTables (now p2s) (now s2pp) (now «nsym_list») (now perms) «n_satom» «n_patom» «num_trans») × («leg_a» < 4) × («leg_b» < 4) × («leg_a» ≡ «leg_b» → ⊥) ⌝ }
     ensures { λ _. ⌜ now (fc4 .exit) ≡ pairs4 «half_shifts_stay» (exchanging 3 «leg_a» «leg_b») (shiftTables (now (p2s .entry)) (now (s2pp .entry)) (now («nsym_list» .entry)) (now (perms .entry)) «n_satom» «n_patom» «num_trans») (now (fc4 .entry)) ⌝ }
 {
     let o = order_of(leg_a, leg_b);
     let t = addresses();
-    let m = sources(&t, swap_row(leg_a, leg_b));
+    let m = pairs_by(&t, pair_row(leg_a, leg_b));
     pairs(
         fc4,
         p2s,

@@ -12,6 +12,7 @@ use super::integer_word;
 use super::mix;
 use super::wide;
 use super::word_of;
+use places::with_leg;
 
 // For each of sixteen kinds of set the classes of sixteen numbers, one of which is drawn. 0: an ordinary number,
 // 1: a zero of either sign, 2: a subnormal number, 3: a huge one, 4: an infinity, 5: NaN, 6: any pattern, 7: -0.0,
@@ -334,7 +335,7 @@ fn class(kind: u64, a: u64) -> u64
     ensures { λ r. ⌜ r ≡ classOf kind a ⌝ }
 {
     let t = CLASSES;
-    t[(kind % 16 * 16 + a % 16) as usize]
+    t[with_leg((kind % 16) as usize, 16, (a % 16) as usize)]
 }
 
 // The pattern b as that of a number of the class.

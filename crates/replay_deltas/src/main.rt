@@ -118,9 +118,9 @@ fn step(t: Tally, r: &[u8], set: &mut [f64], work: &mut [f64]) -> Tally {
     replays::compared(t, r, got[0], &got)
 }
 
-// The records of a page, after those of the pages before.
-fn replay(s: &[u8], so_far: Tally, set: &mut [f64], work: &mut [f64]) -> Tally {
-    let mut t = so_far;
+// The records of a page.
+fn replay(s: &[u8], set: &mut [f64], work: &mut [f64]) -> Tally {
+    let mut t = replays::none();
     let n = records::count(s);
     let mut at = first(s);
     let mut i = 0;
@@ -134,21 +134,11 @@ fn replay(s: &[u8], so_far: Tally, set: &mut [f64], work: &mut [f64]) -> Tally {
     t
 }
 
-fn read_page(so_far: Tally, set: &mut [f64], work: &mut [f64]) -> Tally {
-    let mut page = io::large_buffer();
-    let n = io::read_full(0, &mut page);
-    replay(&page[..n], so_far, set, work)
-}
-
-fn two_pages(so_far: Tally, set: &mut [f64], work: &mut [f64]) -> Tally {
-    let t = read_page(so_far, set, work);
-    read_page(t, set, work)
-}
-
-// No file has more than four pages: the report would not have the records of a fifth.
+// No file has more than one page: the report would not have the records of a second.
 fn main() {
     let mut set = [0.0f64; 6144];
     let mut work = [0.0f64; 1024];
-    let t = two_pages(replays::none(), &mut set, &mut work);
-    replays::report(b"rotated", two_pages(t, &mut set, &mut work));
+    let mut page = io::large_buffer();
+    let n = io::read_full(0, &mut page);
+    replays::report(b"rotated", replay(&page[..n], &mut set, &mut work));
 }

@@ -55,9 +55,9 @@ fn step(t: Tally, r: &[u8], set: &mut [f64]) -> Tally {
     replays::compared(t, r, got[0], &got)
 }
 
-// The records of a page, after those of the pages before.
-fn replay(s: &[u8], so_far: Tally, set: &mut [f64]) -> Tally {
-    let mut t = so_far;
+// The records of a page.
+fn replay(s: &[u8], set: &mut [f64]) -> Tally {
+    let mut t = replays::none();
     let n = records::count(s);
     let mut at = first(s);
     let mut i = 0;
@@ -71,20 +71,10 @@ fn replay(s: &[u8], so_far: Tally, set: &mut [f64]) -> Tally {
     t
 }
 
-fn read_page(so_far: Tally, set: &mut [f64]) -> Tally {
-    let mut page = io::large_buffer();
-    let n = io::read_full(0, &mut page);
-    replay(&page[..n], so_far, set)
-}
-
-fn two_pages(so_far: Tally, set: &mut [f64]) -> Tally {
-    let t = read_page(so_far, set);
-    read_page(t, set)
-}
-
-// No file has more than four pages: the report would not have the records of a fifth.
+// No file has more than one page: the report would not have the records of a second.
 fn main() {
     let mut set = [0.0f64; 32768];
-    let t = two_pages(replays::none(), &mut set);
-    replays::report(b"distributed", two_pages(t, &mut set));
+    let mut page = io::large_buffer();
+    let n = io::read_full(0, &mut page);
+    replays::report(b"distributed", replay(&page[..n], &mut set));
 }

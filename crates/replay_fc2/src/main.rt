@@ -1,11 +1,10 @@
-// Replays what the Rust answered for full sets and the distributor of second order, and the drift report, which the Rust
-// does not have, all through their C names. Its input are pages of records, which oracle/ makes; oracle/README.md says
-// what the words of a record are. The numbers of sets, work slices and rotations are made from the record's seed. It
-// writes how many calls were compared, how many differ in the answer or in what a slice holds afterwards, how many there
-// are of each answer, and a checksum of the inputs and of all that was worked out from them.
+// Replays what the Rust answered for full sets and the distributor of second order, through their C names. Its input are
+// pages of records, which oracle/ makes; oracle/README.md says what the words of a record are. The numbers of sets, work
+// slices and rotations are made from the record's seed. It writes how many calls were compared, how many differ in the
+// answer or in what a slice holds afterwards, how many there are of each answer, and a checksum of the inputs and of all
+// that was worked out from them.
 ghost use Prim.Native.Nat.{_≤_};
 use capi_fc2::gf_distribute_fc2;
-use capi_fc2::gf_drift_report;
 use capi_fc2::gf_perm_trans_symmetrize_fc;
 use records::steps::count_of;
 use records::steps::ends;
@@ -16,9 +15,8 @@ use records::values;
 use records::wide;
 use replays::Tally;
 
-// What came of a call: its answer, and three words. The checksums of the set and of the work slice, and 0; of the drift
-// report its case, its value and its place.
-type Outcome = [u64; 4];
+// What came of a call: its answer, and the checksums of the set and of the work slice.
+type Outcome = [u64; 3];
 
 // The seed of the set is that of the record; those of the work slice and of the rotations are the next ones.
 fn seed(r: &[u8], k: u64) -> u64 {
@@ -28,45 +26,7 @@ fn seed(r: &[u8], k: u64) -> u64 {
 // perm_trans_symmetrize_fc.
 fn full(r: &[u8], set: &mut [f64]) -> Outcome {
     let a = gf_perm_trans_symmetrize_fc(set, count_of(r, 10), count_of(r, 13));
-    [wide(a), values::mix_floats(set, 0), 0, 0]
-}
-
-// The line of a place: rows or columns, and the atom.
-fn line_word(along: usize, atom: usize) -> usize
-    ensures { λ r. ⌜ r ≤ 16383 ⌝ }
-{
-    2048 * size(along as u64, 7) + size(atom as u64, 2047)
-}
-
-// Two directions.
-fn directions(k: usize, l: usize) -> usize
-    ensures { λ r. ⌜ r ≤ 63 ⌝ }
-{
-    8 * size(k as u64, 7) + size(l as u64, 7)
-}
-
-// The place of a report in one word.
-fn place_word(place: [usize; 4]) -> u64 {
-    (64 * line_word(place[0], place[1]) + directions(place[2], place[3])) as u64
-}
-
-// A report's answer is 0, and its case the C name's number; of a refusal the case is 0.
-fn reported(a: u64, value: f64, place: [usize; 4]) -> Outcome {
-    let v = records::float_word(value);
-    let p = place_word(place);
-    if a < 65 {
-        return [a, 0, v, p];
-    }
-    [0, a, v, p]
-}
-
-// drift_report. Its slots hold 7 before the call.
-fn drift(r: &[u8], set: &[f64]) -> Outcome {
-    let n = count_of(r, 10);
-    let mut value = [7.0f64; 1];
-    let mut place = [7usize; 4];
-    let a = wide(gf_drift_report(set, &mut value, &mut place, n));
-    reported(a, value[0], place)
+    [wide(a), values::mix_floats(set, 0), 0]
 }
 
 // Where each of the five tables of the distributor ends, atom_list, fc_indices_of_atom_list, permutations, map_atoms and map_syms: they stand
@@ -143,7 +103,6 @@ fn distribute_work(
         a,
         values::mix_floats(set, 0),
         values::mix_integers(reverse, 0),
-        0,
     ]
 }
 
@@ -162,9 +121,6 @@ fn with_set(r: &[u8], set: &mut [f64]) -> Outcome {
     if count_of(r, 1) == 1 {
         return full(r, set);
     }
-    if count_of(r, 1) == 5 {
-        return drift(r, set);
-    }
     with_tables(r, set)
 }
 
@@ -177,7 +133,7 @@ fn came_of(r: &[u8]) -> Outcome {
 // The record r.
 fn step(t: Tally, r: &[u8]) -> Tally {
     let o = came_of(r);
-    let got = [records::word_of(r, 1), o[0], o[1], o[2], o[3]];
+    let got = [records::word_of(r, 1), o[0], o[1], o[2], 0];
     replays::compared(t, r, o[0], &got)
 }
 
@@ -203,13 +159,8 @@ fn read_page(so_far: Tally) -> Tally {
     replay(&page[..n], so_far)
 }
 
-fn two_pages(so_far: Tally) -> Tally {
-    let t = read_page(so_far);
-    read_page(t)
-}
-
-// No file has more than four pages: the report would not have the records of a fifth.
+// No file has more than two pages: the report would not have the records of a third.
 fn main() {
-    let t = two_pages(replays::none());
-    replays::report(b"second order", two_pages(t));
+    let t = read_page(replays::none());
+    replays::report(b"second order", read_page(t));
 }

@@ -126,26 +126,40 @@ module _ (n : ℕ) (g : Register) (p : Sound n g) where
       unknown : g .delivered x ≡ false → answer (suc n) g x ≡ cond (g .delivered x && (heldBack n g x && not (g .retired (endOf n g x)))) (Current (endOf n g x)) (formerAnswer (suc n) g x)
       unknown d = not-delivered n g x d ∙ sym (ap (λ t. cond (t && (heldBack n g x && not (g .retired (endOf n g x)))) (Current (endOf n g x)) (formerAnswer (suc n) g x)) d)
 
--- ---- a roll
+-- ---- any bytes
 
-module _ (b : List ℕ) (R : isRoll b ≡ true) (L : lawful (entriesOf b) ≡ true) (x : ℕ) where
+module _ (b : List ℕ) (x : ℕ) where
   abbrev rs : List Entry
   rs = entriesOf b
 
   abbrev last : ℕ
   last = endOf (length rs) (registerOf rs) x
 
-  -- the set was delivered, a retired set that was also replaced stands in its chain from it onward, and the end is not retired
+  -- the bytes are a roll to which 9 does not apply, the set was delivered, a retired set that was also replaced stands in its chain from it
+  -- onward, and the end is not retired
   abbrev pub Turned : Bool
-  Turned = registerOf rs .delivered x && (heldBack (length rs) (registerOf rs) x && not (registerOf rs .retired last))
+  Turned =
+      isRoll b && (lawful rs && (registerOf rs .delivered x
+      && (heldBack (length rs) (registerOf rs) x && not (registerOf rs .retired last))))
 
-  is-sound : Sound (length rs) (registerOf rs)
-  is-sound = subst (λ m. Sound m (registerOf rs)) (sym (entries-many b)) (sound-roll b R L)
+  is-sound : isRoll b ≡ true → lawful rs ≡ true → Sound (length rs) (registerOf rs)
+  is-sound r l = subst (λ m. Sound m (registerOf rs)) (sym (entries-many b)) (sound-roll b r l)
 
-  -- only those sets answer otherwise than under A.8: current, with the end of the chain
-  pub changes-just : standsNow b x ≡ cond Turned (Current last) (formerStandsNow b x)
+  no-roll : isRoll b ≡ false → standsNow b x ≡ cond Turned (Current last) (formerStandsNow b x)
   unfolding standsNow formerStandsNow
-  changes-just = rw (R, L, add-one (length rs)) (changes (length rs) (registerOf rs) is-sound x)
+  no-roll r = rw r refl
+
+  no-law : isRoll b ≡ true → lawful rs ≡ false → standsNow b x ≡ cond Turned (Current last) (formerStandsNow b x)
+  unfolding standsNow formerStandsNow
+  no-law r l = rw (r, l) refl
+
+  in-law : isRoll b ≡ true → lawful rs ≡ true → standsNow b x ≡ cond Turned (Current last) (formerStandsNow b x)
+  unfolding standsNow formerStandsNow
+  in-law r l = rw (r, l, add-one (length rs)) (changes (length rs) (registerOf rs) (is-sound r l) x)
+
+  -- only those sets answer otherwise than under A.8: current, with the end of the chain; what was refused is refused as before
+  pub changes-just : standsNow b x ≡ cond Turned (Current last) (formerStandsNow b x)
+  changes-just = ⊎-elim (λ r. ⊎-elim (in-law r) (no-law r) (split (lawful rs))) no-roll (split (isRoll b))
 
   -- and all of them do: they were said to be retired
   pub was-retired : Turned ≡ true → formerStandsNow b x ≡ Retired
@@ -154,4 +168,8 @@ module _ (b : List ℕ) (R : isRoll b ≡ true) (L : lawful (entriesOf b) ≡ tr
       let d = registerOf rs .delivered x in
       let h = heldBack (length rs) (registerOf rs) x in
       let o = not (registerOf rs .retired last) in
-      rw (R, L, add-one (length rs)) (held-retired (length rs) (registerOf rs) is-sound (length rs) x (and-fst d (h && o) t) (and-fst h o (and-snd d (h && o) t)))
+      let r : isRoll b ≡ true = and-fst (isRoll b) (lawful rs && (d && (h && o))) t in
+      let t′ = and-snd (isRoll b) (lawful rs && (d && (h && o))) t in
+      let l : lawful rs ≡ true = and-fst (lawful rs) (d && (h && o)) t′ in
+      let t″ = and-snd (lawful rs) (d && (h && o)) t′ in
+      rw (r, l, add-one (length rs)) (held-retired (length rs) (registerOf rs) (is-sound r l) (length rs) x (and-fst d (h && o) t″) (and-fst h o (and-snd d (h && o) t″)))

@@ -1,10 +1,19 @@
+use mathlib.Core.Path.{_≡_}
+use Prim.Native.Nat.{ℕ, _*_, _≤_}
 use borrow.Author.Tests.{lt-ltb, le-ltb, eq-eqb, ne-eqb}
+use Rattle.tables.specs.declared.Answer.the-variants.{Refused}
+use Rattle.tables.specs.declared.Refusal.the-variants.{WrongLength}
 use Rattle.cells.specs.Matching.{judged}
 use borrow.Author.Needs.{needs}
 use Rattle.cells.proofs.judge.Statement.{statement}
 use Rattle.cells.proofs.judge.Tie as tie
 use Rattle.cells.proofs.judge.Reads as reads
 use Rattle.cells.proofs.judge.Lts as lts
+
+-- the fact that an edit of the test for it breaks
+other-length : (lenSlots lenPos lenRot n : ℕ) → n ≤ 1024 → lenSlots ≡ n → lenPos ≡ 3 * n → (lenRot ≡ 3 * n → ⊥) → Refused WrongLength ≡ judged lenSlots lenPos lenRot n
+unfolding judged
+other-length s p r n h1 h2 h3 h4 = simp (le-ltb _ _ h1, eq-eqb _ _ h2, eq-eqb _ _ h3, ne-eqb _ _ h4)
 
 returns : tie.Need-returns
 unfolding judged
@@ -25,8 +34,9 @@ mul-if4 : tie.Need-mul-if4
 mul-if4 c = search needs
 
 returns-4 : tie.Need-returns-4
-unfolding judged
-returns-4 c = simp (le-ltb _ _ (c .before .before .before .if1 .left), eq-eqb _ _ (c .before .before .if2 .left), eq-eqb _ _ (c .before .if3 .left), ne-eqb _ _ (c .if4 .taken))
+returns-4 c =
+    let a = c .before .before .before .before .args in
+    other-length (a .len-slots) (a .len-pos) (a .len-rot) (a .num-pos) (c .before .before .before .if1 .left) (c .before .before .if2 .left) (c .before .if3 .left) (c .if4 .taken)
 
 returns-5 : tie.Need-returns-5
 unfolding judged

@@ -1,32 +1,62 @@
 -- `distances::distance_of` meets its contract. Assumes nothing.
+use native.Mathlib.Omega.{arith}
 use Rattle.distances.specs.Near.{distance2, distance}
 use Rattle.distances.proofs.Numbers.{rests-of}
-use native.Mathlib.Nat.{add-zero}
 use borrow.Author.Needs.{needs}
 use Rattle.distances.proofs.distance_of.Statement.{statement}
 use Rattle.distances.proofs.distance_of.Tie as tie
 
+with-leg-requires : tie.Need-with-leg-requires
+with-leg-requires c κs = let s = c .before .before .before in omega (arith, s .pre .0, s .pre .1)
+
+with-leg-requires-2 : tie.Need-with-leg-requires-2
+with-leg-requires-2 c κs = let s = c .before .before .before .before .before in omega (arith, s .pre .0, s .pre .1)
+
+with-leg-requires-3 : tie.Need-with-leg-requires-3
+with-leg-requires-3 c κs = let s = c .before .before .before .before .before .before .before .before in omega (arith, s .pre .0, s .pre .1)
+
+with-leg-requires-4 : tie.Need-with-leg-requires-4
+with-leg-requires-4 c κs = let s = c .before .before .before .before .before .before .before .before .before .before in omega (arith, s .pre .0, s .pre .1)
+
+with-leg-requires-5 : tie.Need-with-leg-requires-5
+with-leg-requires-5 c κs = let s = c .before .before .before .before .before .before .before .before .before .before .before .before .before in omega (arith, s .pre .0, s .pre .1)
+
+with-leg-requires-6 : tie.Need-with-leg-requires-6
+with-leg-requires-6 c κs = let s = c .before .before .before .before .before .before .before .before .before .before .before .before .before .before .before in omega (arith, s .pre .0, s .pre .1)
+
+shared-slice-read-difference : tie.Need-shared-slice-read-difference
+shared-slice-read-difference c = let s = c .before .before .before .before .before in rw (c .before .with-leg .ensures) (omega (arith, s .pre .0, s .pre .1))
+
+shared-slice-read-difference-2 : tie.Need-shared-slice-read-difference-2
+shared-slice-read-difference-2 c = let s = c .before .before .before .before .before .before .before in rw (c .before .with-leg2 .ensures) (omega (arith, s .pre .0, s .pre .1))
+
+shared-slice-read-difference-3 : tie.Need-shared-slice-read-difference-3
+shared-slice-read-difference-3 c = let s = c .before .before .before .before .before .before .before .before .before .before in rw (c .before .with-leg3 .ensures) (omega (arith, s .pre .0, s .pre .1))
+
+shared-slice-read-difference-4 : tie.Need-shared-slice-read-difference-4
+shared-slice-read-difference-4 c = let s = c .before .before .before .before .before .before .before .before .before .before .before .before in rw (c .before .with-leg4 .ensures) (omega (arith, s .pre .0, s .pre .1))
+
+shared-slice-read-difference-5 : tie.Need-shared-slice-read-difference-5
+shared-slice-read-difference-5 c = let s = c .before .before .before .before .before .before .before .before .before .before .before .before .before .before .before in rw (c .before .with-leg5 .ensures) (omega (arith, s .pre .0, s .pre .1))
+
+shared-slice-read-difference-6 : tie.Need-shared-slice-read-difference-6
+shared-slice-read-difference-6 c = let s = c .before .before .before .before .before .before .before .before .before .before .before .before .before .before .before .before .before in rw (c .before .with-leg6 .ensures) (omega (arith, s .pre .0, s .pre .1))
+
 short-requires : tie.Need-short-requires
 short-requires c κs =
-    let s = c .before .before .before .before .before .before .before .before .before .before .before .before .before in
+    let s = c .before .before .before .before .before .before .before .before .before .before .before .before .before .before .before .before .before .before .before in
     let f = s .pre .2 in (
       f .reaches,
       f .early-is,
       λ w h.
-          rests-of (s .args .cell .periodic) _ _ _ _ _ _ _ _ _ (c .before .before .before .before .before .before .before .difference .ensures) (c .before .before .before .before .difference2 .ensures) (c .before .difference3 .ensures)
+          rests-of (s .args .cell .periodic) _ _ _ _ _ _ _ _ _ (c .before .before .before .before .before .before .before .before .before .before .before .difference .ensures) (c .before .before .before .before .before .before .difference2 .ensures) (c .before .difference3 .ensures)
           (f .only-if w h),
     )
 
 returns : tie.Need-returns
 unfolding distance distance2
 returns c =
-    rw (add-zero, add-zero, c .short .ensures, c .before .before .difference3 .ensures, c .before .before .before .before .before .difference2 .ensures, c .before .before .before .before .before .before .before .before .difference .ensures)
-
-mul-a : tie.Need-mul-a
-mul-a c = search needs
-
-mul-b : tie.Need-mul-b
-mul-b c = search needs
+    rw (c .short .ensures, c .before .before .difference3 .ensures, c .before .before .before .before .before .before .before .difference2 .ensures, c .before .before .before .before .before .before .before .before .before .before .before .before .difference .ensures, c .before .before .before .before .before .before .before .before .before .before .before .before .before .before .before .before .with-leg .ensures, c .before .before .before .before .before .before .before .before .before .before .before .before .before .before .with-leg2 .ensures, c .before .before .before .before .before .before .before .before .before .before .before .with-leg3 .ensures, c .before .before .before .before .before .before .before .before .before .with-leg4 .ensures, c .before .before .before .before .before .before .with-leg5 .ensures, c .before .before .before .before .with-leg6 .ensures)
 
 array-read-difference : tie.Need-array-read-difference
 array-read-difference c = search needs
@@ -34,14 +64,8 @@ array-read-difference c = search needs
 mul-difference : tie.Need-mul-difference
 mul-difference c = search needs
 
-shared-slice-read-difference : tie.Need-shared-slice-read-difference
-shared-slice-read-difference c = search needs
-
 mul-difference-2 : tie.Need-mul-difference-2
 mul-difference-2 c = search needs
-
-shared-slice-read-difference-2 : tie.Need-shared-slice-read-difference-2
-shared-slice-read-difference-2 c = search needs
 
 difference-requires : tie.Need-difference-requires
 difference-requires c κs = search needs
@@ -49,23 +73,11 @@ difference-requires c κs = search needs
 array-read-difference-2 : tie.Need-array-read-difference-2
 array-read-difference-2 c = search needs
 
-add-difference : tie.Need-add-difference
-add-difference c = search needs
-
 mul-difference-3 : tie.Need-mul-difference-3
 mul-difference-3 c = search needs
 
-shared-slice-read-difference-3 : tie.Need-shared-slice-read-difference-3
-shared-slice-read-difference-3 c = search needs
-
-add-difference-2 : tie.Need-add-difference-2
-add-difference-2 c = search needs
-
 mul-difference-4 : tie.Need-mul-difference-4
 mul-difference-4 c = search needs
-
-shared-slice-read-difference-4 : tie.Need-shared-slice-read-difference-4
-shared-slice-read-difference-4 c = search needs
 
 difference-requires-2 : tie.Need-difference-requires-2
 difference-requires-2 c κs = search needs
@@ -73,26 +85,14 @@ difference-requires-2 c κs = search needs
 array-read-difference-3 : tie.Need-array-read-difference-3
 array-read-difference-3 c = search needs
 
-add-difference-3 : tie.Need-add-difference-3
-add-difference-3 c = search needs
-
 mul-difference-5 : tie.Need-mul-difference-5
 mul-difference-5 c = search needs
 
-shared-slice-read-difference-5 : tie.Need-shared-slice-read-difference-5
-shared-slice-read-difference-5 c = search needs
-
-add-difference-4 : tie.Need-add-difference-4
-add-difference-4 c = search needs
-
 mul-difference-6 : tie.Need-mul-difference-6
 mul-difference-6 c = search needs
-
-shared-slice-read-difference-6 : tie.Need-shared-slice-read-difference-6
-shared-slice-read-difference-6 c = search needs
 
 difference-requires-3 : tie.Need-difference-requires-3
 difference-requires-3 c κs = search needs
 
 pub distance-of-spec : {M : Type 1} → statement M
-distance-of-spec = tie.close (tie.spec mul-a mul-b array-read-difference mul-difference shared-slice-read-difference mul-difference-2 shared-slice-read-difference-2 difference-requires array-read-difference-2 add-difference mul-difference-3 shared-slice-read-difference-3 add-difference-2 mul-difference-4 shared-slice-read-difference-4 difference-requires-2 array-read-difference-3 add-difference-3 mul-difference-5 shared-slice-read-difference-5 add-difference-4 mul-difference-6 shared-slice-read-difference-6 difference-requires-3 short-requires returns)
+distance-of-spec = tie.close (tie.spec array-read-difference with-leg-requires mul-difference shared-slice-read-difference with-leg-requires-2 mul-difference-2 shared-slice-read-difference-2 difference-requires array-read-difference-2 with-leg-requires-3 mul-difference-3 shared-slice-read-difference-3 with-leg-requires-4 mul-difference-4 shared-slice-read-difference-4 difference-requires-2 array-read-difference-3 with-leg-requires-5 mul-difference-5 shared-slice-read-difference-5 with-leg-requires-6 mul-difference-6 shared-slice-read-difference-6 difference-requires-3 short-requires returns)

@@ -1,6 +1,9 @@
 use mathlib.Core.Path.{_≡_, refl, sym, ap, _∙_}
+use mathlib.Core.Bool.{true}
+use Prim.Native.Nat.{ℕ, _<_, _≤_}
 use native.Mathlib.Omega.{arith}
 use borrow.Author.Tests.{le-ltb, lt-ltb, eq-eqb, ne-eqb}
+use Rattle.distribute_fc2.specs.Fc2.{countsAbove}
 use Rattle.distribute_fc2.specs.Fc2Laws.{product-small}
 use Rattle.lists.specs.Tests.{or-last}
 use borrow.Author.Needs.{needs}
@@ -9,11 +12,15 @@ use Rattle.distribute_fc2.proofs.counts_above.Tie as tie
 use Rattle.distribute_fc2.proofs.counts_above.Reads as reads
 use Rattle.distribute_fc2.proofs.counts_above.Lts as lts
 
+-- the fact that an edit of the test for it breaks
+many-first : (numPos numFirst numRot lengthList : ℕ) → numPos ≤ 1024 → 1024 < numFirst → true ≡ countsAbove numPos numFirst numRot lengthList
+many-first numPos numFirst numRot lengthList h g = simp (le-ltb _ _ h, lt-ltb _ _ g)
+
 returns : tie.Need-returns
 returns c = simp (lt-ltb _ _ (c .if1 .taken))
 
 returns-2 : tie.Need-returns-2
-returns-2 c = simp (le-ltb _ _ (c .before .if1 .left), lt-ltb _ _ (c .if2 .taken))
+returns-2 c = let a = c .before .before .args in many-first (a .num-pos) (a .num-first) (a .num-rot) (a .list-length) (c .before .if1 .left) (c .if2 .taken)
 
 returns-3 : tie.Need-returns-3
 returns-3 c = simp (le-ltb _ _ (c .before .before .if1 .left), le-ltb _ _ (c .before .if2 .left), lt-ltb _ _ (c .if3 .taken))

@@ -1,25 +1,25 @@
 -- `legs_fc4::exchange_legs` meets its contract. Assumes nothing.
 use mathlib.Core.Path.{ap, _∙_}
-use Rattle.lists.specs.Tab.{tab}
 use Rattle.tables.specs.Compact.{shiftTables}
-use Rattle.blocks.specs.Permuted.{permuted}
+use Rattle.legs_fc4.specs.Rows.{takenTo, row-below}
 use Rattle.legs_fc4.specs.Loops.{pairs4, two-legs}
 use borrow.Author.Needs.{needs}
 use Rattle.legs_fc4.proofs.exchange_legs.Statement.{statement}
 use Rattle.legs_fc4.proofs.exchange_legs.Tie as tie
 
-swap-row-requires : tie.Need-swap-row-requires
-swap-row-requires c κs = let s = c .before .before .before .before in (s .pre .1, s .pre .2)
+pair-row-requires : tie.Need-pair-row-requires
+pair-row-requires c κs = let s = c .before .before .before .before in (s .pre .1, s .pre .2)
 
-sources-requires : tie.Need-sources-requires
-sources-requires c κs = (c .before .before .addresses .ensures, c .swap-row .ensures .0)
+pairs-by-requires : tie.Need-pairs-by-requires
+pairs-by-requires c κs =
+    let s = c .before .before .before .before .before in
+    (c .before .before .addresses .ensures, rw (c .pair-row .ensures) (row-below (s .args .leg-a) (s .args .leg-b) (s .pre .1) (s .pre .2) (s .pre .3)))
 
 pairs-requires : tie.Need-pairs-requires
 pairs-requires c κs =
     let s = c .before .before .before .before .before .before .before .before .before in (
       s .pre .0,
-      two-legs (s .args .leg-a) (s .args .leg-b) (s .pre .1) (s .pre .2) (c .before .before .before .before .before .before .before .order-of .ensures)
-          (c .before .before .before .sources .ensures ∙ ap (λ σ. tab 81 (permuted 3 σ)) (c .before .before .before .before .swap-row .ensures .1)),
+      two-legs (s .args .leg-a) (s .args .leg-b) (s .pre .1) (s .pre .2) (s .pre .3) (c .before .before .before .before .before .before .before .order-of .ensures) (c .before .before .before .pairs-by .ensures ∙ ap takenTo (c .before .before .before .before .pair-row .ensures)),
     )
 
 returns : tie.Need-returns
@@ -37,4 +37,4 @@ same-length : tie.Need-same-length
 same-length c = search needs
 
 pub exchange-legs-spec : {M : Type 1} → statement M
-exchange-legs-spec = tie.close (tie.spec order-of-requires addresses-requires swap-row-requires sources-requires pairs-requires same-length returns)
+exchange-legs-spec = tie.close (tie.spec order-of-requires addresses-requires pair-row-requires pairs-by-requires pairs-requires same-length returns)

@@ -3,7 +3,7 @@ use mathlib.Core.Path.{refl}
 use mathlib.Core.List.{[], _∷_}
 use lib.Dec.{lit<}
 use Rattle.half_shifts.specs.HalfShift.{prim-small, read-tables, rep-read}
-use Rattle.legs_fc4.specs.Loops.{leg-below, named-below, inside, in-runs, found-in, found-now, found-met}
+use Rattle.legs_fc4.specs.Loops.{leg-below, named-below, in-runs, found-in, found-now, found-met}
 use borrow.Author.Needs.{needs}
 use Rattle.legs_fc4.proofs.trade.Statement.{statement}
 use Rattle.legs_fc4.proofs.trade.Tie as tie
@@ -53,7 +53,7 @@ exchange-requires c κs =
     let s = c .before .before .before .before .before .before .before .before .before .before in
     let (hb, hc) = found-in _ _ _ _ (s .pre .0 .1) (s .args .p .0) (s .args .i .0) (s .args .j .0) (s .args .k .0) (s .args .l .0) (s .pre .0 .0) (s .pre .1 .0) (s .pre .1 .1) _ _ _ _ _ _
     (c .before .before .before .before .before .before .before .before .block4 .ensures) (c .before .before .before .before .before .before .before .atom-at .ensures) (c .before .before .before .before .before .before .atom-at2 .ensures) (c .before .before .before .before .before .atom-at3 .ensures) (c .before .before .before .before .atom-at4 .ensures) (c .before .before .before .read-out4 .ensures) in
-    (inside _ _ (s .pre .0 .1), in-runs _ _ (s .pre .0 .1), hb, hc)
+    (s .pre .0 .1 .inside, in-runs _ _ (s .pre .0 .1), hb, hc)
 
 returns : tie.Need-returns
 returns c =

@@ -13,6 +13,9 @@ Inv-loop s set₀ work₀ t₀ n at₀ i₀ set work t at i = (i ≤ n) × (at �
 abbrev μ-loop : tie.MeasureT-loop
 μ-loop s set₀ work₀ t₀ n at₀ i₀ set work t at i = n - i
 
+none-requires : tie.Need-none-requires Inv-loop μ-loop
+none-requires c κs = search needs
+
 count-requires : tie.Need-count-requires Inv-loop μ-loop
 count-requires c κs = search needs
 
@@ -61,6 +64,7 @@ replay-spec =
     (tie.spec
     Inv-loop
     μ-loop
+    none-requires
     count-requires
     first-requires
     loop-holds

@@ -13,6 +13,9 @@ Inv-loop s set₀ t₀ n at₀ i₀ set t at i = (i ≤ n) × (at ≤ length s) 
 abbrev μ-loop : tie.MeasureT-loop
 μ-loop s set₀ t₀ n at₀ i₀ set t at i = n - i
 
+none-requires : tie.Need-none-requires Inv-loop μ-loop
+none-requires c κs = search needs
+
 count-requires : tie.Need-count-requires Inv-loop μ-loop
 count-requires c κs = search needs
 
@@ -58,6 +61,7 @@ replay-spec =
     (tie.spec
     Inv-loop
     μ-loop
+    none-requires
     count-requires
     first-requires
     loop-holds

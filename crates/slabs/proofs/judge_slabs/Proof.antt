@@ -1,5 +1,11 @@
 use mathlib.Core.Path.{_≡_}
 use mathlib.Core.Bool.{true, false}
+use mathlib.Core.List.{List}
+use Prim.Native.Nat.{ℕ, _<_, _≤_}
+use lib.IntN.{ℤ}
+use lib.ListN.{length}
+use Rattle.tables.specs.declared.Answer.the-variants.{Refused}
+use Rattle.tables.specs.declared.Refusal.the-variants.{CountAboveLimit, BadSlab}
 use Rattle.tables.specs.Conditions.{outOfRange}
 use mathlib.Core.Path.{sym, _∙_}
 use borrow.Author.Tests.{lt-ltb, le-ltb, le-leb, lt-leb, eq-eqb, ne-eqb, not-true, not-false}
@@ -8,18 +14,27 @@ use borrow.Author.Needs.{needs}
 use Rattle.slabs.proofs.judge_slabs.Statement.{statement}
 use Rattle.slabs.proofs.judge_slabs.Tie as tie
 
+-- the two facts that edits of the tests for them break
+many-slabs : (limit stated lengthFc : ℕ) (mapping : List ℤ) (n lengthRotation F target source : ℕ) → n ≤ limit → limit < F
+    → Refused CountAboveLimit ≡ judgedSlabs limit stated lengthFc mapping n lengthRotation F target source
+unfolding judgedSlabs
+many-slabs limit stated lengthFc mapping n lengthRotation F target source h g = simp (le-ltb _ _ h, lt-ltb _ _ g)
+
+same-slab : (limit stated lengthFc : ℕ) (mapping : List ℤ) (n lengthRotation F target source : ℕ) → n ≤ limit → F ≤ limit → lengthFc ≡ stated → length mapping ≡ n → lengthRotation ≡ 9
+    → outOfRange n mapping ≡ false → target < F → source < F → target ≡ source → Refused BadSlab ≡ judgedSlabs limit stated lengthFc mapping n lengthRotation F target source
+unfolding judgedSlabs
+same-slab limit stated lengthFc mapping n lengthRotation F target source h1 h2 h3 h4 h5 o h7 h8 h9 =
+    simp (le-ltb _ _ h1, le-ltb _ _ h2, eq-eqb _ _ h3, eq-eqb _ _ h4, eq-eqb _ _ h5, o, lt-leb _ _ h7, lt-leb _ _ h8, eq-eqb _ _ h9)
+
 returns : tie.Need-returns
 unfolding judgedSlabs
 returns c =
     simp (lt-ltb _ _ (c .if1 .taken))
 
 returns-2 : tie.Need-returns-2
-unfolding judgedSlabs
 returns-2 c =
-    simp (
-      le-ltb _ _ (c .before .if1 .left),
-      lt-ltb _ _ (c .if2 .taken),
-    )
+    let a = c .before .before .args in
+    many-slabs (a .limit) (a .stated) (a .set-length) (a .atom-mapping .now) (a .num-atom) (a .rotation-length) (a .num-first) (a .target) (a .source) (c .before .if1 .left) (c .if2 .taken)
 
 returns-3 : tie.Need-returns-3
 unfolding judgedSlabs
@@ -103,22 +118,20 @@ returns-8 c =
     )
 
 returns-9 : tie.Need-returns-9
-unfolding judgedSlabs
 returns-9 c =
     let a = c .before .before .before .before .before .before .before .before .before .before .args in
     let o : outOfRange (a .num-atom) (a .atom-mapping .now) ≡ false =
     not-true _ (sym (c .before .before .before .before .all-below .ensures) ∙ not-false _ (c .before .before .before .if6 .left)) in
-    simp (
-      le-ltb _ _ (c .before .before .before .before .before .before .before .before .before .if1 .left),
-      le-ltb _ _ (c .before .before .before .before .before .before .before .before .if2 .left),
-      eq-eqb _ _ (c .before .before .before .before .before .before .before .if3 .left),
-      eq-eqb _ _ (c .before .before .before .before .before .before .if4 .left),
-      eq-eqb _ _ (c .before .before .before .before .before .if5 .left),
-      o,
-      lt-leb _ _ (c .before .before .if7 .left),
-      lt-leb _ _ (c .before .if8 .left),
-      eq-eqb _ _ (c .if9 .taken),
-    )
+    same-slab (a .limit) (a .stated) (a .set-length) (a .atom-mapping .now) (a .num-atom) (a .rotation-length) (a .num-first) (a .target) (a .source)
+    (c .before .before .before .before .before .before .before .before .before .if1 .left)
+    (c .before .before .before .before .before .before .before .before .if2 .left)
+    (c .before .before .before .before .before .before .before .if3 .left)
+    (c .before .before .before .before .before .before .if4 .left)
+    (c .before .before .before .before .before .if5 .left)
+    o
+    (c .before .before .if7 .left)
+    (c .before .if8 .left)
+    (c .if9 .taken)
 
 returns-10 : tie.Need-returns-10
 unfolding judgedSlabs

@@ -13,7 +13,7 @@ returns c =
     swapped-none (s .args .leg-a) (s .args .leg-b) _ (s .args .fc4 .now) (c .if1 .taken)
 
 exchange-legs-requires : tie.Need-exchange-legs-requires
-exchange-legs-requires c κs = c .before .before .before .pre
+exchange-legs-requires c κs = let s = c .before .before .before in (s .pre .0, s .pre .1, s .pre .2, c .before .if1 .left)
 
 returns-2 : tie.Need-returns-2
 returns-2 c =

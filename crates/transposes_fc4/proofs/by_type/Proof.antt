@@ -1,4 +1,5 @@
 use mathlib.Core.Path.{_≡_, sym, ap, _∙_}
+use native.Mathlib.Omega.{arith}
 use lib.Dec.{lit<}
 use lib.IntN.{pos}
 use mir.Syntax.{w64}
@@ -11,7 +12,7 @@ use Rattle.transposes_fc4.proofs.by_type.Statement.{statement}
 use Rattle.transposes_fc4.proofs.by_type.Tie as tie
 
 exchange-legs-requires : tie.Need-exchange-legs-requires
-exchange-legs-requires c κs = (c .before .before .before .pre, lit< tt, lit< tt)
+exchange-legs-requires c κs = (c .before .before .before .pre, lit< tt, lit< tt, λ e. omega (arith, e))
 
 returns : tie.Need-returns
 returns c =

@@ -1,4 +1,9 @@
+use mathlib.Core.Path.{_≡_}
+use Prim.Native.Nat.{ℕ, _<_, _≤_}
+use Rattle.tables.specs.declared.Answer.the-variants.{Refused}
+use Rattle.tables.specs.declared.Refusal.the-variants.{CountAboveLimit}
 use Rattle.tables.specs.Lengths.{set-length2}
+use Rattle.fc2.specs.Full.{judgedFull}
 use Rattle.fc2.specs.FullLaws.{square}
 use borrow.Author.Tests.{lt-ltb, le-ltb}
 use borrow.Author.Tests.{le-leb, lt-leb, eq-eqb, ne-eqb}
@@ -9,11 +14,15 @@ use Rattle.fc2.proofs.full.judge_full.Tie as tie
 use Rattle.fc2.proofs.full.judge_full.Reads as reads
 use Rattle.fc2.proofs.full.judge_full.Lts as lts
 
+-- the fact that an edit of the test for it breaks
+many-levels : (len n level : ℕ) → n ≤ 1024 → 1000 < level → Refused CountAboveLimit ≡ judgedFull len n level
+many-levels len n level h g = simp (le-ltb _ _ h, lt-ltb _ _ g)
+
 returns : tie.Need-returns
 returns c = simp (lt-ltb _ _ (c .if1 .taken))
 
 returns-2 : tie.Need-returns-2
-returns-2 c = simp (le-ltb _ _ (c .before .if1 .left), lt-ltb _ _ (c .if2 .taken))
+returns-2 c = let a = c .before .before .args in many-levels (a .len) (a .n) (a .level) (c .before .if1 .left) (c .if2 .taken)
 
 mul-if3 : tie.Need-mul-if3
 mul-if3 c = let g = square (c .before .before .args .n) (omega arith) in omega arith
