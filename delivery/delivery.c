@@ -1,5 +1,6 @@
 /* A delivery on disk: text for cell and tables, raw numbers of 8 bytes (the lowest byte first) for the sets. */
 #include "delivery.h"
+#include "progress.h"
 
 #include <errno.h>
 #include <math.h>
@@ -8,13 +9,19 @@
 #include <stdlib.h>
 #include <string.h>
 #include <sys/stat.h>
-#include <unistd.h>
 
-#define MOST_ATOMS 256 /* the limit of third order */
+#define MOST_ATOMS 256         /* the limit of third order */
+#define MOST_TEXT (16u << 20u) /* bytes; tables of so many atoms have no more than a tenth of it */
+#define PART (1u << 17u)       /* numbers that are read or written between two looks at the clock */
 
-static void fail(const char *name, const char *what)
+const char *program = "delivery";
+const char *const delivered[DELIVERED] = {"tables.txt", "cell.txt", "fc2.f64", "fc3.f64"};
+
+void fail(const char *name, const char *what)
 {
-    fprintf(stderr, "symmetrize: %s: %s\n", name, what);
+    end_step();
+    fflush(stdout);
+    fprintf(stderr, "%s: %s: %s\n", program, name, what);
     exit(1);
 }
 
@@ -26,20 +33,38 @@ void *room(size_t count, size_t size)
     return p;
 }
 
-static FILE *open_in(const char *folder, const char *name, const char *mode, char *path, size_t size)
+void path_in(const char *folder, const char *name, char path[PATH_ROOM])
 {
-    if (snprintf(path, size, "%s/%s", folder, name) >= (int)size)
+    if (snprintf(path, PATH_ROOM, "%s/%s", folder, name) >= PATH_ROOM)
         fail(folder, "the name is too long");
-    FILE *f = fopen(path, mode);
-    if (!f)
-        fail(path, strerror(errno));
+}
+
+const char *open_to_read(const char *path, FILE **f, long long *bytes)
+{
+    struct stat is;
+    if (stat(path, &is) != 0)
+        return strerror(errno);
+    if (!S_ISREG(is.st_mode))
+        return S_ISDIR(is.st_mode) ? strerror(EISDIR) : "it is no file, but a pipe or a device";
+    *bytes = (long long)is.st_size;
+    *f = fopen(path, "rb");
+    return *f ? NULL : strerror(errno);
+}
+
+static FILE *open_in(const char *folder, const char *name, char path[PATH_ROOM], long long *bytes)
+{
+    FILE *f = NULL;
+    path_in(folder, name, path);
+    const char *why = open_to_read(path, &f, bytes);
+    if (why)
+        fail(path, why);
     return f;
 }
 
 /* ---- text: one line at a time, split into words, so that a message can say where it is */
 
 struct text {
-    char path[4096];
+    char path[PATH_ROOM];
     FILE *f;
     size_t number; /* of the line, from 1 */
     char *line;
@@ -50,7 +75,8 @@ static void bad_line(const struct text *t, const char *what, ...)
 {
     va_list args;
     va_start(args, what);
-    fprintf(stderr, "symmetrize: %s, line %zu: ", t->path, t->number);
+    fflush(stdout);
+    fprintf(stderr, "%s: %s, line %zu: ", program, t->path, t->number);
     vfprintf(stderr, what, args);
     fputc('\n', stderr);
     va_end(args);
@@ -59,7 +85,10 @@ static void bad_line(const struct text *t, const char *what, ...)
 
 static void open_text(struct text *t, const char *folder, const char *name)
 {
-    t->f = open_in(folder, name, "r", t->path, sizeof t->path);
+    long long bytes = 0;
+    t->f = open_in(folder, name, t->path, &bytes);
+    if (bytes > MOST_TEXT)
+        fail(t->path, "it is larger than 16 megabytes, and no text of a delivery is");
     t->number = 0;
     t->line = NULL;
     t->size = 0;
@@ -71,17 +100,27 @@ static char *next_word(void)
     return strtok(NULL, " \t\r\n");
 }
 
+/* whether a byte may stand in a text: ASCII, and of what is not printed only the tabulator and the ends of lines */
+static int of_text(char c)
+{
+    return (c >= ' ' && c <= '~') || c == '\t' || c == '\r' || c == '\n';
+}
+
 /* the first word of the next line that has one, NULL at the end of the file */
 static char *next_line(struct text *t)
 {
     errno = 0;
     for (;;) {
         t->number++;
-        if (getline(&t->line, &t->size, t->f) < 0) {
+        ssize_t length = getline(&t->line, &t->size, t->f);
+        if (length < 0) {
             if (ferror(t->f))
                 fail(t->path, strerror(errno));
             return NULL;
         }
+        for (ssize_t k = 0; k < length; k++)
+            if (!of_text(t->line[k]))
+                bad_line(t, "it has a byte that is none of a text");
         char *word = strtok(t->line, " \t\r\n");
         if (word)
             return word;
@@ -200,38 +239,42 @@ static void read_cell(const char *folder, struct delivery *d)
 
 static double *read_set(const char *folder, const char *name, size_t n)
 {
-    char path[4096], more;
-    FILE *f = open_in(folder, name, "rb", path, sizeof path);
-    double *set = room(n, sizeof *set);
-    size_t got = fread(set, sizeof *set, n, f);
-    if (ferror(f))
-        fail(path, strerror(errno));
-    if (got < n || fread(&more, 1, 1, f) != 0) {
-        struct stat is;
-        long long bytes = fstat(fileno(f), &is) == 0 ? (long long)is.st_size : -1;
-        fprintf(stderr, "symmetrize: %s: it has %lld bytes, the counts ask for %zu numbers of 8 bytes, %zu\n", path, bytes, n, n * 8);
+    char path[PATH_ROOM];
+    long long bytes = 0;
+    FILE *f = open_in(folder, name, path, &bytes);
+    if (bytes != (long long)(n * 8)) {
+        fprintf(stderr, "%s: %s: it has %lld bytes, the counts ask for %zu numbers of 8 bytes, %zu\n", program, path, bytes, n, n * 8);
         exit(1);
     }
+    double *set = room(n, sizeof *set);
+    size_t got = 0, part = 1;
+    begin_step("reading of", name);
+    for (; got < n && part > 0; got += part) {
+        part = fread(set + got, sizeof *set, n - got < PART ? n - got : PART, f);
+        how_far(got, n);
+    }
+    end_step();
+    if (got < n)
+        fail(path, ferror(f) ? strerror(errno) : "it became shorter while it was read");
     fclose(f);
     return set;
 }
 
-/* the set in a file of its own beside the place where it is to be, whose name is left in `name`; 0 if it was written */
-static int write_beside(const char *path, const double *set, size_t n, char *name, size_t size)
+/* a new file of the set; 0, or the error */
+static int write_set(const char *path, const char *name, const double *set, size_t n)
 {
-    snprintf(name, size, "%s.new", path);
-    FILE *f = fopen(name, "wb");
+    FILE *f = fopen(path, "wb");
     if (!f)
         return errno;
-    size_t put = fwrite(set, sizeof *set, n, f);
+    size_t put = 0, part = 1;
+    begin_step("writing of", name);
+    for (; put < n && part > 0; put += part) {
+        part = fwrite(set + put, sizeof *set, n - put < PART ? n - put : PART, f);
+        how_far(put, n);
+    }
+    end_step();
     int why = put == n ? 0 : errno;
     return fclose(f) != 0 ? errno : why;
-}
-
-static void path_in(const char *folder, const char *name, char *path, size_t size)
-{
-    if (snprintf(path, size, "%s/%s", folder, name) >= (int)size)
-        fail(folder, "the name is too long");
 }
 
 /* ---- a delivery */
@@ -250,21 +293,38 @@ int same_folder(const char *folder, const char *out)
     return stat(folder, &a) == 0 && stat(out, &b) == 0 && a.st_dev == b.st_dev && a.st_ino == b.st_ino;
 }
 
-void write_delivery(const char *folder, const struct delivery *d)
+/* a new file with the bytes of another; 0, or the error */
+static int copy_file(const char *from, const char *path)
 {
-    char second[4096], third[4096], new2[4200], new3[4200];
-    path_in(folder, "fc2.f64", second, sizeof second);
-    path_in(folder, "fc3.f64", third, sizeof third);
-    int why = write_beside(second, d->fc2, d->n_satom * d->n_satom * 9, new2, sizeof new2);
-    if (why == 0 && (why = write_beside(third, d->fc3, d->n_patom * d->n_satom * d->n_satom * 27, new3, sizeof new3)) != 0)
-        remove(new3);
-    if (why == 0 && (rename(new2, second) != 0 || rename(new3, third) != 0))
+    char bytes[4096];
+    int why = 0;
+    FILE *in = fopen(from, "rb"), *out = in ? fopen(path, "wb") : NULL;
+    if (!out)
         why = errno;
-    if (why != 0) {
-        remove(new2);
-        fail(folder, strerror(why));
+    for (size_t n; why == 0 && (n = fread(bytes, 1, sizeof bytes, in)) > 0;)
+        if (fwrite(bytes, 1, n, out) != n)
+            why = errno;
+    if (in && ferror(in))
+        why = EIO;
+    if (out && fclose(out) != 0)
+        why = errno;
+    if (in)
+        fclose(in);
+    return why;
+}
+
+int write_files(const char *from, const char *folder, const struct delivery *d)
+{
+    const double *sets[] = {NULL, NULL, d->fc2, d->fc3};
+    size_t numbers[] = {0, 0, d->n_satom * d->n_satom * 9, d->n_patom * d->n_satom * d->n_satom * 27};
+    char path[PATH_ROOM], text[PATH_ROOM];
+    int why = 0;
+    for (size_t k = 0; k < DELIVERED && why == 0; k++) {
+        path_in(from, delivered[k], text);
+        path_in(folder, delivered[k], path);
+        why = sets[k] ? write_set(path, delivered[k], sets[k], numbers[k]) : copy_file(text, path);
     }
-    printf("written: %s\nwritten: %s\n", second, third);
+    return why;
 }
 
 void free_delivery(struct delivery *d)

@@ -2,29 +2,24 @@
  * Symmetrizes a delivery: symmetrize FOLDER [OUT]
  *
  * FOLDER holds cell.txt (lattice, positions), tables.txt (shift tables), fc2.f64 (full set of second order) and
- * fc3.f64 (compact set of third order); samples/README.md says what is in them. Prints the drift before and after,
- * how many orders of legs read out alike before and after, how many blocks each kind of transpose moves, what becomes of
- * damaged copies, and the time taken.
- * With OUT, another folder, writes the symmetrized sets to OUT/fc2.f64 and OUT/fc3.f64. Exit status 0 only if all went well: a
- * number that is not finite or of no possible size, positions that the tables do not fit, drift that is left, orders that differ are
- * each a fault in words, and with a fault nothing is written.
+ * fc3.f64 (compact set of third order); samples/README.md says what is in them. Prints the drift of both before and after,
+ * how many orders of legs read out alike before and after, what the audits say, how many numbers each kind of transpose moves, what
+ * becomes of damaged copies, and the time taken.
+ * With OUT, another folder, writes the symmetrized sets to OUT/fc2.f64 and OUT/fc3.f64, tables.txt and cell.txt beside them, and a
+ * certificate of all four (certificate.c), which delivery/verify holds them against. Exit status 0 only if all went well: a number that
+ * is not finite or of no possible size, positions that the tables do not fit, drift that is left, orders that differ are each a fault in
+ * words, and with a fault nothing is written. Where standard error is a terminal, long steps say there how far they are.
  */
 #include "gullyfork.h"
-#include "delivery.h"
+#include "certificate.h"
+#include "progress.h"
+#include "verdicts.h"
 
 #include <math.h>
 #include <stdarg.h>
 #include <stdio.h>
 #include <stdlib.h>
 #include <string.h>
-#include <time.h>
-
-static double seconds(void)
-{
-    struct timespec t;
-    clock_gettime(CLOCK_MONOTONIC, &t);
-    return (double)t.tv_sec + 1e-9 * (double)t.tv_nsec;
-}
 
 static size_t faults;
 
@@ -43,7 +38,7 @@ static void fault(const char *what, ...)
 static void must(uint8_t answer, const char *what)
 {
     if (answer != GF_DONE) {
-        fprintf(stderr, "symmetrize: %s refused, %d: %s\n", what, answer, gf_words(answer));
+        fprintf(stderr, "%s: %s refused, %d: %s\n", program, what, answer, gf_words(answer));
         exit(1);
     }
 }
@@ -118,81 +113,53 @@ static void judge_numbers(const char *name, const double *set, size_t n, size_t 
 
 /* ---- shift tables, and the same rows found by matching the positions */
 
-static void check_tables(const struct delivery *d)
+static void judge_cell(const struct delivery *d)
 {
-    size_t n = d->n_satom;
-    must(gf_check_shift_tables(d->p2s, d->n_patom, d->s2pp, n, d->nsym_list, n, d->perms, d->num_trans * n, n, d->n_patom, d->num_trans),
-         "check of the shift tables");
-    printf("shift tables: every rule is kept\n");
-}
-
-/* row t sends atom a to the atom that stands where shift t puts a */
-static int row_matches(const struct delivery *d, size_t t, double *shifted, int64_t *row)
-{
-    size_t n = d->n_satom;
-    size_t image = (size_t)d->perms[t * n];
-    size_t pair[2] = {0, 0};
-    const uint8_t everywhere[3] = {1, 1, 1};
-    for (size_t a = 0; a < n; a++)
-        for (size_t x = 0; x < 3; x++)
-            shifted[a * 3 + x] = d->pos[a * 3 + x] + (d->pos[image * 3 + x] - d->pos[x]);
-    uint8_t answer = gf_compute_permutation(row, n, d->lattice, 9, 1e-5, everywhere, 3, d->pos, n * 3, shifted, n * 3, pair, 2, n);
-    if (answer == GF_MATCH_NO_NUMBER)
-        printf("  shift %zu: position %zu against slot %zu: the distance is not a number\n", t, pair[0], pair[1]);
-    return answer == GF_DONE && memcmp(row, d->perms + t * n, n * sizeof *row) == 0;
-}
-
-static void match_rows(const struct delivery *d)
-{
-    double *shifted = room(d->n_satom * 3, sizeof *shifted);
-    int64_t *row = room(d->n_satom, sizeof *row);
-    size_t same = 0;
-    for (size_t t = 0; t < d->num_trans; t++)
-        same += (size_t)row_matches(d, t, shifted, row);
-    printf("matching: %zu of %zu shifts send the positions as their row says\n", same, d->num_trans);
-    if (same != d->num_trans)
-        fault("cell.txt and tables.txt are not of one cell: %zu shifts send positions elsewhere than their row says", d->num_trans - same);
-    free(shifted);
-    free(row);
+    char words[WORDS];
+    must(tables_verdict(d, words), "check of the shift tables");
+    printf("shift tables: %s\n", words);
+    size_t elsewhere = positions_verdict(d, words);
+    printf("positions: %s\n", words);
+    if (elsewhere != 0)
+        fault("cell.txt and tables.txt are not of one cell: %zu shifts send positions elsewhere than their row says", elsewhere);
 }
 
 /* ---- second order */
 
-/* the worst drift: 0.0 if there is none, NaN if a sum is no number */
-static double print_drift(const char *when, const double *fc2, size_t n)
-{
-    double value = 0.0;
-    size_t place[4] = {0, 0, 0, 0};
-    uint8_t answer = gf_drift_report(fc2, n * n * 9, &value, 1, place, 4, n);
-    const char *along = place[0] == GF_ROWS ? "rows" : "columns";
-    if (answer == GF_DRIFT_STILL)
-        printf("  %s: no drift\n", when);
-    else if (answer == GF_DRIFT_WORST)
-        printf("  %s: worst drift along %s, atom %zu, directions %zu %zu: %.3e\n", when, along, place[1], place[2], place[3], value);
-    else if (answer == GF_DRIFT_NO_NUMBER)
-        printf("  %s: drift not a number along %s, atom %zu, directions %zu %zu\n", when, along, place[1], place[2], place[3]);
-    else
-        must(answer, "drift report");
-    return value;
-}
-
 /* what rounding leaves of the drift, as a part of the largest number */
 #define DRIFT_LEFT 1e-9
 
-static void second_order(struct delivery *d)
+/* what the proved audit says of a set after the work */
+static void judge_audit(const char *name, uint8_t answer, const char *words)
+{
+    printf("  audit: %s\n", words);
+    if (answer == GF_UNLIKE)
+        fault("%s: the audit says %s", name, words);
+    else if (answer != GF_ALIKE)
+        must(answer, "audit");
+}
+
+/* `before` takes the drift before, in words */
+static void second_order(struct delivery *d, char *before)
 {
     size_t n = d->n_satom;
     double largest = 0.0;
+    char words[WORDS];
     for (size_t q = 0; q < n * n * 9; q++)
         largest = fmax(largest, fabs(d->fc2[q]));
     printf("second order: full set of %zu numbers\n", n * n * 9);
-    print_drift("before", d->fc2, n);
+    second_drift(d, before);
+    printf("  drift before: %s\n", before);
+    begin_step("symmetrizing of", "fc2.f64");
     double start = seconds();
     must(gf_perm_trans_symmetrize_fc(d->fc2, n * n * 9, n, 3), "perm_trans_symmetrize_fc");
     double taken = seconds() - start;
-    double left = print_drift("after", d->fc2, n);
+    end_step();
+    double left = second_drift(d, words);
+    printf("  drift after: %s\n", words);
     if (!(left <= DRIFT_LEFT * largest))
         fault("fc2.f64: the drift after symmetrizing is %g, the largest number %g", left, largest);
+    judge_audit("fc2.f64", second_audit(d, words), words);
     printf("  symmetrized at level 3 in %.1f microseconds\n", 1e6 * taken);
 }
 
@@ -231,25 +198,37 @@ static size_t print_alike(const struct delivery *d, const char *when)
 {
     size_t legs = d->n_satom * 3, all = 0, same = 0;
     double widest = 0.0;
-    for (size_t x = 0; x < legs; x++)
+    begin_step("all orders of legs of", "fc3.f64");
+    for (size_t x = legs; x-- > 0;) { /* from the last one on: the later, the more triples */
         for (size_t y = x; y < legs; y++)
             for (size_t z = y; z < legs; z++, all++)
                 same += (size_t)alike(d, x, y, z, &widest);
+        how_far((legs - x) * (legs - x) * (legs - x), legs * legs * legs);
+    }
+    end_step();
     printf("  %s: of %zu triples of (atom, direction) pairs %zu read out the same bits in all six orders; widest difference %.3e\n",
            when, all, same, widest);
     return all - same;
 }
 
-static void third_order(struct delivery *d)
+static void third_order(struct delivery *d, char *before)
 {
     size_t blocks = d->n_patom * d->n_satom * d->n_satom;
+    char words[WORDS];
     uint8_t *done = room(blocks, 1);
     printf("third order: compact set of %zu numbers\n", blocks * 27);
+    third_drift(d, before);
+    printf("  drift before: %s\n", before);
     print_alike(d, "before");
+    begin_step("symmetrizing of", "fc3.f64");
     double start = seconds();
     must(symmetrize_third(d, d->nsym_list, d->fc3, blocks * 27, done), "set_permutation_symmetry_compact_fc3");
     double taken = seconds() - start;
+    end_step();
+    third_drift(d, words);
+    printf("  drift after: %s\n", words);
     size_t unlike = print_alike(d, "after");
+    judge_audit("fc3.f64", third_audit(d, words), words);
     printf("  symmetrized in %.1f microseconds, the check of its shift tables among them\n", 1e6 * taken);
     if (unlike != 0)
         fault("fc3.f64: %zu triples read out differing bits after symmetrizing", unlike);
@@ -273,10 +252,14 @@ static void transpose_third(const struct delivery *d, transpose *call, double *f
 static size_t moved(const struct delivery *old, const struct delivery *new)
 {
     size_t legs = old->n_satom * 3, count = 0;
-    for (size_t x = 0; x < legs; x++)
+    begin_step("transposes of", "fc3.f64");
+    for (size_t x = 0; x < legs; x++) {
         for (size_t y = 0; y < legs; y++)
             for (size_t z = 0; z < legs; z++)
                 count += (size_t)same_bits(read_out(new, x, y, z), read_out(old, y, x, z));
+        how_far(x + 1, legs);
+    }
+    end_step();
     return count;
 }
 
@@ -349,23 +332,24 @@ int main(int argc, char **argv)
         fprintf(stderr, "symmetrize: %s is the folder that is read: name another one to write to\n", argv[2]);
         return 1;
     }
+    program = "symmetrize";
     struct delivery d;
+    char fc2_before[WORDS] = "", fc3_before[WORDS] = "";
     read_delivery(argv[1], &d);
     printf("%zu atoms, %zu of them in the primitive cell, %zu shifts\n", d.n_satom, d.n_patom, d.num_trans);
-    check_tables(&d);
-    match_rows(&d);
+    judge_cell(&d);
     judge_numbers("fc2.f64", d.fc2, d.n_satom * d.n_satom * 9, d.n_satom, 2);
     judge_numbers("fc3.f64", d.fc3, d.n_patom * d.n_satom * d.n_satom * 27, d.n_satom, 3);
     if (faults == 0) {
         transposes(&d);
-        second_order(&d);
-        third_order(&d);
+        second_order(&d, fc2_before);
+        third_order(&d, fc3_before);
         damaged_copies(&d);
     }
     if (faults == 0 && argc == 3)
-        write_delivery(argv[2], &d);
+        write_delivery(argv[1], argv[2], &d, fc2_before, fc3_before);
     if (faults != 0)
         printf("%zu fault%s; nothing was written\n", faults, faults == 1 ? "" : "s");
     free_delivery(&d);
-    return faults == 0 && fflush(stdout) == 0 ? 0 : 1;
+    return faults == 0 && fflush(stdout) == 0 && !ferror(stdout) ? 0 : 1;
 }

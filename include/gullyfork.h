@@ -77,7 +77,7 @@ extern "C" {
 #endif
 
 /* The version of this header; gf_version gives that of the library. */
-#define GF_VERSION "1.0.0"
+#define GF_VERSION "1.1.0"
 
 /* What a call answers: each answer's name, number and words. gf_words gives the words of a number. */
 #define GF_ANSWERS(ANSWER) \
@@ -101,7 +101,9 @@ extern "C" {
     ANSWER(GF_MATCH_NO_NUMBER, 69, "some slot is left free, and a distance was NaN") \
     ANSWER(GF_SET_UNKNOWN, 70, "the set was never delivered") \
     ANSWER(GF_SET_RETIRED, 71, "the set that stands at the end of its chain of replacements was retired") \
-    ANSWER(GF_NO_MATCH, 72, "no bijection of near pairs exists")
+    ANSWER(GF_NO_MATCH, 72, "no bijection of near pairs exists") \
+    ANSWER(GF_ALIKE, 73, "all numbers that are to be the same have the same bits") \
+    ANSWER(GF_UNLIKE, 74, "the first difference is named")
 
 #define GF_ANSWER_NUMBER(name, number, words) name = number,
 enum gf_answer { GF_ANSWERS(GF_ANSWER_NUMBER) };
@@ -282,6 +284,39 @@ uint8_t gf_drift_report(
     double *value, size_t value_len,
     size_t *place, size_t place_len,
     size_t n_satom);
+
+/*
+ * The same of the full set that a compact set reads out to, which is not written: the row sum of an atom adds its read-out entries
+ * over the second atom, the column sum over the first.
+ *   fc     n_patom x n_satom x 9
+ *   value  1, only written
+ *   place  4: GF_ROWS or GF_COLUMNS, the atom and the two directions, only written
+ * Refusals: 1 (a count above 1,024), 2, 3, 6.
+ */
+uint8_t gf_drift_report_compact_fc2(
+    const double *fc, size_t fc_len,
+    const int64_t *p2s, size_t p2s_len,
+    const int64_t *s2pp, size_t s2pp_len,
+    const int64_t *nsym_list, size_t nsym_list_len,
+    const int64_t *perms, size_t perms_len,
+    double *value, size_t value_len,
+    size_t *place, size_t place_len,
+    size_t n_satom, size_t n_patom, size_t num_trans);
+
+/*
+ * How far the sums over each leg of a full set of third order are from zero, by the rule of gf_drift_report: the sum over one of the
+ * three atoms, the other two and the directions fixed. The sums over the last leg come first, then those over the middle one and the
+ * first; then by atoms, then by directions. A still report has leg 2 and zeros.
+ *   fc     num_atom x num_atom x num_atom x 27
+ *   value  1, only written
+ *   place  6: the leg that is summed over (0, 1 or 2), the atoms of the two other legs, the three directions, only written
+ * Refusals: 1 (num_atom above 256), 2.
+ */
+uint8_t gf_drift_report_fc3(
+    const double *fc, size_t fc_len,
+    double *value, size_t value_len,
+    size_t *place, size_t place_len,
+    size_t num_atom);
 
 /*
  * Fills the rows of the listed atoms from those of their representatives. Position i of the list is atom atom_list[i], whose blocks
@@ -598,6 +633,116 @@ uint8_t gf_compact_to_full_fc4(
     const int64_t *nsym_list, size_t nsym_list_len,
     const int64_t *perms, size_t perms_len,
     size_t n_satom, size_t n_patom, size_t num_trans);
+
+/* ---- audits: sets are only read ---- */
+
+/*
+ * Whether two sets have the same bits. GF_ALIKE: they have, any NaN for any NaN. GF_UNLIKE: place[0] is the first place, in the order of
+ * the sets, at which they differ, place[1] is 0, and numbers has the number of a and that of b there. Other answers leave the slots.
+ *   b        as long as a
+ *   place    2
+ *   numbers  2
+ * Refusals: 2.
+ */
+uint8_t gf_same_set(
+    const double *a, size_t a_len,
+    const double *b, size_t b_len,
+    size_t *place, size_t place_len,
+    double *numbers, size_t numbers_len);
+
+/*
+ * Whether all permutations of any two (atom, direction) pairs of a compact set read out the same bits, any NaN for any NaN.
+ * GF_ALIKE: they do. GF_UNLIKE: place[0] is the first place, in the order of the set, at which some permutation reads another number,
+ * place[1] the first permutation that does there, and numbers has the number at the place and that other one. Permutations count from
+ * 0 in the order 01, 10; at third order 012, 021, 102, 120, 201, 210; at fourth order from 0123 to 3210 likewise: the digits name the
+ * pairs in their new order. Other answers leave the slots.
+ *   fc       n_patom x n_satom x 9
+ *   place    2
+ *   numbers  2
+ * Refusals: 1 (a count above 1,024), 2, 3, 6.
+ */
+uint8_t gf_audit_compact_fc2(
+    const double *fc, size_t fc_len,
+    const int64_t *p2s, size_t p2s_len,
+    const int64_t *s2pp, size_t s2pp_len,
+    const int64_t *nsym_list, size_t nsym_list_len,
+    const int64_t *perms, size_t perms_len,
+    size_t *place, size_t place_len,
+    double *numbers, size_t numbers_len,
+    size_t n_satom, size_t n_patom, size_t num_trans);
+
+/*
+ * The same of a full set.
+ *   fc       num_atom x num_atom x 9
+ *   place    2
+ *   numbers  2
+ * Refusals: 1 (num_atom above 1,024), 2.
+ */
+uint8_t gf_audit_fc2(
+    const double *fc, size_t fc_len,
+    size_t *place, size_t place_len,
+    double *numbers, size_t numbers_len,
+    size_t num_atom);
+
+/*
+ * As gf_audit_compact_fc2, of all six permutations of any three pairs.
+ *   fc       n_patom x n_satom x n_satom x 27
+ *   place    2
+ *   numbers  2
+ * Refusals: 1 (a count above 256), 2, 3, 6.
+ */
+uint8_t gf_audit_compact_fc3(
+    const double *fc, size_t fc_len,
+    const int64_t *p2s, size_t p2s_len,
+    const int64_t *s2pp, size_t s2pp_len,
+    const int64_t *nsym_list, size_t nsym_list_len,
+    const int64_t *perms, size_t perms_len,
+    size_t *place, size_t place_len,
+    double *numbers, size_t numbers_len,
+    size_t n_satom, size_t n_patom, size_t num_trans);
+
+/*
+ * The same of a full set.
+ *   fc       num_atom x num_atom x num_atom x 27
+ *   place    2
+ *   numbers  2
+ * Refusals: 1 (num_atom above 256), 2.
+ */
+uint8_t gf_audit_fc3(
+    const double *fc, size_t fc_len,
+    size_t *place, size_t place_len,
+    double *numbers, size_t numbers_len,
+    size_t num_atom);
+
+/*
+ * As gf_audit_compact_fc2, of all 24 permutations of any four pairs.
+ *   fc       n_patom x n_satom x n_satom x n_satom x 81
+ *   place    2
+ *   numbers  2
+ * Refusals: 1 (a count above 64), 2, 3, 6.
+ */
+uint8_t gf_audit_compact_fc4(
+    const double *fc, size_t fc_len,
+    const int64_t *p2s, size_t p2s_len,
+    const int64_t *s2pp, size_t s2pp_len,
+    const int64_t *nsym_list, size_t nsym_list_len,
+    const int64_t *perms, size_t perms_len,
+    size_t *place, size_t place_len,
+    double *numbers, size_t numbers_len,
+    size_t n_satom, size_t n_patom, size_t num_trans);
+
+/*
+ * The same of a full set.
+ *   fc       num_atom x num_atom x num_atom x num_atom x 81
+ *   place    2
+ *   numbers  2
+ * Refusals: 1 (num_atom above 64), 2.
+ */
+uint8_t gf_audit_fc4(
+    const double *fc, size_t fc_len,
+    size_t *place, size_t place_len,
+    double *numbers, size_t numbers_len,
+    size_t num_atom);
 
 /* ---- a delivery roll ---- */
 

@@ -1,6 +1,7 @@
 //! The rows of the benchmark. A size a × b is n_patom × n_satom.
 use crate::bench::Bench;
 use crate::call::{fit, Call};
+use crate::call_audit::{whole, Audit, Name as Audited, ALIKE};
 use crate::call_compact::{Compact, Name};
 use crate::call_deltas::Deltas;
 use crate::call_distribute::Distribute;
@@ -322,6 +323,66 @@ fn in_turns(b: &Bench, mut one: impl FnMut(), mut other: impl FnMut()) -> [f64; 
         least = [least[0].min(b.least(&mut one)), least[1].min(b.least(&mut other))];
     }
     least
+}
+
+/// An audit of a set that is alike, which looks at every number, beside the symmetrizer of the same size, on a set that it left: nothing is restored
+/// between its runs, and neither side copies a set.
+fn audit_line(b: &Bench, what: &str, size: &str, mut audit: Audit, mut symmetrize: impl FnMut()) {
+    let [one, other] = in_turns(b, || assert_eq!(std::hint::black_box(&mut audit).port(), ALIKE), &mut symmetrize);
+    println!("| {what} | {size} | {:.1} | {:.1} | {:.2} |", one * 1e6, other * 1e6, one / other);
+}
+
+fn audited(name: Audited, set: Vec<f64>, tables: Tables, atoms: usize) -> Audit {
+    Audit { name, set, other: vec![], tables, atoms, place: vec![0; 2], numbers: vec![0.0; 2] }
+}
+
+fn audit_compact(b: &Bench, order: usize, [p, s]: [usize; 2]) {
+    let mut call = fitted(Compact::new([Name::Exchange2, Name::Symmetrize3, Name::Symmetrize4][order - 2], shifts(p, s)));
+    call.set = plain(&mut Rng::new(30), call.stated());
+    assert_eq!(call.port(), 0);
+    let audit = audited(Audited::Compact(order), call.set.clone(), shifts(p, s), 0);
+    audit_line(b, &format!("compact fc{order}"), &format!("{p} × {s}"), audit, || assert_eq!(std::hint::black_box(&mut call).port(), 0));
+}
+
+fn audit_full(b: &Bench, order: usize, atoms: usize) {
+    let mut call = Full { level: 1, ..fitted(Full::new(order, atoms)) };
+    call.set = plain(&mut Rng::new(30), call.stated());
+    assert_eq!(call.port(), 0);
+    let audit = audited(Audited::Full(order), call.set.clone(), whole(0), atoms);
+    audit_line(b, &format!("full fc{order}"), &atoms.to_string(), audit, || assert_eq!(std::hint::black_box(&mut call).port(), 0));
+}
+
+/// The drift of a compact set, which reads n_satom² blocks twice, and of a third-order set, which reads all of it three times, beside the sum of so
+/// many numbers in Rust, one after another.
+fn drift_row(b: &Bench, name: Audited, size: &str, tables: Tables, atoms: usize, read: usize) {
+    let set = plain(&mut Rng::new(31), if name == Audited::DriftLegs { atoms.pow(3) * 27 } else { tables.n_patom * tables.n_satom * 9 });
+    let [place, numbers] = name.slots();
+    let mut call = Audit { name, set, other: vec![], tables, atoms, place: vec![0; place], numbers: vec![0.0; numbers] };
+    let many = plain(&mut Rng::new(32), read);
+    let [one, other] = in_turns(b, || assert_eq!(std::hint::black_box(&mut call).port(), WORST), || assert!(std::hint::black_box(&many).iter().sum::<f64>().is_finite()));
+    println!("| {} | {size} | {:.1} | {:.1} | {:.2} |", if name == Audited::DriftLegs { "drift_report_fc3" } else { "drift_report_compact_fc2" }, one * 1e6, other * 1e6, one / other);
+}
+
+fn drift_rows(b: &Bench) {
+    println!("\n| drift | size | port, us | so many numbers summed in Rust, us | ratio |\n|---|---|---|---|---|");
+    for [p, s] in [[2, 64], [4, 256], [4, 512]] {
+        drift_row(b, Audited::DriftCompact, &format!("{p} × {s}"), shifts(p, s), 0, 2 * s * s * 9);
+    }
+    for n in [8, 16, 32, 64] {
+        drift_row(b, Audited::DriftLegs, &n.to_string(), whole(0), n, 3 * n.pow(3) * 27);
+    }
+}
+
+/// The audits beside the symmetrizers; at second order, compact, beside the average of exchanged pairs.
+pub fn audits(b: &Bench) {
+    println!("| audit of a set that is alike | size | audit, us | symmetrizer, us | ratio |\n|---|---|---|---|---|");
+    for (order, sizes) in [(2, vec![[4, 512], [64, 256]]), (3, vec![[1, 64], [2, 64], [4, 64]]), (4, vec![[1, 16], [2, 16]])] {
+        sizes.into_iter().for_each(|size| audit_compact(b, order, size));
+    }
+    for (order, n) in [(2, 64), (2, 512), (3, 32), (3, 64), (3, 128), (4, 8), (4, 16)] {
+        audit_full(b, order, n);
+    }
+    drift_rows(b);
 }
 
 /// The matcher that knows when there is no match: beside compute_permutation where that gives true, and where chains are needed, with its stack.

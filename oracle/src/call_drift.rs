@@ -31,10 +31,17 @@ impl Drift {
         }
         sums
     }
+}
 
-    fn tell(&mut self, answer: u8, value: f64, place: [i64; 4]) -> u8 {
-        (self.value[0], self.place) = (value, place.to_vec());
-        answer
+/// Sums in the order of their places: "no number goes before worst"; "the first with the worst value is named"; still at a place of its own.
+pub fn report<P: Copy>(sums: &[(f64, P)], still: P) -> (u8, f64, P) {
+    if let Some((_, first)) = sums.iter().find(|s| s.0.is_nan()) {
+        return (NO_NUMBER, f64::NAN, *first);
+    }
+    let worst = sums.iter().fold(0.0, |worst: f64, s| worst.max(s.0.abs()));
+    match sums.iter().find(|s| s.0.abs() == worst) {
+        Some((_, first)) if worst > 0.0 => (WORST, worst, *first),
+        _ => (STILL, 0.0, still),
     }
 }
 
@@ -46,15 +53,9 @@ impl Call for Drift {
     }
 
     fn original(&mut self) -> u8 {
-        let sums = self.sums();
-        if let Some((_, first)) = sums.iter().find(|s| s.0.is_nan()) {
-            return self.tell(NO_NUMBER, f64::NAN, *first);
-        }
-        let worst = sums.iter().fold(0.0, |worst: f64, s| worst.max(s.0.abs()));
-        match sums.iter().find(|s| s.0.abs() == worst) {
-            Some((_, first)) if worst > 0.0 => self.tell(WORST, worst, *first),
-            _ => self.tell(STILL, 0.0, [0; 4]),
-        }
+        let (answer, value, place) = report(&self.sums(), [0; 4]);
+        (self.value[0], self.place) = (value, place.to_vec());
+        answer
     }
 
     fn port(&mut self) -> u8 {

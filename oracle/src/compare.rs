@@ -4,10 +4,10 @@ use crate::call_compact::Name;
 use crate::compare_limits::limits;
 use crate::rng::Rng;
 use crate::tally::Tally;
-use crate::{compare_agree, compare_common, compare_lists, compare_roll, compare_row_sums, compare_true, makers, port};
+use crate::{call_audit, compare_agree, compare_common, compare_lists, compare_roll, compare_row_sums, compare_true, makers, port};
 
 /// Every public call, the lists of transposes, the read-outs of the true ones, the lists of swaps, whole rolls, older rolls, series of edits and the two ways to a full set, in the order in which they are compared.
-pub const CALLS: [&str; 46] = [
+pub const CALLS: [&str; 55] = [
     "nint",
     "round",
     "sqrt",
@@ -54,6 +54,15 @@ pub const CALLS: [&str; 46] = [
     "is_roll_former",
     "read_roll_former",
     "older rolls",
+    "same_set",
+    "audit_compact_fc2",
+    "audit_compact_fc3",
+    "audit_compact_fc4",
+    "audit_fc2",
+    "audit_fc3",
+    "audit_fc4",
+    "drift_report_compact_fc2",
+    "drift_report_fc3",
 ];
 
 /// Of nint, round and sqrt so many patterns are tried for each call of the others.
@@ -108,6 +117,15 @@ fn run(tally: &mut Tally, r: &mut Rng, count: u64) {
         "is_roll_former" => compare_roll::run(tally, r, count, compare_roll::Name::IsRollFormer),
         "read_roll_former" => compare_roll::run(tally, r, count, compare_roll::Name::ReadRollFormer),
         "older rolls" => compare_roll::older(tally, r, count),
+        "same_set" => beside(tally, r, count, |r| call_audit::make(r, call_audit::Name::SameSet)),
+        "audit_compact_fc2" => beside(tally, r, count, |r| call_audit::make(r, call_audit::Name::Compact(2))),
+        "audit_compact_fc3" => beside(tally, r, count, |r| call_audit::make(r, call_audit::Name::Compact(3))),
+        "audit_compact_fc4" => beside(tally, r, count, |r| call_audit::make(r, call_audit::Name::Compact(4))),
+        "audit_fc2" => beside(tally, r, count, |r| call_audit::make(r, call_audit::Name::Full(2))),
+        "audit_fc3" => beside(tally, r, count, |r| call_audit::make(r, call_audit::Name::Full(3))),
+        "audit_fc4" => beside(tally, r, count, |r| call_audit::make(r, call_audit::Name::Full(4))),
+        "drift_report_compact_fc2" => beside(tally, r, count, |r| call_audit::make(r, call_audit::Name::DriftCompact)),
+        "drift_report_fc3" => beside(tally, r, count, |r| call_audit::make(r, call_audit::Name::DriftLegs)),
         _ => compare_lists::same_order(tally, r, count),
     }
 }

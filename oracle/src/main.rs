@@ -6,11 +6,13 @@ use std::path::Path;
 
 include!(concat!(env!("OUT_DIR"), "/originals.rs"));
 
+mod audit_records;
 mod bench;
 mod bench_common;
 mod bench_rows;
 mod c_names;
 mod call;
+mod call_audit;
 mod call_compact;
 mod call_deltas;
 mod call_distribute;
@@ -62,10 +64,10 @@ mod wild;
 #[global_allocator]
 static HEAP: memory::Counting = memory::Counting;
 
-const USAGE: &str = "oracle record common|shifts|matching|second|drift|compact|third|fourth|true|distribute|deltas|roll|retire|row_sums|finding|read_out FOLDER
+const USAGE: &str = "oracle record common|shifts|matching|second|drift|compact|third|fourth|true|distribute|deltas|roll|retire|row_sums|finding|read_out|audit FOLDER
 oracle flip PROGRAM FOLDER COUNT
 oracle compare all|limits|CALL [SEED [COUNT]]
-oracle bench all|common|cells|fc2|fc3|fc4|tables|transposes|swaps|drift|finding [SECONDS]";
+oracle bench all|common|cells|fc2|fc3|fc4|tables|transposes|swaps|drift|finding|audits [SECONDS]";
 
 /// Some(true) if all went well, Some(false) if the port differs, None if the words are no command.
 type Outcome = Option<bool>;
@@ -89,6 +91,7 @@ fn record(name: &str, folder: &Path) -> Outcome {
         "row_sums" => row_sums_records::replay(),
         "finding" => finding_records::replay(),
         "read_out" => read_out_records::replay(),
+        "audit" => audit_records::replay(),
         _ => return None,
     };
     fs::write(folder.join("stdin"), record::pages(&replay.records)).expect("stdin can be written");
@@ -112,11 +115,11 @@ fn bench(name: &str, patience: f64) -> Outcome {
     let bench = bench::Bench::new(patience);
     let groups: [(&str, fn(&bench::Bench)); 4] =
         [("cells", bench_rows::matching), ("fc2", bench_rows::second), ("fc3", bench_rows::third), ("fc4", bench_rows::fourth)];
-    let known = ["all", "common", "tables", "transposes", "swaps", "drift", "finding"].contains(&name) || groups.iter().any(|(group, _)| *group == name);
+    let known = ["all", "common", "tables", "transposes", "swaps", "drift", "finding", "audits"].contains(&name) || groups.iter().any(|(group, _)| *group == name);
     if ["all", "common"].contains(&name) {
         bench_common::common();
     }
-    if !["common", "tables", "transposes", "swaps", "drift", "finding"].contains(&name) && known {
+    if !["common", "tables", "transposes", "swaps", "drift", "finding", "audits"].contains(&name) && known {
         bench.head();
         groups.iter().filter(|(group, _)| name == "all" || name == *group).for_each(|(_, rows)| rows(&bench));
     }
@@ -134,6 +137,9 @@ fn bench(name: &str, patience: f64) -> Outcome {
     }
     if name == "finding" {
         bench_rows::findings(&bench);
+    }
+    if name == "audits" {
+        bench_rows::audits(&bench);
     }
     if known {
         let cores = std::thread::available_parallelism().map_or(0, |n| n.get());

@@ -239,6 +239,39 @@ static void drift(void) {
     CHECK(value[0] != value[0] && is_place(place, GF_ROWS, 0, 2, 1));
 }
 
+/* the drift of compact sets and of third order */
+static void drifts(void) {
+    double three[27] = {0}, fc3[216] = {0}, value[] = {7};
+    size_t place[] = {7, 7, 7, 7}, legs[] = {7, 7, 7, 7, 7, 7};
+    CHECK(gf_drift_report_compact_fc2(S(three), THREE, S(value), S(place), 3, 1, 1025) == GF_COUNT_ABOVE_LIMIT);
+    CHECK(gf_drift_report_compact_fc2(S(three), THREE, value, 0, S(place), 3, 1, 1025) == GF_COUNT_ABOVE_LIMIT);
+    CHECK(gf_drift_report_compact_fc2(S(three), THREE, value, 0, S(place), 3, 1, 3) == GF_WRONG_LENGTH);
+    CHECK(gf_drift_report_compact_fc2(three, 26, THREE, S(value), S(place), 3, 1, 3) == GF_WRONG_LENGTH);
+    CHECK(gf_drift_report_compact_fc2(S(three), S(beyond), S(three_s2pp), S(three_nsym), S(three_perms), S(value), S(place), 3, 1, 3) == GF_INDEX_OUT_OF_RANGE);
+    CHECK(gf_drift_report_compact_fc2(S(three), S(three_p2s), S(three_s2pp), S(three_wrong), S(three_perms), S(value), S(place), 3, 1, 3) == GF_BAD_SHIFT_TABLES);
+    CHECK(value[0] == 7 && is_place(place, 7, 7, 7, 7));
+    CHECK(gf_drift_report_compact_fc2(S(three), THREE, S(value), S(place), 3, 1, 3) == GF_DRIFT_STILL);
+    three[9 + 5] = 2; /* block (0, 1), directions 1 and 2: every row and every column of the full set has it once */
+    CHECK(gf_drift_report_compact_fc2(S(three), THREE, S(value), S(place), 3, 1, 3) == GF_DRIFT_WORST);
+    CHECK(value[0] == 2 && is_place(place, GF_ROWS, 0, 1, 2));
+    three[9 + 5] = (double)NAN;
+    CHECK(gf_drift_report_compact_fc2(S(three), THREE, S(value), S(place), 3, 1, 3) == GF_DRIFT_NO_NUMBER && value[0] != value[0]);
+
+    value[0] = 7;
+    CHECK(gf_drift_report_fc3(S(fc3), S(value), S(legs), 257) == GF_COUNT_ABOVE_LIMIT && gf_drift_report_fc3(S(fc3), S(value), legs, 5, 257) == GF_COUNT_ABOVE_LIMIT);
+    CHECK(gf_drift_report_fc3(S(fc3), S(value), legs, 5, 2) == GF_WRONG_LENGTH && gf_drift_report_fc3(S(fc3), S(value), S(legs), 3) == GF_WRONG_LENGTH);
+    CHECK(value[0] == 7 && legs[0] == 7 && legs[5] == 7);
+    CHECK(gf_drift_report_fc3(S(fc3), S(value), S(legs), 2) == GF_DRIFT_STILL && same_bits(value[0], 0.0) && legs[0] == 2 && legs[1] == 0);
+    CHECK(gf_drift_report_fc3(fc3, 0, S(value), S(legs), 0) == GF_DRIFT_STILL);
+    fc3[108] = 1, fc3[135] = -1; /* blocks (1, 0, 0) and (1, 0, 1): over the last leg they cancel */
+    CHECK(gf_drift_report_fc3(S(fc3), S(value), S(legs), 2) == GF_DRIFT_WORST && value[0] == 1);
+    CHECK(legs[0] == 1 && legs[1] == 1 && legs[2] == 0 && legs[3] + legs[4] + legs[5] == 0);
+    fc3[5] = -1; /* block (0, 0, 0), directions 0, 1, 2: over the last leg it stays, and that leg goes first */
+    CHECK(gf_drift_report_fc3(S(fc3), S(value), S(legs), 2) == GF_DRIFT_WORST && legs[0] == 2 && legs[1] == 0 && legs[3] == 0 && legs[4] == 1 && legs[5] == 2);
+    fc3[215] = (double)NAN;
+    CHECK(gf_drift_report_fc3(S(fc3), S(value), S(legs), 2) == GF_DRIFT_NO_NUMBER && legs[0] == 2 && legs[1] == 1 && legs[2] == 1 && legs[5] == 2);
+}
+
 /* sums are those of a fresh pass, by their bits */
 static bool fresh(const double *sums, const double *fc) {
     double again[18];
@@ -720,6 +753,88 @@ static void retire_all(void) {
     CHECK(gf_retire_all(S(lent), count[0], 8, S(count)) == GF_NOT_LAWFUL); /* 9 before 11 */
 }
 
+/* audits: a set as it is, and with one number changed in one block of a group; a refused call leaves the slots */
+static void same_sets(void) {
+    double a[] = {1.0, -0.0, 3.0}, b[] = {1.0, 0.0, 4.0}, numbers[2] = {7.0, 8.0};
+    size_t place[2] = {5, 6};
+    CHECK(gf_same_set(S(a), S(a), S(place), S(numbers)) == GF_ALIKE && place[0] == 5 && numbers[1] == 8.0);
+    CHECK(gf_same_set(S(a), b, 2, S(place), S(numbers)) == GF_WRONG_LENGTH && place[0] == 5);
+    CHECK(gf_same_set(S(a), S(b), place, 1, S(numbers)) == GF_WRONG_LENGTH && numbers[0] == 7.0);
+    CHECK(gf_same_set(S(a), S(b), S(place), numbers, 1) == GF_WRONG_LENGTH && numbers[0] == 7.0 && place[0] == 5);
+    CHECK(gf_same_set(S(a), S(b), S(place), S(numbers)) == GF_UNLIKE && place[0] == 1 && place[1] == 0);
+    CHECK(same_bits(numbers[0], -0.0) && same_bits(numbers[1], 0.0));
+    a[1] = b[1] = NAN, b[2] = 3.0;
+    CHECK(gf_same_set(S(a), S(b), S(place), S(numbers)) == GF_ALIKE);
+    CHECK(gf_same_set(a, 0, b, 0, S(place), S(numbers)) == GF_ALIKE);
+}
+
+static void audits_second_order(void) {
+    double numbers[2] = {7.0, 8.0}, fc[36] = {0}, three[27] = {0};
+    size_t place[2] = {5, 6};
+    fc[10] = 2.0, fc[21] = 2.0; /* (0, x), (1, y) and (1, y), (0, x) */
+    CHECK(gf_audit_fc2(S(fc), S(place), S(numbers), 2) == GF_ALIKE && place[0] == 5 && numbers[0] == 7.0);
+    fc[21] = 2.5;
+    CHECK(gf_audit_fc2(S(fc), S(place), S(numbers), 1025) == GF_COUNT_ABOVE_LIMIT && gf_audit_fc2(S(fc), place, 1, S(numbers), 1025) == GF_COUNT_ABOVE_LIMIT);
+    CHECK(gf_audit_fc2(S(fc), place, 1, S(numbers), 2) == GF_WRONG_LENGTH && gf_audit_fc2(fc, 35, S(place), S(numbers), 2) == GF_WRONG_LENGTH);
+    CHECK(gf_audit_fc2(S(fc), S(place), numbers, 3, 2) == GF_WRONG_LENGTH && place[0] == 5 && numbers[0] == 7.0);
+    CHECK(gf_audit_fc2(S(fc), S(place), S(numbers), 2) == GF_UNLIKE && place[0] == 10 && place[1] == 1);
+    CHECK(numbers[0] == 2.0 && numbers[1] == 2.5);
+    CHECK(gf_audit_fc2(fc, 0, S(place), S(numbers), 0) == GF_ALIKE);
+
+    three[13] = three[22] = 1.0; /* blocks (0, 1) and (0, 2) are each other's exchange; place 13 is (1, 1) of the first */
+    CHECK(gf_audit_compact_fc2(S(three), THREE, S(place), S(numbers), 3, 1, 3) == GF_ALIKE);
+    three[22] = -1.0;
+    CHECK(gf_audit_compact_fc2(S(three), THREE, S(place), S(numbers), 3, 1, 3) == GF_UNLIKE && place[0] == 13 && place[1] == 1);
+    CHECK(numbers[0] == 1.0 && numbers[1] == -1.0);
+    CHECK(gf_audit_compact_fc2(S(three), S(three_p2s), S(three_s2pp), S(three_wrong), S(three_perms), S(place), S(numbers), 3, 1, 3) == GF_BAD_SHIFT_TABLES);
+    CHECK(gf_audit_compact_fc2(S(three), S(beyond), S(three_s2pp), S(three_nsym), S(three_perms), S(place), S(numbers), 3, 1, 3) == GF_INDEX_OUT_OF_RANGE);
+    CHECK(gf_audit_compact_fc2(S(three), THREE, S(place), S(numbers), 3, 1, 1025) == GF_COUNT_ABOVE_LIMIT);
+    CHECK(gf_audit_compact_fc2(S(three), THREE, S(place), numbers, 1, 3, 1, 1025) == GF_COUNT_ABOVE_LIMIT);
+    CHECK(gf_audit_compact_fc2(S(three), THREE, S(place), numbers, 1, 3, 1, 3) == GF_WRONG_LENGTH && place[0] == 13 && numbers[1] == -1.0);
+}
+
+static void audits_third_order(void) {
+    double numbers[2] = {7.0, 8.0}, fc3[27], set3[243];
+    size_t place[2] = {5, 6};
+    uint8_t done[9];
+    count_up(fc3, 27);
+    CHECK(gf_audit_fc3(S(fc3), S(place), S(numbers), 257) == GF_COUNT_ABOVE_LIMIT && gf_audit_fc3(fc3, 26, S(place), S(numbers), 1) == GF_WRONG_LENGTH);
+    CHECK(gf_audit_fc3(S(fc3), place, 3, S(numbers), 1) == GF_WRONG_LENGTH && place[0] == 5 && numbers[0] == 7.0);
+    CHECK(gf_audit_fc3(S(fc3), S(place), S(numbers), 1) == GF_UNLIKE && place[0] == 1 && place[1] == 1);
+    CHECK(numbers[0] == 2.0 && numbers[1] == 4.0); /* (x, x, y) and (x, y, x) */
+    CHECK(gf_set_permutation_symmetry_fc3(S(fc3), 1) == GF_DONE && gf_audit_fc3(S(fc3), S(place), S(numbers), 1) == GF_ALIKE);
+    count_up(set3, 243);
+    CHECK(gf_set_permutation_symmetry_compact_fc3(S(set3), THREE, S(done), 3, 1, 3) == GF_DONE);
+    CHECK(gf_audit_compact_fc3(S(set3), THREE, S(place), S(numbers), 3, 1, 3) == GF_ALIKE);
+    set3[7 * 27 + 5] += 1.0; /* in one of the six blocks of a group: the first that differs is in the first of them */
+    CHECK(gf_audit_compact_fc3(S(set3), THREE, S(place), S(numbers), 3, 1, 3) == GF_UNLIKE && place[0] / 27 == 5 && numbers[1] == numbers[0] + 1.0);
+    CHECK(gf_audit_compact_fc3(S(set3), THREE, S(place), S(numbers), 257, 1, 3) == GF_COUNT_ABOVE_LIMIT);
+    CHECK(gf_audit_compact_fc3(set3, 242, THREE, S(place), S(numbers), 3, 1, 3) == GF_WRONG_LENGTH);
+    CHECK(gf_audit_compact_fc3(S(set3), S(three_p2s), S(three_s2pp), S(three_wrong), S(three_perms), S(place), S(numbers), 3, 1, 3) == GF_BAD_SHIFT_TABLES);
+    CHECK(gf_audit_compact_fc3(S(set3), S(beyond), S(three_s2pp), S(three_nsym), S(three_perms), S(place), S(numbers), 3, 1, 3) == GF_INDEX_OUT_OF_RANGE);
+    CHECK(place[0] / 27 == 5 && numbers[1] == numbers[0] + 1.0);
+}
+
+static void audits_fourth_order(void) {
+    double numbers[2] = {7.0, 8.0}, fc4[81], set4[2187];
+    size_t place[2] = {5, 6};
+    uint8_t done[27];
+    count_up(fc4, 81);
+    CHECK(gf_audit_fc4(S(fc4), S(place), S(numbers), 65) == GF_COUNT_ABOVE_LIMIT && gf_audit_fc4(fc4, 80, S(place), S(numbers), 1) == GF_WRONG_LENGTH);
+    CHECK(gf_audit_fc4(S(fc4), S(place), numbers, 0, 1) == GF_WRONG_LENGTH && place[0] == 5 && numbers[0] == 7.0);
+    CHECK(gf_audit_fc4(S(fc4), S(place), S(numbers), 1) == GF_UNLIKE && place[0] == 1 && place[1] == 1 && numbers[1] == 4.0);
+    CHECK(gf_set_permutation_symmetry_fc4(S(fc4), done, 1, 1) == GF_DONE && gf_audit_fc4(S(fc4), S(place), S(numbers), 1) == GF_ALIKE);
+    count_up(set4, 2187);
+    CHECK(gf_set_permutation_symmetry_compact_fc4(S(set4), THREE, S(done), 3, 1, 3) == GF_DONE);
+    CHECK(gf_audit_compact_fc4(S(set4), THREE, S(place), S(numbers), 3, 1, 3) == GF_ALIKE);
+    set4[2185] += 1.0; /* directions z z z y of block (0, 2, 2, 2) */
+    CHECK(gf_audit_compact_fc4(S(set4), THREE, S(place), S(numbers), 3, 1, 3) == GF_UNLIKE && place[1] != 0 && numbers[0] != numbers[1]);
+    CHECK(gf_audit_compact_fc4(S(set4), THREE, S(place), S(numbers), 65, 1, 3) == GF_COUNT_ABOVE_LIMIT);
+    CHECK(gf_audit_compact_fc4(set4, 0, THREE, S(place), S(numbers), 3, 1, 3) == GF_WRONG_LENGTH);
+    CHECK(gf_audit_compact_fc4(S(set4), S(three_p2s), S(three_s2pp), S(three_wrong), S(three_perms), S(place), S(numbers), 3, 1, 3) == GF_BAD_SHIFT_TABLES);
+    CHECK(gf_audit_compact_fc4(S(set4), S(beyond), S(three_s2pp), S(three_nsym), S(three_perms), S(place), S(numbers), 3, 1, 3) == GF_INDEX_OUT_OF_RANGE);
+}
+
 int main(void) {
     about();
     rounding();
@@ -729,6 +844,7 @@ int main(void) {
     finding();
     full_second_order();
     drift();
+    drifts();
     edits();
     compact_second_order();
     full_sets();
@@ -746,6 +862,10 @@ int main(void) {
     older_roll();
     stands_now();
     retire_all();
+    same_sets();
+    audits_second_order();
+    audits_third_order();
+    audits_fourth_order();
     printf("%d of %d hold\n", checks - failures, checks);
     return failures != 0;
 }

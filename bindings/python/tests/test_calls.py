@@ -132,6 +132,14 @@ class Second(unittest.TestCase):
         self.assertTrue(kind is gf.DriftKind.NO_NUMBER and np.isnan(value))
         self.assertEqual(place, [gf.Along.ROWS, 2, (2, 2)])
 
+    def test_drift_of_a_compact_set(self):
+        """The report of the full set that it reads out to; sums are exact on the grid."""
+        for t in TABLES:
+            fc = np.round(random(t.n_patom, t.n_satom, 3, 3) * 64) / 64
+            self.assertEqual(gf.drift_report_compact_fc2(fc, t), gf.drift_report(np.ascontiguousarray(read_out(fc, t))))
+            fc[0, -1, 1, 2] = np.nan
+            self.assertEqual(gf.drift_report_compact_fc2(fc, t)[2:], gf.drift_report(np.ascontiguousarray(read_out(fc, t)))[2:])
+
     def test_distribute(self):
         t = grid_tables((3, 1, 1), 2)
         compact = random(2, 6, 3, 3)
@@ -333,6 +341,28 @@ class HigherOrders(unittest.TestCase):
                 for k in range(3):
                     expected[(slice(None),) * order + (k,)] += inv_u[k, d * num_sym + s] * turned
             np.testing.assert_allclose(call(deltas, inv_u, rotations, maps), expected, atol=1e-12)
+
+
+class Drifts(unittest.TestCase):
+    """Of third order, beside sums that are exact on the grid."""
+
+    def test_worst(self):
+        for n in (1, 2, 3):
+            for seed in range(8):
+                fc = np.round(random(n, n, n, 3, 3, 3, seed=seed) * 8) / 8
+                sums = [np.abs(fc.sum(axis=leg)) for leg in (2, 1, 0)]
+                worst = max(float(s.max()) for s in sums)
+                k, s = next((k, s) for k, s in enumerate(sums) if s.max() == worst)
+                place = [int(i) for i in np.unravel_index(np.argmax(s), s.shape)]
+                self.assertEqual(gf.drift_report_fc3(fc), (gf.DriftKind.WORST, worst, 2 - k, tuple(place[:2]), tuple(place[2:])))
+
+    def test_still_and_no_number(self):
+        fc = np.zeros((2, 2, 2, 3, 3, 3))
+        self.assertEqual(gf.drift_report_fc3(fc), (gf.DriftKind.STILL, 0.0, 2, (0, 0), (0, 0, 0)))
+        fc[1, 0, 1, 2, 1, 0] = np.nan
+        kind, value, *place = gf.drift_report_fc3(fc)
+        self.assertTrue(kind is gf.DriftKind.NO_NUMBER and np.isnan(value))
+        self.assertEqual(place, [2, (1, 0), (2, 1, 0)])
 
 
 class Roll(unittest.TestCase):

@@ -185,6 +185,23 @@ class Checks(Room):
         for name in ("delivery-fc2.png", "delivery-fc3.png"):
             self.assertTrue(pathlib.Path(self.path(name)).read_bytes().startswith(b"\x89PNG"))
 
+    @unittest.skipUnless(matplotlib, "needs matplotlib")
+    def test_plot_of_every_kind_of_set(self):
+        """Third order, zeros, no tables, and what cannot be drawn: numbers that are none, tables that break a rule."""
+        fc3 = random(3, 3, 3, 3, 3, 3)
+        for fc in (fc3, np.zeros((2, 2, 3, 3)), random(1, 4, 3, 3), random(1, 4, 4, 3, 3, 3), np.ones((1, 1, 3, 3))):
+            self.assertIn("drawn          " + self.path("plot.png"), self.judged(1, "VERDICT", fc, "--plot", self.path("plot.png")))
+            os.remove(self.path("plot.png"))
+        fc3[0, 1, 2, 0, 1, 2] = np.nan
+        self.assertIn("drawn          nothing: numbers", self.judged(1, "finite", fc3, "--plot", self.path("plot.png")))
+        shutil.copytree(SAMPLE, self.path("in"))
+        tables = pathlib.Path(self.path("in"), "tables.txt")
+        tables.write_text(tables.read_text().replace("nsym_list 0 1 2", "nsym_list 0 2 1"))
+        status, out, err = self.run_check(self.path("in"), "--plot", self.path("plot.png"))
+        self.assertEqual((status, err), (1, ""))
+        self.assertEqual(out.count("drawn          nothing: tables"), 2)
+        self.assertFalse([name for name in os.listdir(self.room.name) if name.endswith(".png")])
+
 
 @unittest.skipUnless(test_phonopy, "needs phonopy")
 class WithACell(Room):

@@ -284,14 +284,49 @@ pub struct DriftReport {
 /// ```
 pub fn drift_report(fc: &[f64], n_satom: usize) -> Result<DriftReport, Refusal> {
     let (mut value, mut place) = ([0.0], [0; 4]);
-    let drift = match call!(gf_drift_report(&fc, &mut value, &mut place, n_satom)) {
-        65 => Drift::Still,
-        66 => Drift::Worst(value[0]),
-        67 => Drift::NoNumber,
-        number => return Err(answer(number).expect_err("a report is never answered with 0")),
-    };
+    let number = call!(gf_drift_report(&fc, &mut value, &mut place, n_satom));
+    Ok(placed(drift_of(number, value)?, place))
+}
+
+/// The drift of an answer.
+pub(crate) fn drift_of(number: u8, value: [f64; 1]) -> Result<Drift, Refusal> {
+    match number {
+        65 => Ok(Drift::Still),
+        66 => Ok(Drift::Worst(value[0])),
+        67 => Ok(Drift::NoNumber),
+        _ => Err(answer(number).expect_err("a report is never answered with 0")),
+    }
+}
+
+fn placed(drift: Drift, place: [usize; 4]) -> DriftReport {
     let along = if place[0] == 0 { Along::Rows } else { Along::Columns };
-    Ok(DriftReport { drift, along, atom: place[1], directions: [place[2], place[3]] })
+    DriftReport { drift, along, atom: place[1], directions: [place[2], place[3]] }
+}
+
+/// The drift of a compact set of n_patom × n_satom × 9 numbers: that of the full set which it reads out to. Not in phonors.
+///
+/// ```
+/// use gullyfork::fc2::{drift_report_compact_fc2, Drift};
+///
+/// let mut fc = [0.0; 18]; // two atoms that a shift exchanges: blocks (0, 0) and (0, 1)
+/// (fc[0], fc[9]) = (2.0, -1.5);
+/// assert_eq!(drift_report_compact_fc2(&fc, &[0], &[0, 0], &[0, 1], &[0, 1, 1, 0], 2, 1)?.drift, Drift::Worst(0.5));
+/// # Ok::<(), gullyfork::Refusal>(())
+/// ```
+pub fn drift_report_compact_fc2(
+    fc: &[f64],
+    p2s: &[i64],
+    s2pp: &[i64],
+    nsym_list: &[i64],
+    perms: &[i64],
+    n_satom: usize,
+    n_patom: usize,
+) -> Result<DriftReport, Refusal> {
+    let (mut value, mut place) = ([0.0], [0; 4]);
+    let num_trans = rows(perms.len(), n_satom);
+    let number =
+        call!(gf_drift_report_compact_fc2(&fc, &p2s, &s2pp, &nsym_list, &perms, &mut value, &mut place, n_satom, n_patom, num_trans));
+    Ok(placed(drift_of(number, value)?, place))
 }
 
 /// The row sums of a full set of n_satom² × 9 numbers: for each atom and pair of directions the sum over the second atom, from 0.0 and

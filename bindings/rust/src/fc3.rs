@@ -1,4 +1,5 @@
 //! Third order.
+use crate::fc2::{drift_of, Drift};
 use crate::ffi::call;
 use crate::{answer, room, rows, Refusal};
 
@@ -293,4 +294,34 @@ pub fn compact_to_full_fc3(
 ) -> Result<(), Refusal> {
     let num_trans = rows(perms.len(), n_satom);
     answer(call!(gf_compact_to_full_fc3(&mut full, &fc3, &p2s, &s2pp, &nsym_list, &perms, n_satom, n_patom, num_trans)))
+}
+
+/// A drift and its place: the leg that is summed over (0, 1 or 2), the atoms of the two other legs, and three directions. Still has leg 2
+/// and zeros; otherwise it is the first place that has the worst value, or that is NaN: the sums over the last leg come first, then those
+/// over the middle one and the first; then by atoms, then by directions.
+#[derive(Clone, Copy, Debug, PartialEq)]
+pub struct LegReport {
+    pub drift: Drift,
+    pub leg: usize,
+    pub atoms: [usize; 2],
+    pub directions: [usize; 3],
+}
+
+/// The drift of a full set of num_atom³ × 27 numbers: the sums over each leg. Not in phonors.
+///
+/// ```
+/// use gullyfork::fc2::Drift;
+/// use gullyfork::fc3::{drift_report_fc3, LegReport};
+///
+/// let mut fc3 = [0.0; 216]; // two atoms
+/// (fc3[108], fc3[135]) = (1.0, -1.0); // blocks (1, 0, 0) and (1, 0, 1): over the last leg they cancel
+/// let worst = LegReport { drift: Drift::Worst(1.0), leg: 1, atoms: [1, 0], directions: [0, 0, 0] };
+/// assert_eq!(drift_report_fc3(&fc3, 2)?, worst);
+/// # Ok::<(), gullyfork::Refusal>(())
+/// ```
+pub fn drift_report_fc3(fc: &[f64], num_atom: usize) -> Result<LegReport, Refusal> {
+    let (mut value, mut place) = ([0.0], [0; 6]);
+    let drift = drift_of(call!(gf_drift_report_fc3(&fc, &mut value, &mut place, num_atom)), value)?;
+    let [leg, a, b, k, l, m] = place;
+    Ok(LegReport { drift, leg, atoms: [a, b], directions: [k, l, m] })
 }

@@ -206,7 +206,9 @@ pub fn swap_pairs_compact_fc4_with(
     leg_a: usize,
     leg_b: usize,
 ) -> Result<(), Refusal> {
-    answer(call!(gf_swap_pairs_compact_fc4(&mut fc4, &p2s, &s2pp, &nsym_list, &perms, &mut done, n_satom, n_patom, num_trans, leg_a, leg_b)))
+    answer(call!(gf_swap_pairs_compact_fc4(
+        &mut fc4, &p2s, &s2pp, &nsym_list, &perms, &mut done, n_satom, n_patom, num_trans, leg_a, leg_b
+    )))
 }
 
 /// Fills slab `target` from slab `source`, a slab being the num_atom³ × 81 numbers of one first atom, as

@@ -25,6 +25,7 @@
 //! assert_eq!(fc3::set_permutation_symmetry_fc3(&mut set, 2), Err(Refusal::WrongLength));
 //! # Ok::<(), Refusal>(())
 //! ```
+pub mod audit;
 pub mod cells;
 pub mod common;
 pub mod fc2;

@@ -1,5 +1,5 @@
 //! Refused calls leave every slice, counts beyond every limit cost no memory, and work memory has no influence and ends in zeros.
-use gullyfork::{cells, cells::MatchError, fc2, fc3, fc4, roll, tables, Refusal};
+use gullyfork::{audit, audit::Audit, cells, cells::MatchError, fc2, fc3, fc4, roll, tables, Refusal};
 
 const HUGE: usize = usize::MAX;
 const IDENTITY: [f64; 9] = [1.0, 0.0, 0.0, 0.0, 1.0, 0.0, 0.0, 0.0, 1.0];
@@ -41,6 +41,35 @@ fn huge_counts_are_refused_before_memory_is_asked_for() {
     assert_eq!(fc4::distribute_fc4(&mut set, 1, 0, &[], HUGE, &IDENTITY), above);
     assert_eq!(fc4::rotate_delta_fc3s(&mut set, &[], &[], &[], &[], 65, 1, 1), above);
     assert_eq!(set, counting(27));
+}
+
+#[test]
+fn audits_and_drifts_refuse_as_the_calls_of_their_order() {
+    let (set, above, wrong) = (counting(27), Refusal::CountAboveLimit, Refusal::WrongLength);
+    assert_eq!(fc2::drift_report_compact_fc2(&set, &[], &[], &[], &[], HUGE, 1), Err(above));
+    assert_eq!(fc3::drift_report_fc3(&set, 257), Err(above));
+    assert_eq!(audit::audit_fc2(&set, 1025), Err(above));
+    assert_eq!(audit::audit_fc3(&set, 257), Err(above));
+    assert_eq!(audit::audit_fc4(&set, 65), Err(above));
+    assert_eq!(audit::audit_compact_fc2(&set, &[], &[], &[], &[], HUGE, 1), Err(above));
+    assert_eq!(audit::audit_compact_fc3(&set, &[], &[], &[], &[], 1, 257), Err(above));
+    assert_eq!(audit::audit_compact_fc4(&set, &[], &[], &[], &[], 65, HUGE), Err(above));
+    assert_eq!(audit::audit_fc2(&set, 1), Err(wrong));
+    assert_eq!(audit::audit_fc3(&set[..26], 1), Err(wrong));
+    assert_eq!(fc3::drift_report_fc3(&set[..26], 1), Err(wrong));
+    assert_eq!(audit::same_set(&set, &set[..26]), Err(wrong));
+    assert_eq!(audit::audit_compact_fc2(&set, &[0], &[0; 3], &[0, 1, 2], &ROWS, 3, 1), Err(Refusal::BadShiftTables));
+    assert_eq!(fc2::drift_report_compact_fc2(&set, &[3], &[0; 3], &[0, 2, 1], &ROWS, 3, 1), Err(Refusal::IndexOutOfRange));
+}
+
+#[test]
+fn a_symmetrized_set_is_alike_and_one_swapped_leg_is_found() {
+    let mut set: Vec<f64> = (0..243).map(|k| f64::from(k * k * k % 101)).collect();
+    fc3::set_permutation_symmetry_compact_fc3(&mut set, &[0], &[0; 3], &[0, 2, 1], &ROWS, 3, 1).unwrap();
+    let seen = |set: &[f64]| audit::audit_compact_fc3(set, &[0], &[0; 3], &[0, 2, 1], &ROWS, 3, 1).unwrap();
+    assert_eq!(seen(&set), Audit::Alike);
+    set.swap(27 * 5 + 5, 27 * 5 + 7); // directions 0 1 2 and 0 2 1 of block (0, 1, 2)
+    assert!(matches!(seen(&set), Audit::Unlike(found) if found.here != found.there && found.order != 0));
 }
 
 #[test]
@@ -170,9 +199,13 @@ fn a_roll_that_is_none_is_left_alone() {
     let mut file = [9; 40];
     file[..8].copy_from_slice(&roll::EMPTY);
     let before = file;
-    for (count, set, label, refusal) in
-        [(7, 1, 0, Refusal::NotARoll), (41, 1, 0, Refusal::NotARoll), (8, 0, 0, Refusal::NotARoll), (8, 1, 256, Refusal::NotARoll), (8, 1, 19, Refusal::NoRoom)]
-    {
+    for (count, set, label, refusal) in [
+        (7, 1, 0, Refusal::NotARoll),
+        (41, 1, 0, Refusal::NotARoll),
+        (8, 0, 0, Refusal::NotARoll),
+        (8, 1, 256, Refusal::NotARoll),
+        (8, 1, 19, Refusal::NoRoom),
+    ] {
         assert_eq!(roll::append(&mut file, count, roll::DELIVERY, set, 0, &vec![65; label]), Err(refusal));
     }
     assert_eq!(file, before);
@@ -238,5 +271,8 @@ fn a_set_retired_everywhere() {
     count = roll::retire_all(&mut file, count, 7).unwrap();
     assert_eq!(roll::retire_all(&mut file, count, 5), Ok(count));
     let records: Vec<_> = roll::records(&file, count).map(|r| r.unwrap()).collect();
-    assert_eq!(records[2..].iter().map(|r| (r.kind, r.set, r.label.len())).collect::<Vec<_>>(), [(roll::RETIREMENT, 5, 0), (roll::RETIREMENT, 7, 0)]);
+    assert_eq!(
+        records[2..].iter().map(|r| (r.kind, r.set, r.label.len())).collect::<Vec<_>>(),
+        [(roll::RETIREMENT, 5, 0), (roll::RETIREMENT, 7, 0)]
+    );
 }

@@ -2,7 +2,7 @@
 use mathlib.Core.Path.{_≡_, refl, ap, _∙_}
 use mathlib.Core.Bool.{Bool, true, false, cond, _&&_}
 use mathlib.Core.List.{List, [], _∷_}
-use Prim.Native.Nat.{ℕ, _+_, _*_, _≤_, _<_}
+use Prim.Native.Nat.{ℕ, _+_, _≤_, _<_}
 use native.Mathlib.Omega.{arith}
 use lib.Dec.{eqb}
 use lib.ListN.{length, set}
@@ -49,7 +49,7 @@ pub fits : (v p : ℕ) → slotsFit v p ≡ true → (v ≡ 1) × (p ≡ 4)
 fits v p e = (eqb-true v 1 (and-fst (eqb v 1) (eqb p 4) e), eqb-true p 4 (and-snd (eqb v 1) (eqb p 4) e))
 
 -- the slots after their writes
-one-slot : (value : List Float) (x : Float) → length value ≡ 1 → set value 0 x ≡ (x ∷ [])
+pub one-slot : (value : List Float) (x : Float) → length value ≡ 1 → set value 0 x ≡ (x ∷ [])
 one-slot [] x e = absurd (omega (arith, e))
 one-slot (_ ∷ []) x e = refl
 one-slot (_ ∷ (_ ∷ _)) x e = absurd (omega (arith, e))

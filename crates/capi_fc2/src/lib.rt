@@ -112,14 +112,14 @@ pub extern "C" fn gf_true_transpose_compact_fc2(
 }
 
 // Whether the slots have the stated lengths, one for the value and four for the place.
-fn slots_fit(len_value: usize, len_place: usize) -> bool
+pub fn slots_fit(len_value: usize, len_place: usize) -> bool
     ensures { λ r. ⌜ r ≡ slotsFit «len_value» «len_place» ⌝ }
 {
     len_value == 1 && len_place == 4
 }
 
 // Puts a drift's answer into the slots: its value, and its place, rows or columns, the atom and two directions. A refusal leaves them.
-fn report(a: DriftAnswer, value: &mut [f64], place: &mut [usize]) -> u8
+pub fn report(a: DriftAnswer, value: &mut [f64], place: &mut [usize]) -> u8
     requires { ⌜ (length (now value) ≡ 1) × (length (now place) ≡ 4) ⌝ }
     ensures { λ r. ⌜ (r, now (value .exit), now (place .exit)) ≡ reported a (now (value .entry)) (now (place .entry)) ⌝ }
 {

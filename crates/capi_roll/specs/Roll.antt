@@ -1,6 +1,6 @@
 -- What the C names of a delivery roll answer and leave (document 02, A.7, A.8, A.12 and A.13), on every input. A slot of a wrong length is
 -- refusal 2, which comes after 7 and before all others. Assumes nothing.
-use mathlib.Core.Bool.{Bool, cond}
+use mathlib.Core.Bool.{cond}
 use mathlib.Core.List.{List, [], _∷_}
 use Prim.Native.Nat.{ℕ, _+_}
 use lib.Dec.{eqb}

@@ -1,6 +1,5 @@
 // C names over the crates roll, roll_read, roll_append, standing and retire. A slice is passed as a pointer and its length; include/gullyfork.h says the rest.
 ghost use mathlib.Core.Path.{_≡_};
-ghost use mathlib.Core.Bool.{cond};
 ghost use mathlib.Core.List.{[], _∷_};
 ghost use Prim.Native.Nat.{_+_};
 ghost use lib.ListN.{length};

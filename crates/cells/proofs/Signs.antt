@@ -1,6 +1,5 @@
 -- The program holds an i64 by its bits; what it reads back is the number itself, so a slot is filled exactly if it is not below 0. Assumes nothing.
 use mathlib.Core.Path.{_≡_, refl, sym, subst}
-use mathlib.Core.Bool.{Bool, true, false, not}
 use lib.IntN.{ℤ, pos, negsuc}
 use lib.Signed.{leZ}
 use native.Mathlib.Omega.{arith}

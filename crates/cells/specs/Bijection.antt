@@ -1,20 +1,20 @@
 -- The answer is true exactly if all slots are filled; then the slots are a bijection and every pair is near (document 01, "Matched atoms").
 -- Assumes nothing.
 use mathlib.Core.Path.{_≡_, refl, sym, ap, _∙_, subst}
-use mathlib.Core.Bool.{Bool, true, false, cond, not, _&&_, true≢false, false≢true}
+use mathlib.Core.Bool.{Bool, true, false, cond, not, true≢false}
 use mathlib.Core.Logic.{_⊎_, inl, inr, _↔_}
 use mathlib.Core.List.{List, [], _∷_}
-use Prim.Native.Nat.{ℕ, zero, suc, _+_, _≤_, _<_}
+use Prim.Native.Nat.{ℕ, zero, suc, _≤_, _<_}
 use native.Mathlib.Nat.{not-suc-le-zero}
 use native.Mathlib.Omega.{arith}
 use lib.Dec.{ltb}
 use lib.IntN.{ℤ, pos, negsuc}
-use lib.ListN.{length, getD, set, replicate, length-set, length-replicate, getD-replicate}
+use lib.ListN.{length, set, replicate, length-set, length-replicate, getD-replicate}
 use lib.Seq.{getD-set-same, getD-set-other, set-out}
 use lib.Ieee.{Float}
 use borrow.Author.Tests.{not-true}
 use Rattle.lists.specs.Cases.{lt-or-le, eq-or-ne}
-use Rattle.lists.specs.Tests.{split, and-fst, and-snd, not-both, refuted}
+use Rattle.lists.specs.Tests.{and-fst, and-snd, not-both}
 use Rattle.lists.specs.Tab.{times}
 use Rattle.tables.specs.declared.Answer.the-variants.{Done}
 use Rattle.distances.specs.declared.Cell.{Cell}
@@ -23,7 +23,7 @@ use Rattle.cells.specs.declared.Pair.{Pair}
 use Rattle.cells.specs.declared.Matching.{Matching}
 use Rattle.cells.specs.declared.Matching.the-variants.{Matched, NotMatched, NoNumber}
 use Rattle.cells.specs.Matching.{isFilled, lowest, takes, place, placedTo, placed, allFilled, judged, firstNone, failedBy, computePermutation}
-use Rattle.cells.specs.Slots.{slotAt, lowest-le, lowest-passes, filled-at, not-all-filled, all-filled, length-place}
+use Rattle.cells.specs.Slots.{slotAt, lowest-passes, filled-at, all-filled}
 use Rattle.cells.specs.Outcome.{ended}
 
 -- slot j holds a position below n that is near it

@@ -1,7 +1,7 @@
 -- What a match that fails says of distances that are no number (document 02, A.3): the pair it names was tried, is no number, and no pair tried before it is; if it
 -- names none, no pair that was tried is. Assumes nothing.
 use mathlib.Core.Path.{_≡_, refl, sym, ap, _∙_, subst}
-use mathlib.Core.Bool.{Bool, true, false, cond, not, _&&_, true≢false, false≢true}
+use mathlib.Core.Bool.{Bool, true, false, cond, not, false≢true}
 use mathlib.Core.Logic.{_⊎_, inl, inr}
 use mathlib.Core.List.{List}
 use Prim.Native.Nat.{ℕ, _≤_, _<_}
@@ -17,7 +17,7 @@ use Rattle.tables.specs.declared.Answer.the-variants.{Done}
 use Rattle.distances.specs.declared.Cell.{Cell}
 use Rattle.distances.specs.declared.Distance.{Distance}
 use Rattle.distances.specs.declared.Distance.the-variants.{Near, Far, NoNumber as None}
-use Rattle.distances.specs.Near.{isNear, isNone, nearBy, near, distance}
+use Rattle.distances.specs.Near.{isNone, nearBy, near, distance}
 use Rattle.cells.specs.declared.Pair.{Pair}
 use Rattle.cells.specs.declared.Matching.{Matching}
 use Rattle.cells.specs.declared.Matching.the-variants.{Matched, NotMatched, NoNumber, Refused}

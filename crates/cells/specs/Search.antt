@@ -1,24 +1,23 @@
 -- What the functions that fill the slots note of distances that are no number, as their loops run, and that it is the first pair. Assumes nothing.
 use mathlib.Core.Path.{_≡_, refl, sym, ap, ap₂, _∙_, subst}
-use mathlib.Core.Bool.{Bool, true, false, cond, not, _&&_, true≢false, false≢true}
-use mathlib.Core.Logic.{_⊎_, inl, inr, ⊎-elim}
-use mathlib.Core.List.{List, [], _∷_}
-use Prim.Native.Nat.{ℕ, zero, suc, _+_, _*_, _≤_, _<_}
+use mathlib.Core.Bool.{Bool, true, false, cond, not, _&&_}
+use mathlib.Core.Logic.{_⊎_, ⊎-elim}
+use mathlib.Core.List.{List}
+use Prim.Native.Nat.{ℕ, zero, suc, _+_, _≤_, _<_}
 use native.Mathlib.Nat.{not-suc-le-zero}
 use native.Mathlib.Omega.{arith}
 use lib.Dec.{ltb}
 use lib.IntN.{ℤ, pos, negsuc}
-use lib.ListN.{length, getD, set, replicate, length-replicate}
+use lib.ListN.{length, set, replicate, length-replicate}
 use lib.Seq.{set-out}
-use borrow.Author.Tests.{lt-ltb, le-ltb, ltb-true, ltb-false}
+use borrow.Author.Tests.{lt-ltb, le-ltb, ltb-true}
 use Rattle.lists.specs.Tab.{times}
-use Rattle.lists.specs.Tests.{split, not-both}
+use Rattle.lists.specs.Tests.{split}
 use Rattle.lists.specs.Cases.{lt-or-le, eq-or-ne}
 use Rattle.distances.specs.declared.Distance.{Distance}
 use Rattle.distances.specs.declared.Distance.the-variants.{Near, Far, NoNumber}
 use Rattle.distances.specs.Near.{isNear, isNone, nearBy}
 use Rattle.cells.specs.declared.Pair.{Pair}
-use Rattle.cells.specs.declared.Matching.{Matching}
 use Rattle.cells.specs.declared.Matching.the-variants.{NotMatched, NoNumber as Named}
 use Rattle.cells.specs.Matching.{isFilled, lowest, takes, place, placedTo, takenAt, blank, noneAt, hasNone, firstNone, failedBy}
 use Rattle.cells.specs.Slots.{slotAt, is-lowest, lowest-le, length-place}

@@ -1,15 +1,15 @@
 -- What the functions that fill the slots ask of what they are lent, and laws of the slots. Assumes nothing.
-use mathlib.Core.Path.{_≡_, refl, sym, ap, _∙_, subst}
-use mathlib.Core.Bool.{Bool, true, false, cond, not, _&&_, true≢false}
+use mathlib.Core.Path.{_≡_, refl, ap, _∙_}
+use mathlib.Core.Bool.{Bool, true, false, cond}
 use mathlib.Core.Logic.{_⊎_, inl, inr}
 use mathlib.Core.List.{List, [], _∷_}
-use Prim.Native.Nat.{ℕ, zero, suc, _+_, _*_, _≤_, _<_}
-use native.Mathlib.Nat.{not-suc-le-zero, ne-of-lt}
+use Prim.Native.Nat.{ℕ, zero, suc, _*_, _≤_, _<_}
+use native.Mathlib.Nat.{not-suc-le-zero}
 use native.Mathlib.Omega.{arith}
-use lib.IntN.{ℤ, pos, negsuc}
+use lib.IntN.{ℤ, pos}
 use lib.ListN.{length, getD, set, length-set}
-use lib.Seq.{getD-set-same, getD-set-other, set-out}
-use Rattle.lists.specs.Cases.{lt-or-le, eq-or-ne}
+use lib.Seq.{getD-set-same, getD-set-other}
+use Rattle.lists.specs.Cases.{eq-or-ne}
 use Rattle.lists.specs.Tests.{split, and-fst, and-snd, both, not-both}
 use Rattle.lists.specs.Members.{allOf}
 use Rattle.cells.specs.Matching.{isFilled, lowest, takes, place, allFilled}

@@ -1,6 +1,6 @@
 // Filling the slots, one position after another.
 ghost use mathlib.Core.Path.{_≡_};
-ghost use Prim.Native.Nat.{ℕ, _+_, _*_, _≤_, _<_};
+ghost use Prim.Native.Nat.{_+_, _*_, _≤_, _<_};
 ghost use lib.ListN.{length, replicate};
 ghost use lib.IntN.{negsuc};
 ghost use Rattle.lists.specs.Tab.{times};

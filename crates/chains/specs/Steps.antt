@@ -3,22 +3,22 @@ use mathlib.Core.Path.{_≡_, refl, sym, ap, _∙_, subst}
 use mathlib.Core.Logic.{_⊎_, inl, inr}
 use mathlib.Core.Bool.{Bool, true, false, not, _&&_, true≢false, false≢true}
 use mathlib.Core.List.{List}
-use Prim.Native.Nat.{ℕ, zero, suc, _+_, _-_, _≤_, _<_}
+use Prim.Native.Nat.{ℕ, suc, _+_, _-_, _≤_, _<_}
 use native.Mathlib.Omega.{arith}
-use lib.Dec.{eqb, lit≤}
+use lib.Dec.{eqb}
 use lib.IntN.{ℤ, pos, negsuc}
-use lib.ListN.{length, getD, set, length-set, replicate, length-replicate, getD-replicate}
+use lib.ListN.{getD, set, length-set}
 use lib.Seq.{ext-getD, getD-set-same, getD-set-other}
-use borrow.Author.Tests.{eqb-true, eq-eqb, ne-eqb, not-true, not-false}
+use borrow.Author.Tests.{eq-eqb, not-true}
 use Rattle.lists.specs.Cases.{lt-or-le, eq-or-ne}
-use Rattle.lists.specs.Tests.{split, not-both, refuted}
+use Rattle.lists.specs.Tests.{split, not-both}
 use Rattle.tables.specs.Conditions.{nat, indexAt}
 use Rattle.cells.specs.Matching.{isFilled}
 use Rattle.cells.specs.Slots.{slotAt}
 use Rattle.cells.specs.Bijection.{Taken}
-use Rattle.matchings.specs.Counts.{count, count-mono, count-without, count-le, without, without-other, count-same}
+use Rattle.matchings.specs.Counts.{count-mono, count-without, without, without-other, count-same}
 use Rattle.matchings.specs.Groups.{Held, Partial, marked, Marks, HeldMarked, Closed, held-below}
-use Rattle.chains.specs.Chains.{unmarked, Homeless, Ready, Trying, Found, Grows, Settled, Stuck, Searched, Tried, Looked}
+use Rattle.chains.specs.Chains.{unmarked, Ready, Trying, Found, Grows, Settled, Stuck, Searched, Tried, Looked}
 
 same-position : {i k : ℕ} → pos i ≡ pos k → i ≡ k
 same-position e = cc

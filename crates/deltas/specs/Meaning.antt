@@ -1,7 +1,7 @@
 -- What `rotate_delta_fc2s` and `rotate_delta_fc3s` leave, number by number. Assumes nothing.
 use mathlib.Core.Path.{_≡_, refl, sym, ap, _∙_}
 use mathlib.Core.List.{List}
-use Prim.Native.Nat.{ℕ, zero, suc, _+_, _*_, _/_, _%_, _^_, _<_}
+use Prim.Native.Nat.{ℕ, _+_, _*_, _/_, _%_, _^_, _<_}
 use lib.ListN.{getD}
 use lib.Ieee.{Float, nan}
 use Rattle.lists.specs.Tab.{getD-tab}
@@ -9,7 +9,7 @@ use Rattle.lists.specs.Digits.{in-row}
 use Rattle.blocks.specs.Block.{block, block-of, place-of}
 use Rattle.tables.specs.Lengths.{setLength, slab-length}
 use Rattle.rotations.specs.Rotation.{rotated}
-use Rattle.deltas.specs.RotateDelta.{Deltas, total, source, rotatedDelta, summed, number, rotatedDeltas}
+use Rattle.deltas.specs.RotateDelta.{Deltas, total, rotatedDelta, summed, number, rotatedDeltas}
 use Rattle.deltas.specs.Rows.{imageOf, source-next, source-of-one}
 
 -- Number (k, p) of block b, k the direction of the displaced atom: row k of invU times number p of the rotated deltas, summed over the pairs.

@@ -5,13 +5,13 @@ use mathlib.Core.Path.{_≡_, refl, sym, ap, ap₂, _∙_, subst}
 use mathlib.Core.List.{List, [], _∷_}
 use mathlib.Core.Logic.{_⊎_, ⊎-elim}
 use Prim.Native.Nat.{ℕ, zero, suc, _+_, _*_, _/_, _%_, _^_, _<_, _≤_}
-use native.Mathlib.Nat.{div-add-mod', div-lt-iff-lt-mul, mod-lt, mod-eq-of-lt, mul-assoc, mul-comm, mul-one, pow-zero, pow-suc}
+use native.Mathlib.Nat.{div-add-mod', div-lt-iff-lt-mul, mod-lt, mod-eq-of-lt, mul-comm, pow-zero, pow-suc}
 use native.Mathlib.Omega.{arith}
 use lib.ListN.{length, getD, set, replicate, length-set, length-replicate, getD-replicate}
 use lib.Seq.{getD-set-other}
 use lib.Ieee.{Float, nan, add, mul, binary64}
 use borrow.Author.Count.{below-none}
-use Rattle.lists.specs.Tab.{tab, length-tab, getD-tab, is-tab, fill-more, times, times-same, times-nest}
+use Rattle.lists.specs.Tab.{tab, getD-tab, is-tab, fill-more, times, times-same, times-nest}
 use Rattle.lists.specs.Cases.{eq-or-ne, lt-or-le}
 use Rattle.blocks.specs.Block.{block, putBlock, length-putBlock, getD-block, put-inside, put-outside, block-of, place-of}
 use Rattle.tables.specs.Conditions.{indexAt}

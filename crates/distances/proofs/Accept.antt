@@ -1,26 +1,25 @@
 -- The root keeps the order: if the rounded root of a limit is below the tolerance s, so is that of every x up to the limit. So x is accepted by the limit's root,
 -- and never by the tolerance's square. Assumes nothing.
-use mathlib.Core.Path.{_≡_, refl, sym, ap, _∙_, subst}
-use mathlib.Core.Bool.{Bool, true, false, not, _&&_, _||_, cond, true≢false, false≢true}
+use mathlib.Core.Path.{_≡_, sym, ap, _∙_, subst}
+use mathlib.Core.Bool.{Bool, true, false, cond, false≢true}
 use mathlib.Core.Logic.{_⊎_, inl, inr}
 use Prim.Native.Nat.{ℕ, zero, suc, _+_, _*_, _/_, _^_, _≤_, _<_, zero-le}
-use native.Mathlib.Nat.{le-trans, le-of-eq, le-refl, lt-of-le-of-lt, lt-of-not-le, not-le-of-lt, zero-lt-suc, zero-mul, mul-comm, mul-right-comm, mul-pos, mul-le-mul, mul-le-mul-right, mul-lt-mul-of-pos-right, lt-of-mul-lt-mul-right, lt-of-lt-of-le, eq-or-lt-of-le}
+use native.Mathlib.Nat.{le-trans, le-of-eq, le-refl, lt-of-le-of-lt, not-le-of-lt, zero-lt-suc, zero-mul, mul-right-comm, mul-pos, mul-le-mul, mul-le-mul-right, mul-lt-mul-of-pos-right, lt-of-mul-lt-mul-right, lt-of-lt-of-le, eq-or-lt-of-le}
 use native.Mathlib.Omega.{arith}
 use lib.IntN.{ℤ}
-use lib.Dec.{T, ltb, eqb, ltb→lt, eqb→eq}
+use lib.Dec.{T, eqb}
 use lib.Pow.{pow-pos}
-use lib.Ieee.{Float, nan, inf, fin, Format, low, up, down, round, lt, le, eq}
+use lib.Ieee.{Float, nan, inf, fin, Format, low, up, down, lt, le}
 use lib.Ieee.Fits.{up-pos, down-pos}
 use lib.Ieee.Nearest.{div-mono}
 use lib.Ieee.Order.{round-mono}
 use lib.Ieee.Positive.{first-pos}
-use borrow.Author.Tests.{ltb-true, lt-ltb, eq-eqb, ne-eqb, eqb-true}
+use borrow.Author.Tests.{ltb-true, lt-ltb, eq-eqb, ne-eqb}
 use Rattle.lists.specs.Cases.{eq-or-ne, lt-or-le}
 use Rattle.common.specs.Root.{root, roundedRoot, sqrt}
-use Rattle.common.specs.RootLaws.{WholeRoot, root-is}
+use Rattle.common.specs.RootLaws.{root-is}
 use Rattle.distances.specs.Reach.{plus}
 use Rattle.distances.proofs.Rounded.{le-cross, round-plus}
-use Rattle.distances.proofs.Sums.{through-lt}
 
 -- ---- natural numbers: the root's digits, with one more for what is left over
 

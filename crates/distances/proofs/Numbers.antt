@@ -1,23 +1,22 @@
 -- Where a distance is a number. The rests of the axis differences are NaN or at most 1 in size, so in rows of finite numbers no product is infinite and no sum is
 -- NaN. Assumes nothing.
 use mathlib.Core.Path.{_≡_, refl, sym, ap, _∙_, subst}
-use mathlib.Core.Bool.{Bool, true, false, not, _&&_, _||_, cond, Bool·beq, true≢false, false≢true}
+use mathlib.Core.Bool.{Bool, true, false, not, _&&_, cond, Bool·beq, true≢false, false≢true}
 use mathlib.Core.List.{List}
-use Prim.Native.Nat.{ℕ, zero, suc, _+_, _-_, _*_, _/_, _%_, _^_, _≤_, _<_}
+use Prim.Native.Nat.{ℕ, zero, suc, _+_, _-_, _*_, _/_, _^_, _≤_, _<_}
 use native.Mathlib.Nat.{div-add-mod', mod-lt, mul-comm, mul-pos, mul-le-mul-right, le-of-mul-le-mul-right}
 use native.Mathlib.Omega.{arith}
 use lib.IntN.{ℤ, pos}
-use lib.Dec.{T, ltb, eqb, lit<}
+use lib.Dec.{T, ltb, lit<}
 use lib.ListN.{getD}
 use lib.Ieee.{Float, nan, inf, fin, Format, binary64, prec, emax, low, up, down, ofBits, odd, units, round, sum, neg, add, sub, mul, div, lt, le, eq, ne, fits, isNan, unlike}
 use lib.Ieee.Compare.{differs-from-itself}
 use lib.Ieee.Fits.{down-pos, round-is, sub-fits}
 use lib.Ieee.Exact.{HasValue}
 use lib.Ieee.Order.{round-mono}
-use lib.Ieee.Positive.{num, den}
 use lib.Ieee.Scale.{finite}
 use Rattle.common.specs.Whole.{nearestWhole}
-use Rattle.common.specs.NearestWhole.{gap, NearestWhole, whole-is-nearest}
+use Rattle.common.specs.NearestWhole.{gap, whole-is-nearest}
 use Rattle.common.specs.Root.{roundedRoot, sqrt}
 use Rattle.distances.specs.declared.Distance.the-variants.{Near, Far, NoNumber}
 use Rattle.distances.specs.Near.{wrapped, difference, dot, squares, told}

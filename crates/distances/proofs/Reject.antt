@@ -1,22 +1,21 @@
 -- Rejecting by the squares is exact: if x is above the rounded square of the tolerance s, the rounded root of x is not below s. It holds for every s: where s is
 -- negative, tiny (its square rounds to 0), infinite or NaN, too. Accepting by the squares is not exact, and is not claimed. Assumes nothing.
 use mathlib.Core.Path.{_≡_, refl, sym, ap, _∙_, subst}
-use mathlib.Core.Bool.{Bool, true, false, not, cond, true≢false, false≢true}
+use mathlib.Core.Bool.{Bool, true, false, cond, false≢true}
 use Prim.Native.Nat.{ℕ, zero, suc, _+_, _*_, _/_, _^_, _≤_, _<_}
-use native.Mathlib.Nat.{le-trans, le-of-eq, le-of-lt, le-refl, lt-of-le-of-lt, lt-of-lt-of-le, lt-of-not-le, not-le-of-lt, zero-lt-suc, mul-one, zero-mul, mul-comm, mul-assoc, mul-mul-mul-comm, mul-pos, mul-le-mul, mul-le-mul-right, mul-lt-mul-of-pos-right, lt-of-mul-lt-mul-right, le-div-iff-mul-le, pow-suc}
+use native.Mathlib.Nat.{le-trans, le-of-eq, lt-of-le-of-lt, lt-of-lt-of-le, lt-of-not-le, not-le-of-lt, zero-mul, mul-comm, mul-assoc, mul-mul-mul-comm, mul-pos, mul-le-mul, mul-le-mul-right, mul-lt-mul-of-pos-right, lt-of-mul-lt-mul-right, le-div-iff-mul-le, pow-suc}
 use native.Mathlib.Omega.{arith}
 use lib.IntN.{ℤ}
 use lib.Dec.{T, ltb, eqb}
 use lib.Pow.{pow-pos}
 use lib.Ieee.{Float, nan, inf, fin, Format, low, up, down, round, fits, mul, lt}
-use lib.Ieee.Fits.{up-pos, down-pos}
-use lib.Ieee.Positive.{num, den, den-pos}
+use lib.Ieee.Fits.{down-pos}
 use borrow.Author.Tests.{le-ltb}
 use Rattle.lists.specs.Tests.{not-both}
 use Rattle.common.specs.Root.{root, roundedRoot, sqrt}
 use Rattle.common.specs.RootLaws.{WholeRoot, root-is}
 use Rattle.distances.specs.Reach.{plus}
-use Rattle.distances.proofs.Rounded.{plain, scaled, no-finer, round-plus, rounds-above}
+use Rattle.distances.proofs.Rounded.{scaled, no-finer, round-plus, rounds-above}
 
 -- ---- natural numbers
 

@@ -1,19 +1,18 @@
 -- Floats that are not negative: a value of the format is its own rounding, and a fraction that is no less than the value rounds to no less. Assumes nothing.
 use mathlib.Core.Path.{_≡_, refl, sym, ap, _∙_, subst}
 use mathlib.Core.Bool.{Bool, true, false, not, _&&_, _||_, cond, true≢false}
-use mathlib.Core.Logic.{_⊎_, inl, inr}
 use Prim.Native.Nat.{ℕ, zero, suc, _+_, _-_, _*_, _%_, _^_, _≤_, _<_}
-use native.Mathlib.Nat.{mul-one, one-mul, zero-mul, mul-assoc, mul-comm, mul-left-comm, mul-right-comm, mul-pos, not-le-of-lt, lt-of-lt-of-le, lt-of-le-of-lt, le-of-eq, le-trans, mul-le-mul-right, mul-lt-mul-of-pos-right, lt-of-mul-lt-mul-right, le-of-suc-le-suc, lt-of-not-le}
+use native.Mathlib.Nat.{mul-one, one-mul, zero-mul, mul-assoc, mul-comm, mul-right-comm, not-le-of-lt, lt-of-lt-of-le, lt-of-le-of-lt, le-of-eq, mul-lt-mul-of-pos-right, lt-of-mul-lt-mul-right, le-of-suc-le-suc, lt-of-not-le}
 use native.Mathlib.Omega.{arith}
 use lib.IntN.{ℤ, pos, negsuc}
 use lib.Dec.{T, leb, ltb, eqb, leb→le, ltb→lt, eqb→eq}
 use lib.Pow.{pow-add, pow-pos, pow-lt}
 use lib.Ieee.{Float, nan, inf, fin, Format, prec, emax, low, up, down, odd, units, round, fits, lt, le}
-use lib.Ieee.Fits.{up-pos, down-pos, and-l, and-r, round-is}
-use lib.Ieee.Exact.{HasValue, round-exact, odd-sign}
+use lib.Ieee.Fits.{down-pos, and-l, and-r, round-is}
+use lib.Ieee.Exact.{HasValue, round-exact}
 use lib.Ieee.Order.{round-mono, transfer}
-use lib.Ieee.Positive.{num, den, den-pos}
-use borrow.Author.Tests.{ltb-true, ltb-false, le-ltb}
+use lib.Ieee.Positive.{num, den}
+use borrow.Author.Tests.{ltb-false, le-ltb}
 use Rattle.distances.specs.Reach.{plus}
 
 -- finite, with no minus sign

@@ -1,16 +1,15 @@
 -- Sums of squares: none has a minus sign, and one that is above a limit stays above it as more is added, or becomes a NaN. Assumes nothing.
-use mathlib.Core.Path.{_≡_, refl, sym, ap, _∙_, subst}
-use mathlib.Core.Bool.{Bool, true, false, not, _&&_, _||_, cond, true≢false, false≢true}
+use mathlib.Core.Path.{_≡_, refl}
+use mathlib.Core.Bool.{true, false, false≢true}
 use mathlib.Core.Logic.{_⊎_, inl, inr}
-use Prim.Native.Nat.{ℕ, zero, suc, _+_, _*_, _≤_, _<_}
+use Prim.Native.Nat.{ℕ, _+_, _*_, _≤_, _<_}
 use native.Mathlib.Nat.{lt-of-lt-of-le, lt-of-le-of-lt, le-of-eq, mul-pos, mul-right-comm, mul-le-mul-right, mul-lt-mul-of-pos-right, lt-of-mul-lt-mul-right}
 use native.Mathlib.Omega.{arith}
 use lib.IntN.{ℤ}
-use lib.Dec.{T, ltb, eqb}
-use lib.Ieee.{Float, nan, inf, fin, Format, up, down, units, odd, round, sum, add, mul, fits, lt}
-use lib.Ieee.Fits.{down-pos, round-is}
+use lib.Dec.{T}
+use lib.Ieee.{Float, nan, inf, fin, Format, up, down, round, sum, add, mul, fits, lt}
+use lib.Ieee.Fits.{down-pos}
 use borrow.Author.Tests.{ltb-true, ltb-false, lt-ltb}
-use Rattle.lists.specs.Tests.{not-both}
 use Rattle.distances.specs.Reach.{plus}
 use Rattle.distances.proofs.Rounded.{plain, round-plus, rounds-above, number, round-number}
 

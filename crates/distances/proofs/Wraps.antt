@@ -1,25 +1,25 @@
 -- Taking the nearest whole number off a difference by adding and taking away 1.5 · 2 ^ 52. What that takes off is a whole number wherever the sum is 2 ^ 52 or
 -- more; if then less than a half is left, it was the nearest one, and the result is the difference less its own rounding, bit for bit. Assumes nothing.
 use mathlib.Core.Path.{_≡_, refl, sym, ap, _∙_, subst}
-use mathlib.Core.Bool.{Bool, true, false, not, _&&_, cond, true≢false, false≢true}
+use mathlib.Core.Bool.{Bool, true, false, not, cond, false≢true}
 use mathlib.Core.Logic.{_⊎_, inl, inr}
 use Prim.Native.Nat.{ℕ, zero, suc, _+_, _-_, _*_, _/_, _^_, _≤_, _<_}
-use native.Mathlib.Nat.{le-trans, le-of-eq, le-antisymm, le-of-suc-le-suc, lt-of-lt-of-le, lt-of-le-of-lt, lt-of-not-le, zero-lt-suc, zero-mul, mul-one, one-mul, mul-comm, mul-assoc, mul-right-comm, mul-pos, mul-le-mul-right, le-of-mul-le-mul-right, lt-of-mul-lt-mul-right, eq-of-mul-eq-mul-right, le-div-iff-mul-le, div-lt-iff-lt-mul, pow-suc}
+use native.Mathlib.Nat.{le-antisymm, lt-of-not-le, zero-lt-suc, zero-mul, mul-one, mul-right-comm, mul-pos, le-of-mul-le-mul-right, lt-of-mul-lt-mul-right, eq-of-mul-eq-mul-right, le-div-iff-mul-le, div-lt-iff-lt-mul, pow-suc}
 use native.Mathlib.Omega.{arith}
 use lib.IntN.{ℤ, pos, negsuc}
-use lib.Dec.{T, ltb, eqb}
+use lib.Dec.{T, ltb}
 use lib.Pow.{pow-pos}
-use lib.Ieee.{Float, nan, inf, fin, Format, binary64, prec, emax, low, up, down, odd, units, round, neg, sum, add, sub, fits, lt, le, ofBits}
+use lib.Ieee.{Float, nan, inf, fin, Format, binary64, prec, emax, low, up, down, odd, units, round, neg, sum, add, sub, fits, lt, ofBits}
 use lib.Ieee.Fits.{down-pos, round-fits, round-is, sub-fits, add-fits}
 use lib.Ieee.Exact.{HasValue}
 use lib.Ieee.Back.{round-whole, whole-unique}
 use lib.Ieee.Scale.{round-same}
-use borrow.Author.Tests.{ltb-true, ltb-false, lt-ltb, le-ltb}
+use borrow.Author.Tests.{ltb-true, ltb-false, le-ltb}
 use Rattle.lists.specs.Cases.{lt-or-le}
-use Rattle.lists.specs.Tests.{not-both, split}
+use Rattle.lists.specs.Tests.{not-both}
 use Rattle.common.specs.Whole.{halfUp, nearestWhole}
 use Rattle.distances.specs.Reach.{plus}
-use Rattle.distances.proofs.Rounded.{digits-fit, own-round, round-plus, number, round-number, rounds-above, le-cross}
+use Rattle.distances.proofs.Rounded.{digits-fit, own-round, round-plus, number, round-number, rounds-above}
 
 -- ---- from 2 ^ 52 on a float is a whole number
 

@@ -5,7 +5,6 @@ use mathlib.Core.List.{List, [], _∷_}
 use Prim.Native.Nat.{ℕ, _+_, _*_}
 use lib.ListN.{getD}
 use lib.Ieee.{Float, nan, binary64, sub}
-use Rattle.distances.specs.declared.Cell.{Cell}
 use Rattle.distances.specs.Near.{wrapped, squares, distance2}
 
 -- coordinate k of position i of p less that of position j of q: as it is, and less its own rounding

@@ -1,11 +1,8 @@
 -- What is told of a distance, in document 02's words (A.3). Assumes nothing.
-use mathlib.Core.Path.{_≡_, refl, ap, _∙_, sym}
+use mathlib.Core.Path.{_≡_, refl, ap, sym}
 use mathlib.Core.Bool.{Bool, true, false, cond, true≢false}
 use mathlib.Core.Logic.{_↔_}
-use Prim.Native.Nat.{ℕ}
-use native.Mathlib.Omega.{arith}
 use lib.Ieee.{Float, nan, inf, fin, lt, isNan}
-use Rattle.distances.specs.declared.Distance.{Distance}
 use Rattle.distances.specs.declared.Distance.the-variants.{Near, Far, NoNumber}
 use Rattle.distances.specs.Near.{told, isNear, isNone}
 

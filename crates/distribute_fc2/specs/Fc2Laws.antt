@@ -1,8 +1,8 @@
 -- What is known of a call of `distribute_fc2` that is not refused, and the laws of its loops. Assumes nothing.
-use mathlib.Core.Path.{_≡_, refl, sym, ap, _∙_, subst}
-use mathlib.Core.Bool.{Bool, true, false, cond, not, _&&_, _||_}
+use mathlib.Core.Path.{_≡_, refl, sym, ap, _∙_}
+use mathlib.Core.Bool.{Bool, true, false, cond, not}
 use mathlib.Core.List.{List, [], _∷_}
-use mathlib.Core.Logic.{_⊎_, inl, inr, ⊎-elim}
+use mathlib.Core.Logic.{_⊎_, ⊎-elim}
 use Prim.Native.Nat.{ℕ, zero, suc, _+_, _*_, _<_, _≤_}
 use native.Mathlib.Nat.{mul-le-mul, mul-le-mul-right, not-suc-le-zero}
 use native.Mathlib.Numerals.{add-one}
@@ -11,21 +11,19 @@ use lib.Dec.{eqb}
 use lib.IntN.{ℤ, pos}
 use lib.ListN.{length, getD, set, replicate}
 use lib.Seq.{getD-set-same, getD-set-other}
-use lib.Ieee.{Float, nan}
+use lib.Ieee.{Float}
 use borrow.Author.Tests.{eqb-true, eq-eqb, ne-eqb, not-false}
 use Rattle.lists.specs.Digits.{in-row}
 use Rattle.lists.specs.Cases.{eq-or-ne}
 use Rattle.lists.specs.Tests.{some, some-at, some-of, and-snd, refuted, not-both}
-use Rattle.blocks.specs.Block.{block, putBlock, length-putBlock, length-block}
-use Rattle.lines.specs.Nine.{added}
 use Rattle.tables.specs.declared.Answer.the-variants.{Done}
 use Rattle.tables.specs.declared.Refusal.the-variants.{CountAboveLimit, WrongLength, IndexOutOfRange, BadRepresentative}
 use Rattle.tables.specs.declared.Answer.{Answer}
-use Rattle.tables.specs.Answers.{isRefusal, after, refuseIf, passed, is-done, after-refusal, after-done}
+use Rattle.tables.specs.Answers.{isRefusal, refuseIf, passed, is-done, after-refusal, after-done}
 use Rattle.tables.specs.Conditions.{anyAbove, anyWrong, outOfRange, nat, indexAt, Readable, IndexTable, read, or-false, not-above, not-wrong}
 use Rattle.tables.specs.Lengths.{set-length2}
 use Rattle.tables.specs.Limits.{limit2, limitList}
-use Rattle.distribute_fc2.specs.Fc2.{Distribution, addBlock, addRow, lastOf, distributeAtom, distributed, listed, represented, badRepresentative, countsAbove, lengths, entriesOut, judged, distributeFc2}
+use Rattle.distribute_fc2.specs.Fc2.{Distribution, addRow, lastOf, distributeAtom, distributed, listed, represented, badRepresentative, countsAbove, lengths, entriesOut, judged, distributeFc2}
 
 -- ---- one row
 

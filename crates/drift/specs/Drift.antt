@@ -94,17 +94,28 @@ unfoldable pub firstOf : ℕ → (ℕ → Bool) → ℕ
 firstOf zero f = 0
 firstOf (suc n) f = cond (some n f) (firstOf n f) n
 
--- ---- the report
+-- ---- the rule of a report, whatever is summed: c sums, S r the one at place r
 
--- the largest absolute value of the sums
-unfoldable pub worst : ℕ → List Float → Float
-worst n xs = times (sums n) (λ r w. larger w (absolute (sumAt n xs r))) plusZero
+-- the largest absolute value
+unfoldable pub worstOf : ℕ → (ℕ → Float) → Float
+worstOf c S = times c (λ r w. larger w (absolute (S r))) plusZero
 
-unfoldable pub driftOf : ℕ → List Float → Drift
-driftOf n xs =
-    cond (some (sums n) (λ r. isNan (sumAt n xs r))) NoNumber
-    (cond (every (sums n) (λ r. isZero (sumAt n xs r))) Still
-    (Worst (worst n xs)))
+unfoldable pub driftIn : ℕ → (ℕ → Float) → Drift
+driftIn c S =
+    cond (some c (λ r. isNan (S r))) NoNumber
+    (cond (every c (λ r. isZero (S r))) Still
+    (Worst (worstOf c S)))
+
+-- a drift with its place: of the worst the first sum that has its absolute value, of no number the first sum that is none; `at` makes the report
+abbrev pub placedBy : {R : Type 0} → R → (Drift → ℕ → R) → ℕ → (ℕ → Float) → Drift → R
+placedBy still at c S Still = still
+placedBy still at c S (Worst x) = at (Worst x) (firstOf c (λ r. eq (absolute (S r)) x))
+placedBy still at c S NoNumber = at NoNumber (firstOf c (λ r. isNan (S r)))
+
+-- ---- the report of a full set of second order
+
+abbrev pub driftOf : ℕ → List Float → Drift
+driftOf n xs = driftIn (sums n) (sumAt n xs)
 
 -- the report whose place is that of sum r
 abbrev pub reportAt : ℕ → Drift → ℕ → DriftReport
@@ -113,11 +124,8 @@ reportAt n d r = record { drift = d; along = alongOf n (r / 9); atom = atomOf n 
 abbrev pub stillReport : DriftReport
 stillReport = record { drift = Still; along = Rows; atom = 0; k = 0; l = 0 }
 
--- a drift with its place: of the worst the first sum that has its absolute value, of no number the first sum that is none
 abbrev pub placed : ℕ → List Float → Drift → DriftReport
-placed n xs Still = stillReport
-placed n xs (Worst x) = reportAt n (Worst x) (firstOf (sums n) (λ r. eq (absolute (sumAt n xs r)) x))
-placed n xs NoNumber = reportAt n NoNumber (firstOf (sums n) (λ r. isNan (sumAt n xs r)))
+placed n xs d = placedBy stillReport (reportAt n) (sums n) (sumAt n xs) d
 
 -- what is refused: more than 1,024 atoms; a set of another length than n × n × 9
 abbrev pub judgedDrift : ℕ → ℕ → Answer

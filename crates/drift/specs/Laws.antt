@@ -1,5 +1,5 @@
 -- The sums that the loops make are those of the definition, one after another, and so is the call's answer. Assumes nothing.
-use mathlib.Core.Path.{_≡_, refl, sym, ap, ap₂, _∙_, subst}
+use mathlib.Core.Path.{_≡_, sym, ap, ap₂, _∙_, subst}
 use mathlib.Core.Bool.{cond}
 use mathlib.Core.List.{List, [], _∷_}
 use Prim.Native.Nat.{ℕ, _+_, _-_, _*_, _/_, _%_, _<_}
@@ -23,12 +23,10 @@ use Rattle.lines.specs.Drifts.{line-sum, row-sums, zeros-in}
 use Rattle.fc2.specs.Full.{rowSum, columnSum}
 use Rattle.fc2.specs.FullPlaces.{entry-at}
 use Rattle.fc2.specs.FullDrifts.{row-sum}
-use Rattle.drift.specs.declared.Along.{Along}
 use Rattle.drift.specs.declared.Along.the-variants.{Rows, Columns}
-use Rattle.drift.specs.declared.DriftAnswer.{DriftAnswer}
 use Rattle.drift.specs.declared.DriftAnswer.the-variants.{Report, Refused}
 use Rattle.drift.specs.declared.seen.Seen.{Seen}
-use Rattle.drift.specs.Drift.{lineSum, alongOf, atomOf, sumAt, sums, driftOf, placed, judgedDrift, reportedAfter, driftReport}
+use Rattle.drift.specs.Drift.{lineSum, alongOf, atomOf, sumAt, sums, driftOf, reportAt, stillReport, placed, judgedDrift, reportedAfter, driftReport}
 use Rattle.drift.specs.Loops.{look, start, lookLine, lookLines, scanned, concluded}
 use Rattle.drift.specs.Seen.{State, all-seen, reported}
 
@@ -49,54 +47,58 @@ at-line : (n : ℕ) (xs : List Float) (q p : ℕ) → p < 9 → sumAt n xs (q * 
 unfolding sumAt
 at-line n xs q p h = ap₂ (λ a b. lineSum n xs (alongOf n a) (atomOf n a) (b / 3) (b % 3)) (block-of 9 q p h) (place-of 9 q p h)
 
-row-at : (n : ℕ) (xs : List Float) (i p : ℕ) → i < n → p < 9 → sumIn (lineSums (i * n) 1 n xs zeros) p ≡ sumAt n xs (i * 9 + p)
+-- the first n lines are the rows, the next n the columns
+pub at-row : (n : ℕ) (xs : List Float) (i p : ℕ) → i < n → p < 9 → sumAt n xs (i * 9 + p) ≡ rowSum n xs i (p / 3) (p % 3)
 unfolding lineSum
-row-at n xs i p hi hp =
-    row-sums n xs i p hp ∙ row-sum n xs i p
-    ∙ sym (at-line n xs i p hp ∙ ap (λ b. lineSum n xs (cond b Rows Columns) (cond b i (i - n)) (p / 3) (p % 3)) (lt-ltb i n hi))
+at-row n xs i p hi hp = at-line n xs i p hp ∙ ap (λ b. lineSum n xs (cond b Rows Columns) (cond b i (i - n)) (p / 3) (p % 3)) (lt-ltb i n hi)
+
+pub at-column : (n : ℕ) (xs : List Float) (j p : ℕ) → p < 9 → sumAt n xs ((n + j) * 9 + p) ≡ columnSum n xs j (p / 3) (p % 3)
+unfolding lineSum
+at-column n xs j p hp =
+    let e : n + j - n ≡ j = omega arith in
+    at-line n xs (n + j) p hp
+    ∙ ap (λ b. lineSum n xs (cond b Rows Columns) (cond b (n + j) (n + j - n)) (p / 3) (p % 3)) (le-ltb (n + j) n (omega arith))
+    ∙ ap (λ a. columnSum n xs a (p / 3) (p % 3)) e
+
+row-at : (n : ℕ) (xs : List Float) (i p : ℕ) → i < n → p < 9 → sumIn (lineSums (i * n) 1 n xs zeros) p ≡ sumAt n xs (i * 9 + p)
+row-at n xs i p hi hp = row-sums n xs i p hp ∙ row-sum n xs i p ∙ sym (at-row n xs i p hi hp)
 
 column-at : (n : ℕ) (xs : List Float) (j p : ℕ) → p < 9 → sumIn (lineSums j n n xs zeros) p ≡ sumAt n xs ((n + j) * 9 + p)
-unfolding lineSum
-column-at n xs j p hp =
-    let e : n + j - n ≡ j = omega arith in
-    column-sum n xs j p hp
-    ∙ sym (at-line n xs (n + j) p hp
-    ∙ ap (λ b. lineSum n xs (cond b Rows Columns) (cond b (n + j) (n + j - n)) (p / 3) (p % 3)) (le-ltb (n + j) n (omega arith))
-    ∙ ap (λ a. columnSum n xs a (p / 3) (p % 3)) e)
+column-at n xs j p hp = column-sum n xs j p hp ∙ sym (at-column n xs j p hp)
 
 -- ---- the sums, one after another
 
+-- line q of any sums S, looked at sum by sum
+abbrev pub lineOf : (ℕ → Float) → ℕ → Seen → Seen
+lineOf S q c = times 9 (λ p. look (q * 9 + p) (S (q * 9 + p))) c
+
+pub by-sums : (S : ℕ → Float) (q : ℕ) (s : Sums) → ((p : ℕ) → p < 9 → sumIn s p ≡ S (q * 9 + p)) → (c : Seen) → lookLine q s c ≡ lineOf S q c
+unfolding lookLine
+by-sums S q s h c = times-same 9 _ _ c (λ p hp t. ap (λ x. look (q * 9 + p) x t) (h p hp))
+
 module _ (n : ℕ) (xs : List Float) where
-  -- line q, looked at sum by sum
-  abbrev lineOf : ℕ → Seen → Seen
-  lineOf q c = times 9 (λ p. look (q * 9 + p) (sumAt n xs (q * 9 + p))) c
-
-  by-sums : (q : ℕ) (s : Sums) → ((p : ℕ) → p < 9 → sumIn s p ≡ sumAt n xs (q * 9 + p)) → (c : Seen) → lookLine q s c ≡ lineOf q c
-  unfolding lookLine
-  by-sums q s h c = times-same 9 _ _ c (λ p hp t. ap (λ x. look (q * 9 + p) x t) (h p hp))
-
-  rows-looked : (c : Seen) → lookLines 0 n 1 n xs c ≡ times n lineOf c
+  rows-looked : (c : Seen) → lookLines 0 n 1 n xs c ≡ times n (lineOf (sumAt n xs)) c
   unfolding lookLines
   rows-looked c =
       times-same n _ _ c (λ i hi t.
       let e : 0 + i ≡ i = omega arith in
-      ap (λ q. lookLine q (lineSums (i * n) 1 n xs zeros) t) e ∙ by-sums i (lineSums (i * n) 1 n xs zeros) (λ p hp. row-at n xs i p hi hp) t)
+      ap (λ q. lookLine q (lineSums (i * n) 1 n xs zeros) t) e ∙ by-sums (sumAt n xs) i (lineSums (i * n) 1 n xs zeros) (λ p hp. row-at n xs i p hi hp) t)
 
-  columns-looked : (c : Seen) → lookLines n 1 n n xs c ≡ times n (λ j. lineOf (n + j)) c
+  columns-looked : (c : Seen) → lookLines n 1 n n xs c ≡ times n (λ j. lineOf (sumAt n xs) (n + j)) c
   unfolding lookLines
   columns-looked c =
       times-same n _ _ c (λ j hj t.
       let e : j * 1 ≡ j = omega arith in
-      ap (λ a. lookLine (n + j) (lineSums a n n xs zeros) t) e ∙ by-sums (n + j) (lineSums j n n xs zeros) (λ p hp. column-at n xs j p hp) t)
+      ap (λ a. lookLine (n + j) (lineSums a n n xs zeros) t) e ∙ by-sums (sumAt n xs) (n + j) (lineSums j n n xs zeros) (λ p hp. column-at n xs j p hp) t)
 
   scanned-sums : scanned n xs ≡ times (sums n) (λ r. look r (sumAt n xs r)) start
   unfolding scanned
   scanned-sums =
       let e : n + n ≡ n * 2 = omega arith in
       ap (lookLines n 1 n n xs) (rows-looked start)
-      ∙ columns-looked (times n lineOf start)
-      ∙ sym (times-add n n lineOf start)
-      ∙ ap (λ m. times m lineOf start) e
+      ∙ columns-looked (times n (lineOf (sumAt n xs)) start)
+      ∙ sym (times-add n n (lineOf (sumAt n xs)) start)
+      ∙ ap (λ m. times m (lineOf (sumAt n xs)) start) e
       ∙ sym (times-nest (n * 2) 9 (λ r. look r (sumAt n xs r)) start)
 
 -- ---- the answer
@@ -119,4 +121,4 @@ module _ (xs : List Float) (n : ℕ) where
   pub report-done : judgedDrift (length xs) n ≡ Done → (c : Seen) → c ≡ scanned n xs → Report (concluded n c) ≡ driftReport xs n
   unfolding driftReport
   report-done e c g =
-      ap Report (reported xs n c (all-looked c g)) ∙ sym (ap (λ h. reportedAfter h (placed n xs (driftOf n xs))) e)
+      ap Report (reported (sums n) (sumAt n xs) c (all-looked c g) stillReport (reportAt n)) ∙ sym (ap (λ h. reportedAfter h (placed n xs (driftOf n xs))) e)

@@ -8,6 +8,7 @@ use lib.Ieee.{Float, lt, ne, eq}
 use Rattle.lists.specs.Tab.{times}
 use Rattle.lines.specs.Nine.{Sums, plusZero, zeros, sumIn}
 use Rattle.lines.specs.Lines.{lineSums}
+use Rattle.drift.specs.declared.Drift.{Drift}
 use Rattle.drift.specs.declared.Drift.the-variants.{Worst, NoNumber}
 use Rattle.drift.specs.declared.DriftReport.{DriftReport}
 use Rattle.drift.specs.declared.seen.Seen.{Seen}
@@ -49,5 +50,9 @@ pub record Summed (n m i : ℕ) (xs : List Float) (cs : List Sums) : Type 0 wher
 unfoldable pub lookColumns : ℕ → List Sums → Seen → Seen
 lookColumns n cs c = times n (λ j. lookLine (n + j) (getD cs j [])) c
 
+-- what is concluded from what was seen, whatever was summed; `at` makes the report
+abbrev pub concludedBy : {R : Type 0} → R → (Drift → ℕ → R) → Seen → R
+concludedBy still at c = cond (c .none) (at NoNumber (c .first)) (cond (eq (c .worst) plusZero) still (at (Worst (c .worst)) (c .at)))
+
 abbrev pub concluded : ℕ → Seen → DriftReport
-concluded n c = cond (c .none) (reportAt n NoNumber (c .first)) (cond (eq (c .worst) plusZero) stillReport (reportAt n (Worst (c .worst)) (c .at)))
+concluded n c = concludedBy stillReport (reportAt n) c

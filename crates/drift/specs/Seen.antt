@@ -1,8 +1,7 @@
 -- The first number that passes a test; what is known of the sums that were looked at gives the report. Assumes nothing.
 use mathlib.Core.Path.{_≡_, refl, sym, ap, ap₂, _∙_, subst}
-use mathlib.Core.Bool.{Bool, true, false, cond, _&&_, _||_, true≢false, false≢true}
+use mathlib.Core.Bool.{Bool, true, false, cond, _&&_, _||_, false≢true}
 use mathlib.Core.Logic.{_⊎_, inl, inr, ⊎-elim}
-use mathlib.Core.List.{List}
 use Prim.Native.Nat.{ℕ, zero, suc, _+_, _*_, _<_}
 use native.Mathlib.Nat.{not-suc-le-zero}
 use native.Mathlib.Omega.{arith}
@@ -12,11 +11,11 @@ use Rattle.lists.specs.Tests.{every, some, split, refuted, some-at, some-of, no
 use Rattle.lists.specs.Cases.{eq-or-ne}
 use Rattle.tables.specs.Conditions.{or-false}
 use Rattle.lines.specs.Nine.{Sums, plusZero, sumIn}
+use Rattle.drift.specs.declared.Drift.{Drift}
 use Rattle.drift.specs.declared.Drift.the-variants.{Still, Worst, NoNumber}
-use Rattle.drift.specs.declared.DriftReport.{DriftReport}
 use Rattle.drift.specs.declared.seen.Seen.{Seen}
-use Rattle.drift.specs.Drift.{absolute, isZero, larger, sumAt, sums, firstOf, worst, driftOf, reportAt, stillReport, placed}
-use Rattle.drift.specs.Loops.{look, lookLine, start, concluded}
+use Rattle.drift.specs.Drift.{absolute, isZero, firstOf, worstOf, driftIn, placedBy}
+use Rattle.drift.specs.Loops.{look, lookLine, start, concludedBy}
 use Rattle.drift.specs.Floats.{differs, below-nan, Within, within-absolute, plus, plus-absolute, zero-absolute, above-plus, not-above-zero, above-above, above-equal, below-itself, equals-itself, nan-equals, equals-zero}
 
 -- ---- the first that passes: it does, and none before it
@@ -59,10 +58,6 @@ first-found n f h g = (ap (λ b. b || f n) h ∙ g, sym (ap (λ b. cond b (first
 
 -- ---- what is known of the sums that were looked at
 
--- the largest absolute value of the first r sums
-unfoldable pub worstTo : (ℕ → Float) → ℕ → Float
-worstTo S r = times r (λ k w. larger w (absolute (S k))) plusZero
-
 -- sum k has the absolute value w
 abbrev pub hits : (ℕ → Float) → Float → ℕ → Bool
 hits S w k = eq (absolute (S k)) w
@@ -70,7 +65,7 @@ hits S w k = eq (absolute (S k)) w
 pub record State (S : ℕ → Float) (r : ℕ) (c : Seen) : Type 0 where
   pub none-is : c .none ≡ some r (λ k. isNan (S k))
   pub first-is : some r (λ k. isNan (S k)) ≡ true → c .first ≡ firstOf r (λ k. isNan (S k))
-  pub worst-is : c .worst ≡ worstTo S r
+  pub worst-is : c .worst ≡ worstOf r S
   pub sign : plus (c .worst) ≡ true
   pub none-above : (k : ℕ) → k < r → lt (c .worst) (absolute (S k)) ≡ false
   pub at-is : (c .worst ≡ plusZero) ⊎ ((some r (hits S (c .worst)) ≡ true) × (c .at ≡ firstOf r (hits S (c .worst))))
@@ -84,7 +79,7 @@ module _ (S : ℕ → Float) where
   isNone k = isNan (S k)
 
   begins : State S 0 start
-  unfolding some worstTo times
+  unfolding some worstOf times
   begins =
       record {
         none-is = refl;
@@ -118,9 +113,9 @@ module _ (S : ℕ → Float) where
     keeps-above : lt (c .worst) (absolute x) ≡ false → (k : ℕ) → k < suc r → lt (c .worst) (absolute (S k)) ≡ false
     keeps-above h k l = ⊎-elim (λ (e : k ≡ r). ap (λ i. lt (c .worst) (absolute (S i))) e ∙ h) (λ (n : k ≡ r → ⊥). s .none-above k (omega arith)) (eq-or-ne k r)
 
-    kept-worst : lt (c .worst) (absolute x) ≡ false → c .worst ≡ worstTo S (suc r)
-    unfolding worstTo times
-    kept-worst h = s .worst-is ∙ sym (ap (λ b. cond b (absolute x) (worstTo S r)) (ap (λ w. lt w (absolute x)) (sym (s .worst-is)) ∙ h))
+    kept-worst : lt (c .worst) (absolute x) ≡ false → c .worst ≡ worstOf (suc r) S
+    unfolding worstOf times
+    kept-worst h = s .worst-is ∙ sym (ap (λ b. cond b (absolute x) (worstOf r S)) (ap (λ w. lt w (absolute x)) (sym (s .worst-is)) ∙ h))
 
     -- the next sum is NaN, and not the first one; it is the first one; it is the worst; it is neither
     step-again : isNone r ≡ true → c .none ≡ true → State S (suc r) c
@@ -161,9 +156,9 @@ module _ (S : ℕ → Float) where
         let e : some r isNone ≡ true = sym (none-more h) ∙ t in
         s .first-is e ∙ sym (ap (λ b. cond b (firstOf r isNone) r) e)
 
-    raised-worst : lt (c .worst) (absolute x) ≡ true → absolute x ≡ worstTo S (suc r)
-    unfolding worstTo times
-    raised-worst g = sym (ap (λ b. cond b (absolute x) (worstTo S r)) (ap (λ w. lt w (absolute x)) (sym (s .worst-is)) ∙ g))
+    raised-worst : lt (c .worst) (absolute x) ≡ true → absolute x ≡ worstOf (suc r) S
+    unfolding worstOf times
+    raised-worst g = sym (ap (λ b. cond b (absolute x) (worstOf r S)) (ap (λ w. lt w (absolute x)) (sym (s .worst-is)) ∙ g))
 
     module _ (h : isNone r ≡ false) (g : lt (c .worst) (absolute x) ≡ true) where
       -- no earlier sum is above the new worst, and none equals it
@@ -234,15 +229,15 @@ module _ (S : ℕ → Float) where
 -- ---- where no sum is NaN, the worst is zero exactly if all are
 
 record Clean (S : ℕ → Float) (r : ℕ) : Type 0 where
-  pub sign : plus (worstTo S r) ≡ true
-  pub all-zero : isZero (worstTo S r) ≡ every r (λ k. isZero (S k))
+  pub sign : plus (worstOf r S) ≡ true
+  pub all-zero : isZero (worstOf r S) ≡ every r (λ k. isZero (S k))
 
-sign-zero : (S : ℕ → Float) → plus (worstTo S 0) ≡ true
-unfolding worstTo times plus ofBits
+sign-zero : (S : ℕ → Float) → plus (worstOf 0 S) ≡ true
+unfolding worstOf times plus ofBits
 sign-zero S = refl
 
-all-none : (S : ℕ → Float) → isZero (worstTo S 0) ≡ every 0 (λ k. isZero (S k))
-unfolding worstTo times isZero every ofBits
+all-none : (S : ℕ → Float) → isZero (worstOf 0 S) ≡ every 0 (λ k. isZero (S k))
+unfolding worstOf times isZero every ofBits
 all-none S = refl
 
 none-of : (S : ℕ → Float) (r : ℕ) → some (suc r) (λ k. isNan (S k)) ≡ false → (some r (λ k. isNan (S k)) ≡ false) × (isNan (S r) ≡ false)
@@ -252,13 +247,13 @@ none-of S r h = or-false (some r (λ k. isNan (S k))) (isNan (S r)) h
 module _ (S : ℕ → Float) where
   module _ (r : ℕ) (h : isNan (S r) ≡ false) (c : Clean S r) where
     abbrev w : Float
-    w = worstTo S r
+    w = worstOf r S
 
     abbrev a : Float
     a = absolute (S r)
 
     clean-raised : lt w a ≡ true → Clean S (suc r)
-    unfolding worstTo times every
+    unfolding worstOf times every
     clean-raised g =
         let p = plus-absolute (S r) h in
         let z : isZero a ≡ false = above-plus w a (c .sign) p g in
@@ -269,7 +264,7 @@ module _ (S : ℕ → Float) where
         }
 
     clean-kept : lt w a ≡ false → Clean S (suc r)
-    unfolding worstTo times every
+    unfolding worstOf times every
     clean-kept g =
         let p = plus-absolute (S r) h in
         let e : cond (lt w a) a w ≡ w = ap (λ b. cond b a w) g in
@@ -293,7 +288,7 @@ module _ (S : ℕ → Float) where
   clean (suc r) h =
       let (p, q) = none-of S r h in
       let c = clean r p in
-      ⊎-elim (clean-raised r q c) (clean-kept r q c) (split (lt (worstTo S r) (absolute (S r))))
+      ⊎-elim (clean-raised r q c) (clean-kept r q c) (split (lt (worstOf r S) (absolute (S r))))
 
 -- ---- the report
 
@@ -301,67 +296,63 @@ zero-equals : eq plusZero plusZero ≡ true
 unfolding eq ofBits
 zero-equals = refl
 
-module _ (n : ℕ) (c : Seen) where
-  -- the conclusion from what was seen: a sum is no number, and the worst is zero
-  abbrev concludedBy : Bool → Bool → DriftReport
-  concludedBy none allZero = cond none (reportAt n NoNumber (c .first)) (cond allZero stillReport (reportAt n (Worst (c .worst)) (c .at)))
+module _ {R : Type 0} (stillOne : R) (at : Drift → ℕ → R) (c : Seen) where
+  -- the conclusion by two tests: a sum is no number, and the worst is zero
+  abbrev byTests : Bool → Bool → R
+  byTests none allZero = cond none (at NoNumber (c .first)) (cond allZero stillOne (at (Worst (c .worst)) (c .at)))
 
-  pub conclude-none : c .none ≡ true → reportAt n NoNumber (c .first) ≡ concluded n c
-  conclude-none h = sym (ap (λ b. concludedBy b (eq (c .worst) plusZero)) h)
+  pub conclude-none : c .none ≡ true → at NoNumber (c .first) ≡ concludedBy stillOne at c
+  conclude-none h = sym (ap (λ b. byTests b (eq (c .worst) plusZero)) h)
 
-  pub conclude-still : c .none ≡ false → eq (c .worst) plusZero ≡ true → stillReport ≡ concluded n c
-  conclude-still h g = sym (ap₂ concludedBy h g)
+  pub conclude-still : c .none ≡ false → eq (c .worst) plusZero ≡ true → stillOne ≡ concludedBy stillOne at c
+  conclude-still h g = sym (ap₂ byTests h g)
 
-  pub conclude-worst : c .none ≡ false → eq (c .worst) plusZero ≡ false → reportAt n (Worst (c .worst)) (c .at) ≡ concluded n c
-  conclude-worst h g = sym (ap₂ concludedBy h g)
+  pub conclude-worst : c .none ≡ false → eq (c .worst) plusZero ≡ false → at (Worst (c .worst)) (c .at) ≡ concludedBy stillOne at c
+  conclude-worst h g = sym (ap₂ byTests h g)
 
-module _ (xs : List Float) (n : ℕ) (c : Seen) (s : State (sumAt n xs) (sums n) c) where
+module _ (m : ℕ) (S : ℕ → Float) (c : Seen) (s : State S m c) where
   abbrev none : Bool
-  none = some (sums n) (λ r. isNan (sumAt n xs r))
+  none = some m (λ r. isNan (S r))
 
   abbrev still : Bool
-  still = every (sums n) (λ r. isZero (sumAt n xs r))
+  still = every m (λ r. isZero (S r))
 
-  pub worst-of : c .worst ≡ worst n xs
-  unfolding worst worstTo
-  worst-of = s .worst-is
-
-  pub drift-by : (a b : Bool) → none ≡ a → still ≡ b → driftOf n xs ≡ cond a NoNumber (cond b Still (Worst (worst n xs)))
-  unfolding driftOf
-  drift-by a b h g = ap₂ (λ a b. cond a NoNumber (cond b Still (Worst (worst n xs)))) h g
+  drift-by : (a b : Bool) → none ≡ a → still ≡ b → driftIn m S ≡ cond a NoNumber (cond b Still (Worst (worstOf m S)))
+  unfolding driftIn
+  drift-by a b h g = ap₂ (λ a b. cond a NoNumber (cond b Still (Worst (worstOf m S)))) h g
 
   -- 0.0 is the worst exactly if all sums are zero
   pub tested : none ≡ false → eq (c .worst) plusZero ≡ still
-  tested h = equals-zero (c .worst) ∙ ap isZero (s .worst-is) ∙ clean (sumAt n xs) (sums n) h .all-zero
+  tested h = equals-zero (c .worst) ∙ ap isZero (s .worst-is) ∙ clean S m h .all-zero
 
   -- where the worst is not zero a sum has its absolute value, and the place is that of the first
-  is-first : eq (c .worst) plusZero ≡ false
-      → (some (sums n) (hits (sumAt n xs) (c .worst)) ≡ true) × (c .at ≡ firstOf (sums n) (hits (sumAt n xs) (c .worst)))
+  is-first : eq (c .worst) plusZero ≡ false → (some m (hits S (c .worst)) ≡ true) × (c .at ≡ firstOf m (hits S (c .worst)))
   is-first g =
       ⊎-elim (λ (z : c .worst ≡ plusZero). absurd (not-both zero-equals (ap (λ w. eq w plusZero) (sym z) ∙ g)))
-      (λ (z : (some (sums n) (hits (sumAt n xs) (c .worst)) ≡ true) × (c .at ≡ firstOf (sums n) (hits (sumAt n xs) (c .worst)))). z)
+      (λ (z : (some m (hits S (c .worst)) ≡ true) × (c .at ≡ firstOf m (hits S (c .worst)))). z)
       (s .at-is)
 
-  pub found-worst : eq (c .worst) plusZero ≡ false → some (sums n) (hits (sumAt n xs) (c .worst)) ≡ true
+  pub found-worst : eq (c .worst) plusZero ≡ false → some m (hits S (c .worst)) ≡ true
   found-worst g = is-first g .0
 
-  reported-none : none ≡ true → concluded n c ≡ placed n xs (driftOf n xs)
-  reported-none h =
-      sym (conclude-none n c (s .none-is ∙ h)) ∙ ap (reportAt n NoNumber) (s .first-is h) ∙ ap (placed n xs) (sym (drift-by true still h refl))
+  module _ {R : Type 0} (stillOne : R) (at : Drift → ℕ → R) where
+    reported-none : none ≡ true → concludedBy stillOne at c ≡ placedBy stillOne at m S (driftIn m S)
+    reported-none h =
+        sym (conclude-none stillOne at c (s .none-is ∙ h)) ∙ ap (at NoNumber) (s .first-is h) ∙ ap (placedBy stillOne at m S) (sym (drift-by true still h refl))
 
-  reported-still : none ≡ false → still ≡ true → concluded n c ≡ placed n xs (driftOf n xs)
-  reported-still h g = sym (conclude-still n c (s .none-is ∙ h) (tested h ∙ g)) ∙ ap (placed n xs) (sym (drift-by false true h g))
+    reported-still : none ≡ false → still ≡ true → concludedBy stillOne at c ≡ placedBy stillOne at m S (driftIn m S)
+    reported-still h g = sym (conclude-still stillOne at c (s .none-is ∙ h) (tested h ∙ g)) ∙ ap (placedBy stillOne at m S) (sym (drift-by false true h g))
 
-  reported-worst : none ≡ false → still ≡ false → concluded n c ≡ placed n xs (driftOf n xs)
-  reported-worst h g =
-      let z : eq (c .worst) plusZero ≡ false = tested h ∙ g in
-      sym (conclude-worst n c (s .none-is ∙ h) z)
-      ∙ ap (reportAt n (Worst (c .worst))) (is-first z .1)
-      ∙ ap (λ w. placed n xs (Worst w)) worst-of
-      ∙ ap (placed n xs) (sym (drift-by false false h g))
+    reported-worst : none ≡ false → still ≡ false → concludedBy stillOne at c ≡ placedBy stillOne at m S (driftIn m S)
+    reported-worst h g =
+        let z : eq (c .worst) plusZero ≡ false = tested h ∙ g in
+        sym (conclude-worst stillOne at c (s .none-is ∙ h) z)
+        ∙ ap (at (Worst (c .worst))) (is-first z .1)
+        ∙ ap (λ w. placedBy stillOne at m S (Worst w)) (s .worst-is)
+        ∙ ap (placedBy stillOne at m S) (sym (drift-by false false h g))
 
-  pub reported : concluded n c ≡ placed n xs (driftOf n xs)
-  reported = ⊎-elim reported-none (λ (h : none ≡ false). ⊎-elim (reported-still h) (reported-worst h) (split still)) (split none)
+    pub reported : concludedBy stillOne at c ≡ placedBy stillOne at m S (driftIn m S)
+    reported = ⊎-elim reported-none (λ (h : none ≡ false). ⊎-elim (reported-still h) (reported-worst h) (split still)) (split none)
 
 -- ---- one look, by its cases
 

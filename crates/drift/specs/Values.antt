@@ -1,6 +1,6 @@
 -- The drift report by values. Assumes nothing.
 use mathlib.Core.Path.{_≡_, refl}
-use mathlib.Core.List.{List, [], _∷_}
+use mathlib.Core.List.{List, []}
 use Prim.Native.Nat.{ℕ}
 use lib.ListN.{replicate, set}
 use lib.Ieee.{Float, nan, add, lt, eq, isNan, ofBits, binary64}
@@ -15,7 +15,7 @@ use Rattle.fc2.specs.Full.{entry, rowSum, columnSum}
 use Rattle.drift.specs.declared.Drift.the-variants.{Still, Worst, NoNumber}
 use Rattle.drift.specs.declared.Along.the-variants.{Rows, Columns}
 use Rattle.drift.specs.declared.DriftAnswer.the-variants.{Report}
-use Rattle.drift.specs.Drift.{absolute, isZero, lineSum, sumAt, firstOf, worst, driftOf, driftReport}
+use Rattle.drift.specs.Drift.{absolute, isZero, lineSum, sumAt, firstOf, worstOf, driftIn, driftReport}
 
 abbrev one : Float
 one = ofBits binary64 0x3FF0_0000_0000_0000
@@ -32,20 +32,20 @@ withBoth r x q y = set (with r x) q y
 
 -- no atoms, and no drift: a still report says rows
 none-still : driftReport [] 0 ≡ Report (record { drift = Still; along = Rows; atom = 0; k = 0; l = 0 })
-unfolding driftReport setLength driftOf some every
+unfolding driftReport setLength driftIn some every
 none-still = refl
 
 -- 1 in blocks (0, 0) and (1, 0), at directions 1 and 2: both row sums are 1, the sum of column 0 is 2
 column-worst : driftReport (withBoth 5 one 23 one) 2 ≡ Report (record { drift = Worst two; along = Columns; atom = 0; k = 1; l = 2 })
-unfolding driftReport setLength driftOf some every worst firstOf times sumAt lineSum rowSum columnSum entry at address horner whole absolute isZero isNan lt eq add ofBits
+unfolding driftReport setLength driftIn some every worstOf firstOf times sumAt lineSum rowSum columnSum entry at address horner whole absolute isZero isNan lt eq add ofBits
 column-worst = refl
 
 -- 1 in block (1, 0): row 1 and column 0 share the worst, and the row goes first
 row-first : driftReport (with 22 one) 2 ≡ Report (record { drift = Worst one; along = Rows; atom = 1; k = 1; l = 1 })
-unfolding driftReport setLength driftOf some every worst firstOf times sumAt lineSum rowSum columnSum entry at address horner whole absolute isZero isNan lt eq add ofBits
+unfolding driftReport setLength driftIn some every worstOf firstOf times sumAt lineSum rowSum columnSum entry at address horner whole absolute isZero isNan lt eq add ofBits
 row-first = refl
 
 -- NaN in block (1, 0): the row goes first, although the column's atom is lower
 none-first : driftReport (withBoth 22 nan 0 two) 2 ≡ Report (record { drift = NoNumber; along = Rows; atom = 1; k = 1; l = 1 })
-unfolding driftReport setLength driftOf some every worst firstOf times sumAt lineSum rowSum columnSum entry at address horner whole absolute isZero isNan lt eq add ofBits
+unfolding driftReport setLength driftIn some every worstOf firstOf times sumAt lineSum rowSum columnSum entry at address horner whole absolute isZero isNan lt eq add ofBits
 none-first = refl

@@ -23,9 +23,9 @@ use Rattle.drift.specs.declared.DriftReport.{DriftReport}
 use Rattle.drift.specs.declared.DriftAnswer.{DriftAnswer}
 use Rattle.drift.specs.declared.DriftAnswer.the-variants.{Report, Refused}
 use Rattle.drift.specs.declared.seen.Seen.{Seen}
-use Rattle.drift.specs.Drift.{numberOf, valueOf, alongNumber, absolute, isZero, lineSum, alongOf, atomOf, sumAt, sums, firstOf, worst, driftOf, reportAt, stillReport, placed, judgedDrift, reportedAfter, driftReport}
+use Rattle.drift.specs.Drift.{numberOf, valueOf, alongNumber, absolute, isZero, lineSum, alongOf, atomOf, sumAt, sums, firstOf, worstOf, driftIn, driftOf, reportAt, stillReport, placed, judgedDrift, reportedAfter, driftReport}
 use Rattle.drift.specs.Loops.{look, start}
-use Rattle.drift.specs.Seen.{first-passes, first-least, hits, State, all-seen, worst-of, found-worst, tested}
+use Rattle.drift.specs.Seen.{first-passes, first-least, hits, State, all-seen, found-worst, tested}
 
 -- ---- the order of places
 
@@ -132,12 +132,12 @@ module _ (xs : List Float) (n : ℕ) where
   record Cause (d : Drift) : Type 0 where
     pub no-number : d ≡ NoNumber → none ≡ true
     pub all-zero : d ≡ Still → (none ≡ false) × (still ≡ true)
-    pub not-zero : (v : Float) → d ≡ Worst v → (none ≡ false) × (still ≡ false) × (worst n xs ≡ v)
+    pub not-zero : (v : Float) → d ≡ Worst v → (none ≡ false) × (still ≡ false) × (worstOf (sums n) (sumAt n xs) ≡ v)
 
   different : {a b : Drift} → (numberOf a ≡ numberOf b → ⊥) → a ≡ b → ⊥
   different h e = h (ap numberOf e)
 
-  cause-by : (a b : Bool) → none ≡ a → still ≡ b → Cause (cond a NoNumber (cond b Still (Worst (worst n xs))))
+  cause-by : (a b : Bool) → none ≡ a → still ≡ b → Cause (cond a NoNumber (cond b Still (Worst (worstOf (sums n) (sumAt n xs)))))
   cause-by true b h g =
       record {
         no-number = λ e. h;
@@ -158,7 +158,7 @@ module _ (xs : List Float) (n : ℕ) where
       }
 
   cause : Cause (driftOf n xs)
-  unfolding driftOf
+  unfolding driftIn
   cause = cause-by none still refl refl
 
   -- all sums, looked at one after another
@@ -202,8 +202,8 @@ module _ (xs : List Float) (n : ℕ) where
         → ((w : Along) (i k l : ℕ) → Place n i k l → lt v (absolute (lineSum n xs w i k l)) ≡ false) × First n xs (λ x. eq (absolute x) v) q
     worst-named v e =
         let (a, b, c) = cause .not-zero v (drift-is ∙ e) in
-        let u = worst-of xs n seen looked ∙ c in
-        let f = found-worst xs n seen looked (tested xs n seen looked a ∙ b) in (
+        let u = looked .worst-is ∙ c in
+        let f = found-worst (sums n) (sumAt n xs) seen looked (tested (sums n) (sumAt n xs) seen looked a ∙ b) in (
           λ w i k l p. ap₂ (λ v x. lt v (absolute x)) (sym u) (sym (sum-at-rank n xs w i k l p)) ∙ looked .none-above (rank n w i k l) (rank-below n w i k l p),
           subst (First n xs (λ x. eq (absolute x) v)) (placed-as (Worst v) e)
               (first-place n xs (λ x. eq (absolute x) v) (Worst v) (subst (λ (v : Float). some (sums n) (hits (sumAt n xs) v) ≡ true) u f)),

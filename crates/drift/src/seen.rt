@@ -44,7 +44,7 @@ fn magnitude(x: f64) -> f64
 }
 
 // Looks at sum r, which is x.
-fn look(r: usize, x: f64, c: Seen) -> Seen
+pub fn look(r: usize, x: f64, c: Seen) -> Seen
     ensures { λ s. ⌜ s ≡ loops.look r x c ⌝ }
 {
     if x != x {
@@ -98,7 +98,7 @@ pub fn calm(s: [[f64; 3]; 3], worst: f64) -> bool
 
 // Looks at the nine sums of line q.
 pub fn look_line(q: usize, s: [[f64; 3]; 3], c: Seen) -> Seen
-    requires { ⌜ q < 2048 ⌝ }
+    requires { ⌜ q < 1048576 ⌝ }
     ensures { λ r. ⌜ r ≡ loops.lookLine q s c ⌝ }
 {
     let mut seen = c;

@@ -1,10 +1,10 @@
 -- The mean of two equal numbers is that number, unless their sum overflows: (x + x) / 2 is x. A half, and so every mean of two numbers, is
 -- small enough for that. Assumes nothing.
-use mathlib.Core.Path.{_≡_, refl, sym, ap, ap₂, _∙_, subst}
+use mathlib.Core.Path.{_≡_, refl, sym, ap, _∙_, subst}
 use mathlib.Core.Bool.{Bool, true, false, _&&_}
 use mathlib.Core.Logic.{⊎-elim}
 use Prim.Native.Nat.{ℕ, zero, suc, _+_, _-_, _*_, _/_, _%_, _^_, _<_, _≤_, compare}
-use native.Mathlib.Nat.{add-zero, mul-one, one-mul, zero-mul, mul-pos, zero-lt-suc, mul-comm, mul-assoc, lt-of-lt-of-le, lt-irrefl, mul-le-mul-right, mul-right-comm, mul-lt-mul-of-pos-right, lt-of-mul-lt-mul-right, lt-of-le-of-lt, div-lt-iff-lt-mul, not-le-of-lt, le-trans, le-of-eq, pow-succ'}
+use native.Mathlib.Nat.{mul-one, one-mul, mul-pos, zero-lt-suc, mul-comm, mul-assoc, lt-of-lt-of-le, lt-irrefl, mul-le-mul-right, mul-right-comm, mul-lt-mul-of-pos-right, lt-of-mul-lt-mul-right, lt-of-le-of-lt, div-lt-iff-lt-mul, not-le-of-lt, le-trans, le-of-eq, pow-succ'}
 use native.Mathlib.Omega.{arith}
 use lib.IntN.{ℤ, pos, negsuc}
 use lib.Dec.{T, eqb, ltb, leb, eqb→eq, ltb→lt, leb→le, lit<}

@@ -2,11 +2,11 @@
 use mathlib.Core.Path.{_≡_, sym, ap, ap₂, _∙_}
 use mathlib.Core.Bool.{cond}
 use mathlib.Core.List.{List}
-use Prim.Native.Nat.{ℕ, _+_, _*_, _/_, _%_, _<_}
+use Prim.Native.Nat.{ℕ, _+_, _*_, _/_, _%_}
 use native.Mathlib.Nat.{div-add-mod'}
 use lib.Dec.{eqb}
-use lib.ListN.{length, getD}
-use lib.Ieee.{Float, nan, binary64, neg, add, sub, mul}
+use lib.ListN.{length}
+use lib.Ieee.{Float, binary64, neg, add, sub, mul}
 use Rattle.lists.specs.Tab.{times-same}
 use Rattle.tables.specs.Shifts.{Shifts, Laws, p2sAt}
 use Rattle.lines.specs.Nine.{plusZero, half, inverse}

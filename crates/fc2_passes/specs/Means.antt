@@ -1,9 +1,8 @@
 -- What the averages mean: an averaged set reads out, for any two legs, the mean of the old read-outs at both permutations, and to average it once more
 -- changes nothing, whatever the numbers are. So it does not matter that the Rust takes some means twice.
 -- On its own diagonal a block takes (x + x) / 2 at the first average: x again, but an infinity where x + x overflows. Assumes nothing.
-use mathlib.Core.Path.{_≡_, refl, sym, ap, ap₂, _∙_, subst}
-use mathlib.Core.List.{List, [], _∷_}
-use Prim.Native.Nat.{ℕ}
+use mathlib.Core.Path.{_≡_, refl, sym, ap, _∙_, subst}
+use mathlib.Core.List.{List}
 use native.Mathlib.Omega.{arith}
 use lib.ListN.{length}
 use lib.Dec.{T}
@@ -36,7 +35,7 @@ module _ (S : Shifts) (L : Laws S) where
 
   module _ (set : List Float) where
     -- the read-out is the same with the legs exchanged
-    symmetric : (xs : List Leg) → Legs S 1 xs → readOut nan S (averaged S set) (taken order2 xs) ≡ readOut nan S (averaged S set) xs
+    pub symmetric : (xs : List Leg) → Legs S 1 xs → readOut nan S (averaged S set) (taken order2 xs) ≡ readOut nan S (averaged S set) xs
     symmetric xs p =
         readOut-averaged set (taken order2 xs) (taken-legs S 1 order2 xs exchange p)
         ∙ ap (λ ys. mean (readOut nan S set (taken order2 xs)) (readOut nan S set ys)) (twice xs (p .0))

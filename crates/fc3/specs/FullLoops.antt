@@ -13,7 +13,6 @@ use borrow.Author.Tests.{lt-ltb, le-ltb, eq-eqb, ne-eqb}
 use Rattle.lists.specs.Tab.{times, times-add, times-nest, times-idle, times-tail, times-head, times-both, times-swap}
 use Rattle.lists.specs.Elements.{All, pick}
 use Rattle.lists.specs.Digits.{horner, room, in-row}
-use Rattle.lists.specs.Members.{In}
 use Rattle.tables.specs.Limits.{limit3}
 use Rattle.tables.specs.declared.Answer.{Answer}
 use Rattle.tables.specs.declared.Answer.the-variants.{Done, Refused}

@@ -1,17 +1,15 @@
 -- The loops of third order: what the six blocks of a group are at given atoms, and the nested loops as one loop over all blocks. Assumes nothing.
 use mathlib.Core.Path.{_≡_, refl, sym, ap, ap₂, _∙_}
-use mathlib.Core.Bool.{Bool, true, false, cond}
-use Prim.Native.Nat.{ℕ, zero, suc, _+_, _*_, _≤_, _<_}
-use native.Mathlib.Nat.{le-trans}
+use mathlib.Core.Bool.{true, false, cond}
+use Prim.Native.Nat.{ℕ, _+_, _*_, _≤_, _<_}
 use native.Mathlib.Omega.{arith}
-use mathlib.Core.List.{List, [], _∷_, map}
-use lib.Dec.{eqb, lit≤}
-use lib.IntN.{ℤ}
+use mathlib.Core.List.{List, [], _∷_}
+use lib.Dec.{eqb}
 use lib.ListN.{length, getD, replicate, length-replicate, getD-replicate}
 use lib.Ieee.{Float, nan}
 use borrow.Author.Tests.{eq-eqb, ne-eqb}
 use Rattle.lists.specs.Tab.{times, times-nest}
-use Rattle.lists.specs.Elements.{Below, pick}
+use Rattle.lists.specs.Elements.{pick}
 use Rattle.lists.specs.Digits.{horner, room, in-row}
 use Rattle.tables.specs.Shifts.{Shifts, p2sAt}
 use Rattle.tables.specs.Limits.{limit3}
@@ -23,8 +21,8 @@ use Rattle.tables.specs.Compact.{ShiftTables, shiftsOf, Compact, judgedCompact,
 use Rattle.tables.specs.Lengths.{setLength, set-length3}
 use Rattle.places.specs.Places.{size}
 use Rattle.places.specs.Permutations.{six, six-group}
-use Rattle.places.specs.Addresses.{storedBlock, fits3, block-below}
-use Rattle.places.specs.ReadOuts.{Tables, tables, storedIn, stored-in, stored-below}
+use Rattle.places.specs.Addresses.{storedBlock, block-below}
+use Rattle.places.specs.ReadOuts.{Tables, storedIn, stored-in, stored-below}
 use Rattle.orbits.specs.Transposed.{counterpart}
 use Rattle.orbits.specs.AtBlocks.{counterpart-at, stored-own}
 use Rattle.orbits.specs.Groups.{groupBlocks, meanBlock, spreadBlock}

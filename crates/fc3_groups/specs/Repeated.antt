@@ -2,11 +2,10 @@
 -- later one holds, so that the blocks hold the means with the later of the two for both. Assumes nothing.
 use mathlib.Core.Path.{_≡_, refl, sym, ap, ap₂, _∙_}
 use mathlib.Core.List.{List, [], _∷_}
-use Prim.Native.Nat.{ℕ, _+_, _*_, _≤_, _<_}
-use native.Mathlib.Omega.{arith}
+use Prim.Native.Nat.{ℕ, _<_}
 use lib.Dec.{lit<}
-use lib.ListN.{length, getD, set}
-use lib.Ieee.{Float, nan}
+use lib.ListN.{length}
+use lib.Ieee.{Float}
 use borrow.Author.Tests.{eq-eqb, ne-eqb}
 use Rattle.lists.specs.Tab.{tab, tabFrom, times}
 use Rattle.lists.specs.Elements.{pick}
@@ -19,7 +18,7 @@ use Rattle.orbits.specs.Groups.{spots, spreadBlock, Distinct}
 use Rattle.orbits.specs.Spread.{setAll}
 use Rattle.fc3_means.specs.Mean.{Blocks6}
 use Rattle.fc3_means.specs.Later.{laterMln, laterLnm}
-use Rattle.fc3_spots.specs.Coinciding.{Six, flat, length-flat, firstAt, copySix, slots-in, group-put}
+use Rattle.fc3_spots.specs.Coinciding.{flat, length-flat, firstAt, copySix, slots-in, group-put}
 
 -- the six blocks of atoms of which the first two are the same, or the last two: three blocks that differ
 abbrev pub FirstTwo : ℕ → ℕ → ℕ → ℕ → ℕ → ℕ → Type 0

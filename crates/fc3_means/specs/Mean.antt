@@ -3,9 +3,8 @@
 use mathlib.Core.Path.{_≡_, refl, sym, ap, ap₂, _∙_}
 use Prim.Native.Nat.{ℕ, _+_, _*_, _≤_, _<_}
 use native.Mathlib.Omega.{arith}
-use lib.Dec.{lit<}
-use mathlib.Core.List.{List, [], _∷_, map}
-use lib.ListN.{length, getD}
+use mathlib.Core.List.{List, [], _∷_}
+use lib.ListN.{getD}
 use lib.Ieee.{Float, nan, binary64, add, div, ofBits}
 use Rattle.lists.specs.Tab.{tab, tabFrom, getD-tab, tab-ext}
 use Rattle.lists.specs.Elements.{straight}

@@ -3,7 +3,7 @@ pub mod later;
 
 ghost use mathlib.Core.Path.{_≡_};
 ghost use mathlib.Core.List.{[], _∷_};
-ghost use Prim.Native.Nat.{_+_, _*_, _≤_};
+ghost use Prim.Native.Nat.{_+_};
 ghost use lib.ListN.{length};
 ghost use Rattle.places.specs.Permutations.{six};
 ghost use Rattle.orbits.specs.Groups.{meanBlock};

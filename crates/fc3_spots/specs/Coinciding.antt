@@ -3,30 +3,29 @@
 use mathlib.Core.Path.{_≡_, refl, sym, ap, ap₂, _∙_}
 use mathlib.Core.Bool.{Bool, true, false, cond, _||_, false≢true}
 use mathlib.Core.Logic.{_⊎_, inl, inr, ⊎-elim}
-use mathlib.Core.List.{List, [], _∷_, map, _++_}
+use mathlib.Core.List.{List, [], _∷_, _++_}
 use Prim.Native.Nat.{ℕ, zero, suc, _+_, _*_, _/_, _%_, _≤_, _<_}
 use native.Mathlib.Nat.{mod-lt, div-add-mod', not-suc-le-zero}
-use native.Mathlib.Decide.{ℕ-discrete}
 use native.Mathlib.Omega.{arith}
 use lib.Dec.{eqb, lit<}
 use lib.ListN.{length, getD, set, length-set}
 use lib.Seq.{ext-getD, getD-set-same, getD-set-other}
 use lib.Ieee.{Float, nan}
 use borrow.Author.Tests.{eqb-true, eq-eqb, ne-eqb}
-use Rattle.lists.specs.Tests.{same-test, refuted, split}
+use Rattle.lists.specs.Tests.{same-test}
 use Rattle.lists.specs.Cases.{eq-or-ne}
 use Rattle.lists.specs.Tab.{tab, tab-ext, length-tab, getD-tab, is-tab, times}
-use Rattle.lists.specs.Elements.{All, all-at, straight, pick}
+use Rattle.lists.specs.Elements.{All, all-at}
 use Rattle.lists.specs.Digits.{quotient, remainder}
 use Rattle.lists.specs.Members.{In, oneOf}
 use Rattle.blocks.specs.Block.{block, putBlock, length-putBlock, getD-block, put-inside, put-outside}
 use Rattle.blocks.specs.Permuted.{permuted}
-use Rattle.places.specs.Permutations.{Permutation, six}
+use Rattle.places.specs.Permutations.{six}
 use Rattle.orbits.specs.Blockwise.{inBlock}
-use Rattle.orbits.specs.Transposed.{permuted-is-below, in-block-pos}
+use Rattle.orbits.specs.Transposed.{permuted-is-below}
 use Rattle.orbits.specs.Groups.{spots, spreadBlock, Apart}
-use Rattle.orbits.specs.Spread.{setAll, has, has-in, in-has, getD-setAll}
-use Rattle.orbits.proofs.Scatter.{Undoes, Inverses, length-stores, stores-out, permuted-straight, permuted-permuted}
+use Rattle.orbits.specs.Spread.{setAll, has, in-has, getD-setAll}
+use Rattle.orbits.proofs.Scatter.{Inverses, length-stores, stores-out, permuted-straight, permuted-permuted}
 use Rattle.fc3_means.specs.Mean.{in27, Blocks6}
 use Rattle.fc3_spots.specs.Spread.{inverse6, inverses6}
 

@@ -1,6 +1,6 @@
 -- The means of a group written to its six blocks. Assumes nothing.
 use mathlib.Core.Path.{_≡_, refl, sym, ap, ap₂, _∙_}
-use Prim.Native.Nat.{ℕ, zero, suc, _+_, _*_, _/_, _%_, _≤_, _<_}
+use Prim.Native.Nat.{ℕ, _+_, _*_, _/_, _%_, _<_}
 use native.Mathlib.Nat.{mod-eq-of-lt}
 use native.Mathlib.Omega.{arith}
 use mathlib.Core.List.{List, [], _∷_}
@@ -15,7 +15,7 @@ use Rattle.orbits.specs.Blockwise.{inBlock}
 use Rattle.blocks.specs.Permuted.{permuted, permutedBlock}
 use Rattle.orbits.specs.Groups.{spots, meanBlock, spreadBlock, Distinct}
 use Rattle.orbits.specs.Spread.{setAll}
-use Rattle.orbits.proofs.Scatter.{Undoes, Inverses, putAll, wholes-are, permuted-straight}
+use Rattle.orbits.proofs.Scatter.{Undoes, Inverses, putAll, wholes-are}
 use Rattle.fc3_means.specs.Mean.{in27, permuted-plain}
 
 -- the inverses of the six permutations: two of them are each other's, the others their own

@@ -2,7 +2,7 @@
 // one place holds.
 ghost use mathlib.Core.Path.{_≡_};
 ghost use mathlib.Core.List.{[], _∷_};
-ghost use Prim.Native.Nat.{_+_, _*_, _<_, _≤_};
+ghost use Prim.Native.Nat.{_+_, _*_, _<_};
 ghost use lib.ListN.{length, set};
 ghost use Rattle.places.specs.Permutations.{six};
 ghost use Rattle.orbits.specs.Groups.{spots, spreadBlock};

@@ -1,14 +1,13 @@
 -- The 24 blocks of a group from the atoms of one of them: four times six, by the atom that comes first. Assumes nothing.
 use mathlib.Core.Path.{_≡_, refl, sym, ap, ap₂, _∙_, fun-ext}
-use Prim.Native.Nat.{ℕ, zero, suc, _+_, _*_, _/_, _%_, _≤_, _<_}
-use native.Mathlib.Nat.{mod-lt}
+use Prim.Native.Nat.{ℕ, _*_, _/_, _%_, _≤_, _<_}
 use native.Mathlib.Omega.{arith}
-use mathlib.Core.List.{List, [], _∷_, map}
+use mathlib.Core.List.{List, [], _∷_}
 use lib.ListN.{length, getD, length-map}
 use lib.Dec.{lit≤}
 use Rattle.lists.specs.Elements.{pick, getD-map}
 use Rattle.lists.specs.Digits.{horner, room, rest, digits, rest-below, digits-below}
-use Rattle.tables.specs.Shifts.{Shifts, Laws, row, p2sAt, s2ppAt, nsymAt}
+use Rattle.tables.specs.Shifts.{Shifts, Laws, p2sAt}
 use Rattle.tables.specs.Limits.{limit4}
 use Rattle.tables.specs.Conditions.{Readable, indexAt, read}
 use Rattle.tables.specs.Compact.{ShiftTables, shiftsOf, Fit, p2s-is}

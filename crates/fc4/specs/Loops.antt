@@ -1,11 +1,10 @@
 -- The symmetrizers' loops of fourth order, over any shift tables: one visit, all of them, and the calls. Assumes nothing.
 use mathlib.Core.Path.{_≡_, refl, sym, ap, ap₂, _∙_}
-use mathlib.Core.Bool.{Bool, true, false, cond}
-use Prim.Native.Nat.{ℕ, zero, suc, _+_, _*_, _≤_, _<_}
-use native.Mathlib.Nat.{mul-le-mul, le-refl}
+use mathlib.Core.Bool.{true, false}
+use Prim.Native.Nat.{ℕ, _*_, _≤_, _<_}
+use native.Mathlib.Nat.{mul-le-mul}
 use native.Mathlib.Omega.{arith}
 use mathlib.Core.List.{List, [], _∷_}
-use lib.Dec.{eqb}
 use lib.ListN.{length, getD, set, replicate, length-replicate, getD-replicate}
 use lib.Ieee.{Float, nan}
 use borrow.Author.Tests.{eq-eqb, ne-eqb, lt-ltb}
@@ -15,7 +14,7 @@ use Rattle.tables.specs.Shifts.{Shifts, Laws}
 use Rattle.tables.specs.Limits.{limit4}
 use Rattle.tables.specs.declared.Answer.{Answer}
 use Rattle.tables.specs.declared.Answer.the-variants.{Done, Refused}
-use Rattle.tables.specs.declared.Refusal.the-variants.{CountAboveLimit, WrongLength}
+use Rattle.tables.specs.declared.Refusal.the-variants.{CountAboveLimit}
 use Rattle.tables.specs.Answers.{isRefusal, after, is-done, passed, refused-call, done-call}
 use Rattle.tables.specs.Conditions.{not-above, not-wrong}
 use Rattle.tables.specs.Compact.{ShiftTables, shiftsOf, Compact, judgedCompact, done-compact}

@@ -1,4 +1,4 @@
 // Fourth order (fc4.rs).
 pub mod compact;
 pub mod full;
-mod group;
+pub mod group;

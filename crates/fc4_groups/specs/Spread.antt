@@ -2,19 +2,19 @@
 -- the greatest position that is written there. That is what the stores position after position leave. Assumes nothing.
 use mathlib.Core.Path.{_≡_, refl, sym, ap, ap₂, _∙_}
 use mathlib.Core.Logic.{_⊎_, inl, inr}
-use mathlib.Core.Bool.{Bool, true, false, cond}
+use mathlib.Core.Bool.{true, false, cond}
 use Prim.Native.Nat.{ℕ, zero, suc, _+_, _*_, _/_, _%_, _≤_, _<_, max}
 use native.Mathlib.Nat.{le-of-suc-le-suc, not-suc-le-zero, div-add-mod', mod-lt}
 use native.Mathlib.Decide.{ℕ-discrete, decLe}
 use native.Mathlib.Omega.{arith}
 use mathlib.Core.List.{List, [], _∷_}
 use lib.Dec.{eqb, lit<}
-use lib.ListN.{length, getD, replicate, length-replicate, getD-replicate}
+use lib.ListN.{length, getD, replicate, getD-replicate}
 use lib.Seq.{ext-getD}
 use lib.Ieee.{Float, nan}
 use borrow.Author.Tests.{eqb-true, eq-eqb, ne-eqb}
 use Rattle.lists.specs.Tests.{some, some-at, some-of, split, not-both}
-use Rattle.lists.specs.Tab.{tab, length-tab, getD-tab, is-tab, times}
+use Rattle.lists.specs.Tab.{tab, getD-tab, is-tab, times}
 use Rattle.lists.specs.Digits.{quotient, remainder}
 use Rattle.lists.specs.Members.{In}
 use Rattle.blocks.specs.Block.{putBlock, length-putBlock, put-inside, put-outside}
@@ -22,7 +22,7 @@ use Rattle.blocks.specs.Permuted.{permuted, permutedBlock}
 use Rattle.places.specs.Permutations.{twentyFour}
 use Rattle.orbits.specs.Blockwise.{inBlock}
 use Rattle.orbits.specs.Spread.{setAll}
-use Rattle.orbits.specs.Groups.{spots, meanBlock, spreadBlock}
+use Rattle.orbits.specs.Groups.{spots, spreadBlock}
 use Rattle.orbits.proofs.Scatter.{length-stores, stores-at, stores-out}
 use Rattle.positions.specs.Positions.{permutationAt, in81, permuted-in}
 use Rattle.positions.specs.Inverses.{inverseOf, inverse-below, there, back}

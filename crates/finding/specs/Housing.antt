@@ -2,7 +2,7 @@
 use mathlib.Core.Path.{_≡_, refl, sym, ap, _∙_, subst}
 use mathlib.Core.Logic.{_⊎_, inl, inr}
 use mathlib.Core.Bool.{Bool, true, false, not, true≢false, false≢true}
-use mathlib.Core.List.{List, [], _∷_}
+use mathlib.Core.List.{List}
 use Prim.Native.Nat.{ℕ, zero, suc, _+_, _≤_, _<_}
 use native.Mathlib.Omega.{arith}
 use lib.Dec.{eqb}
@@ -14,9 +14,9 @@ use Rattle.lists.specs.Tests.{not-both}
 use Rattle.cells.specs.Matching.{isFilled}
 use Rattle.cells.specs.Slots.{slotAt}
 use Rattle.cells.specs.Bijection.{Bijection}
-use Rattle.matchings.specs.Counts.{count, count-le}
-use Rattle.matchings.specs.Groups.{Held, Partial, marked, Marks, Group, Closed, stuck-group, all-held}
-use Rattle.chains.specs.Chains.{unmarked, Homeless, Ready, Searched}
+use Rattle.matchings.specs.Counts.{count-le}
+use Rattle.matchings.specs.Groups.{Held, Partial, marked, Group, stuck-group, all-held}
+use Rattle.chains.specs.Chains.{Ready, Searched}
 
 -- whether slot j holds position i
 pub record HoldsAt (slots : List ℤ) (j i : ℕ) (r : Bool) : Type 0 where

@@ -27,7 +27,7 @@ use Rattle.cells.specs.Bijection.{Bijection, placed-length, placed-each, placed
 use Rattle.matchings.specs.Groups.{Held, Partial}
 use Rattle.finding.specs.declared.Finding.{Finding}
 use Rattle.finding.specs.declared.Finding.the-variants.{Found, NoMatch, Refused}
-use Rattle.finding.specs.FindPermutation.{judgedFinding, ended, Ends, Result, Promise}
+use Rattle.finding.specs.FindPermutation.{judgedFinding, ended, Result, Promise}
 use Rattle.finding.specs.Housing.{HousedAll}
 
 -- ---- what greedy leaves is where the search starts

@@ -1,13 +1,12 @@
 -- Sheet 9 of document 01 for the second matcher (document 02, A.6): unit lattice, first coordinates 0.25, 0 against 0.125, 0.375, tolerance 0.1875. Position 1 is near
 -- slot 0 alone, so one bijection exists, and the call gives slots 1, 0, whatever the slots and marks held. Assumes nothing.
-use mathlib.Core.Path.{_≡_, refl, sym, ap, ap₂, _∙_, subst}
-use mathlib.Core.Logic.{_⊎_, inl, inr}
-use mathlib.Core.Bool.{Bool, true, false, cond, true≢false, false≢true}
+use mathlib.Core.Path.{_≡_, refl, sym, ap, ap₂, _∙_}
+use mathlib.Core.Bool.{Bool, true, false}
 use mathlib.Core.List.{List, [], _∷_}
-use Prim.Native.Nat.{ℕ, zero, suc, _≤_, _<_}
+use Prim.Native.Nat.{ℕ, zero, suc, _<_}
 use native.Mathlib.Omega.{arith}
-use lib.IntN.{ℤ, pos, negsuc}
-use lib.ListN.{length, replicate}
+use lib.IntN.{ℤ, pos}
+use lib.ListN.{length}
 use lib.Ieee.{Float, binary64, ofBits, add, sub, mul, lt, isNan, round}
 use Rattle.common.specs.Whole.{nearestWhole}
 use Rattle.common.specs.Root.{sqrt}
@@ -19,7 +18,7 @@ use Rattle.cells.specs.Sheets.{unitCell, at-x}
 use Rattle.cells.specs.Bijection.{Bijection, Taken}
 use Rattle.finding.specs.declared.Finding.{Finding}
 use Rattle.finding.specs.declared.Finding.the-variants.{Found}
-use Rattle.finding.specs.FindPermutation.{judgedFinding, ended, Ends, Result, Promise}
+use Rattle.finding.specs.FindPermutation.{judgedFinding, ended, Result, Promise}
 use Rattle.finding.specs.Laws.{found-if-any}
 
 abbrev cell9 : Cell

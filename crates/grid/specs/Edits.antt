@@ -1,16 +1,14 @@
 -- A sum that follows an edit (document 02, A.10): the old number is subtracted and the new one added, and on the grid the bits are those of a fresh pass.
 -- Assumes nothing.
-use mathlib.Core.Path.{_≡_, refl, sym, ap, ap₂, _∙_, subst}
+use mathlib.Core.Path.{_≡_, sym, ap, _∙_}
 use mathlib.Core.Logic.{_⊎_, inl, inr}
-use mathlib.Core.Bool.{Bool, true, false}
 use Prim.Native.Nat.{ℕ, zero, suc, _+_, _-_, _*_, _^_, _≤_, _<_}
 use native.Mathlib.Omega.{arith}
-use lib.Dec.{eqb}
-use lib.Ieee.{Float, binary64, add, sub, ofBits}
-use Rattle.lists.specs.Cases.{lt-or-le, eq-or-ne}
+use lib.Ieee.{Float, binary64, add, sub}
+use Rattle.lists.specs.Cases.{eq-or-ne}
 use Rattle.lists.specs.Tab.{times}
-use Rattle.grid.specs.Grid.{onGrid, stepsUp, stepsDown, grid-steps, grid-few}
-use Rattle.grid.specs.Exact.{ofSteps, more-steps, less-steps, steps-same}
+use Rattle.grid.specs.Grid.{stepsUp, stepsDown, grid-steps, grid-few}
+use Rattle.grid.specs.Exact.{more-steps, less-steps, steps-same}
 use Rattle.grid.specs.Sums.{passOver, total, AllOnGrid, total-few, total-same, pass-steps}
 
 -- the sum with the old number subtracted and the new one added

@@ -1,13 +1,12 @@
 -- The grid of document 02, A.10: whole multiples of 2^-20 of absolute value at most 2^20. -0.0 is the multiple 0, so it is on the grid.
 -- A number on the grid is a count of steps of 2^-20, up or down. Assumes nothing.
-use mathlib.Core.Path.{_≡_, refl, sym, ap, _∙_, subst}
+use mathlib.Core.Path.{_≡_, refl, sym, ap, _∙_}
 use mathlib.Core.Logic.{_⊎_, inl, inr}
-use mathlib.Core.Bool.{Bool, true, false, cond, not, _&&_, true≢false, false≢true}
-use Prim.Native.Nat.{ℕ, zero, suc, _+_, _-_, _*_, _/_, _%_, _^_, _≤_, _<_}
-use native.Mathlib.Nat.{div-add-mod', mul-assoc, mul-comm, mul-right-comm, le-of-mul-le-mul-right, mul-le-mul-right, le-trans, le-of-eq, add-zero}
+use mathlib.Core.Bool.{Bool, true, false, not, _&&_, false≢true}
+use Prim.Native.Nat.{ℕ, _+_, _-_, _*_, _/_, _%_, _^_, _≤_, _<_}
+use native.Mathlib.Nat.{div-add-mod', le-of-mul-le-mul-right, add-zero}
 use native.Mathlib.Omega.{arith}
-use lib.Dec.{T, eqb, leb, ltb}
-use lib.IntN.{ℤ, pos, negsuc}
+use lib.Dec.{eqb, leb}
 use lib.Ieee.{Float, nan, inf, fin, up, down, neg}
 use lib.Ieee.Exact.{HasValue}
 use lib.Ieee.Fits.{down-pos}

@@ -1,21 +1,21 @@
 -- The test of the grid by comparisons, one product and one rounding. Assumes nothing.
-use mathlib.Core.Path.{_≡_, refl, sym, ap, ap₂, _∙_, subst}
+use mathlib.Core.Path.{_≡_, refl, sym, ap, ap₂, _∙_}
 use mathlib.Core.Logic.{_⊎_, inl, inr}
-use mathlib.Core.Bool.{Bool, true, false, cond, not, _&&_, _||_, Bool·beq, true≢false, false≢true}
+use mathlib.Core.Bool.{Bool, true, false, not, _&&_, _||_, Bool·beq, true≢false, false≢true}
 use Prim.Native.Nat.{ℕ, zero, suc, _+_, _-_, _*_, _/_, _%_, _^_, _≤_, _<_}
-use native.Mathlib.Nat.{mul-pos, mul-one, mul-assoc, mul-comm, mul-div-cancel, mul-mod-left, div-add-mod', add-zero, eq-of-mul-eq-mul-right, le-of-mul-le-mul-right, lt-of-lt-of-le, lt-of-le-of-lt, le-of-eq, mul-le-mul-right, le-trans, div-lt-iff-lt-mul, pow-suc}
+use native.Mathlib.Nat.{mul-pos, mul-one, mul-assoc, mul-mod-left, div-add-mod', add-zero, eq-of-mul-eq-mul-right, lt-of-lt-of-le, lt-of-le-of-lt, le-of-eq, mul-le-mul-right, le-trans, div-lt-iff-lt-mul, pow-suc}
 use native.Mathlib.Omega.{arith}
-use lib.Dec.{T, eqb, leb, ltb, lit<, lit≤, ltb→lt, leb→le, eqb→eq}
+use lib.Dec.{T, eqb, leb, ltb, lit<, ltb→lt, leb→le, eqb→eq}
 use lib.Pow.{pow-add, pow-pos, pow-mono, shl-lt}
 use lib.IntN.{ℤ, pos, negsuc}
-use lib.Ieee.{Float, nan, inf, fin, binary64, low, emax, prec, up, down, mul, round, lt, le, eq, fits, ofBits, neg, below, level}
+use lib.Ieee.{Float, nan, inf, fin, binary64, up, down, mul, round, lt, le, eq, fits, ofBits, level}
 use lib.Ieee.Digits.{back}
 use lib.Ieee.Exact.{HasValue, round-exact}
-use lib.Ieee.Fits.{down-pos, up-pos, and-l, and-r}
+use lib.Ieee.Fits.{down-pos, and-l, and-r}
 use lib.Ieee.Back.{round-whole}
-use borrow.Author.Tests.{eqb-true, eq-eqb, ne-eqb, leb-true, le-leb, lt-leb, ltb-true, lt-ltb, le-ltb}
+use borrow.Author.Tests.{eqb-true, eq-eqb, ne-eqb, leb-true, le-leb, lt-leb, lt-ltb, le-ltb}
 use Rattle.lists.specs.Cases.{lt-or-le, eq-or-ne}
-use Rattle.lists.specs.Tests.{split, same-test, and-fst, and-snd, both, refuted, not-both}
+use Rattle.lists.specs.Tests.{same-test, not-both}
 use Rattle.common.specs.Whole.{halfUp, nearestWhole}
 use Rattle.common.specs.Laws.Wholes.{halfUp-same, halfUp-whole}
 use Rattle.grid.specs.Grid.{onGrid}

@@ -1,6 +1,6 @@
 -- Blocks of nine numbers inside a block of c * 9 numbers, by their numbers in the set and by their numbers inside the block; and blocks that change places
 -- whole and are permuted where they stand. Assumes nothing.
-use mathlib.Core.Path.{_≡_, refl, sym, ap, ap₂, _∙_}
+use mathlib.Core.Path.{_≡_, sym, ap, _∙_}
 use mathlib.Core.Logic.{⊎-elim}
 use Prim.Native.Nat.{ℕ, _+_, _*_, _/_, _%_, _≤_, _<_}
 use native.Mathlib.Nat.{mod-lt, div-add-mod'}

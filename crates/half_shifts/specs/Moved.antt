@@ -4,8 +4,8 @@ use mathlib.Core.Path.{_≡_, refl, sym, ap, ap₂, _∙_}
 use mathlib.Core.Bool.{Bool, true, false, _&&_, cond}
 use Prim.Native.Nat.{ℕ, zero, suc, _≤_, _<_}
 use native.Mathlib.Omega.{arith}
-use mathlib.Core.List.{List, [], _∷_}
-use lib.IntN.{ℤ, pos, negsuc}
+use mathlib.Core.List.{List}
+use lib.IntN.{pos}
 use lib.ListN.{length, replicate}
 use lib.Ieee.{Float, nan}
 use borrow.Author.Tests.{ne-eqb}
@@ -20,8 +20,8 @@ use Rattle.tables.specs.Compact.{ShiftTables, shiftsOf, judgedCompact, done-com
 use Rattle.places.specs.Places.{size}
 use Rattle.places.specs.Moves.{order, order2, order4, moved, traded}
 use Rattle.blocks.specs.Block.{block, putBlock}
-use Rattle.blocks.specs.Permuted.{permuted, permutedBlock}
-use Rattle.orbits.specs.Counterparts.{Blocks, Paired, visit}
+use Rattle.blocks.specs.Permuted.{permutedBlock}
+use Rattle.orbits.specs.Counterparts.{Paired, visit}
 use Rattle.orbits.specs.Transposed.{blocksBy, paired}
 use Rattle.orbits.specs.BlockPairs.{joinedPair, joinedBlock}
 use Rattle.orbits.specs.Trading.{theOther, never, staysAt, Trades, moves, trades, stays-both}

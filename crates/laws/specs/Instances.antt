@@ -2,13 +2,13 @@
 -- atoms, any set and work slices of the stated lengths, and a list of four calls of which the second brings other tables and is refused; for the true
 -- ones and the swaps sheet 7's two atoms, which a half shift exchanges. Assumes nothing.
 use mathlib.Core.Path.{_≡_, refl, sym, ap, _∙_}
-use mathlib.Core.Bool.{Bool, true, false, true≢false}
+use mathlib.Core.Bool.{true, false, true≢false}
 use mathlib.Core.List.{List, [], _∷_}
 use Prim.Native.Nat.{ℕ, zero, suc, _<_}
 use native.Mathlib.Nat.{suc-ne-zero}
 use native.Mathlib.Omega.{arith}
 use lib.Dec.{lit<}
-use lib.IntN.{ℤ, pos, negsuc}
+use lib.IntN.{ℤ, pos}
 use lib.ListN.{length}
 use lib.Ieee.{Float, nan}
 use Rattle.lists.specs.Tab.{tab, tabFrom}
@@ -29,7 +29,7 @@ use Rattle.fc3_means.specs.Mean.{mean6}
 use Rattle.fc3.specs.Symmetrize.{setPermutationSymmetryCompactFc3}
 use Rattle.fc4_groups.specs.Mean24.{mean24}
 use Rattle.fc4.specs.Symmetrize.{setPermutationSymmetryCompactFc4}
-use Rattle.transposes_fc3.specs.Fc3.{judgedTranspose, transposeCompactFc3}
+use Rattle.transposes_fc3.specs.Fc3.{judgedTranspose}
 use Rattle.laws.specs.Symmetrized.{Symmetric, third, fourth}
 use Rattle.laws.specs.Sequences.{spells}
 use Rattle.laws.specs.CallLists.{permutationBy, spelled as spelledBy}

@@ -1,19 +1,12 @@
 -- Lists of calls that each permute the legs: what the whole list leaves is told by the order that it spells (document 01's word for the
 -- permutation that the calls make together). For any calls and any rank. Assumes nothing.
-use mathlib.Core.Path.{_≡_, refl, sym, ap, ap₂, _∙_, subst}
-use mathlib.Core.Logic.{_⊎_, inl, inr}
-use mathlib.Core.Bool.{Bool, true, false, not, _&&_, _||_, cond}
-use Prim.Native.Nat.{ℕ, zero, suc, _+_, _*_, _/_, _%_, _≤_, _<_}
-use native.Mathlib.Nat.{suc-ne-zero}
-use native.Mathlib.Omega.{arith}
-use mathlib.Core.List.{List, [], _∷_, map}
-use lib.ListN.{length, getD, length-map}
-use lib.Dec.{leb, ltb, eqb}
-use borrow.Author.Tests.{eqb-true, eqb-false, eq-eqb, not-true}
-use Rattle.lists.specs.Tests.{and-fst, and-snd, both, split, not-both, refuted, every, says}
+use mathlib.Core.Path.{_≡_, sym, ap, _∙_}
+use Prim.Native.Nat.{ℕ, suc, _<_}
+use mathlib.Core.List.{List, [], _∷_}
+use lib.ListN.{length}
 use Rattle.tables.specs.Shifts.{Shifts, Laws}
-use Rattle.lists.specs.Elements.{All, Below, pick, pick-pick, length-pick, all-pick, straight, pick-straight}
-use Rattle.places.specs.Places.{Leg, Fit, Legs, readOut, size, length-fill, same-readOut}
+use Rattle.lists.specs.Elements.{All, pick, pick-pick, length-pick, all-pick}
+use Rattle.places.specs.Places.{Leg, Legs, readOut, size, same-readOut}
 use Rattle.places.specs.Permutations.{taken, Permutation, taken-legs}
 
 -- ---- any calls

@@ -1,16 +1,13 @@
 -- The law of sequences for `swap_pairs_compact_fc4`: any list of calls, refused ones among them, acts as the order of four pairs that it spells.
 -- Assumes nothing.
-use mathlib.Core.Path.{_≡_, refl, sym, ap, _∙_}
-use Prim.Native.Nat.{ℕ, suc, _<_}
-use native.Mathlib.Omega.{arith}
+use mathlib.Core.Path.{_≡_, refl, ap}
+use Prim.Native.Nat.{ℕ}
 use mathlib.Core.List.{List, [], _∷_}
 use lib.IntN.{pos}
 use lib.ListN.{length, getD}
-use lib.Ieee.{Float, nan}
+use lib.Ieee.{Float}
 use Rattle.lists.specs.Tab.{tab, tabFrom}
 use Rattle.lists.specs.Elements.{pick, straight, pick-straight}
-use Rattle.tables.specs.declared.Answer.the-variants.{Done}
-use Rattle.tables.specs.Shifts.{Laws}
 use Rattle.tables.specs.Compact.{ShiftTables, shiftsOf, judgedEntries, judgedTables, judgedCompact}
 use Rattle.places.specs.Places.{Leg, size}
 use Rattle.places.specs.Permutations.{taken}

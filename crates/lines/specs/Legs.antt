@@ -1,6 +1,6 @@
 -- Sets of second order by the numbers of their places: place q is number q % 9 of block q / 9, which is that of atom q / 9 / n_satom of the
 -- first leg and atom q / 9 % n_satom of the second. Assumes nothing.
-use mathlib.Core.Path.{_≡_, refl, ap, ap₂, _∙_}
+use mathlib.Core.Path.{_≡_, ap, ap₂, _∙_}
 use mathlib.Core.List.{List, [], _∷_}
 use Prim.Native.Nat.{ℕ, _+_, _*_, _/_, _%_, _<_}
 use native.Mathlib.Nat.{div-add-mod', div-div-eq-div-mul}
@@ -10,7 +10,7 @@ use lib.Ieee.{Float, nan}
 use Rattle.lists.specs.Tab.{tab, tab-ext}
 use Rattle.lists.specs.Digits.{horner, rest, digits}
 use Rattle.tables.specs.Shifts.{Shifts}
-use Rattle.places.specs.Places.{Leg, at, place, legsOf, fill, size}
+use Rattle.places.specs.Places.{Leg, at, place, legsOf, fill}
 use Rattle.places.specs.Addresses.{size2, address2-block}
 
 place-is : (S : Shifts) (q : ℕ) → place S 1 q ≡ (q / 9 / S .nSatom, q % 9 / 3) ∷ (q / 9 % S .nSatom, q % 9 % 3) ∷ []

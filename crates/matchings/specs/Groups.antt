@@ -2,15 +2,14 @@
 -- slots than members. Where there is such a group there is no bijection of near pairs. Assumes nothing.
 use mathlib.Core.Path.{_≡_, refl, sym, ap, _∙_, subst}
 use mathlib.Core.Logic.{_⊎_, inl, inr}
-use mathlib.Core.Bool.{Bool, true, false, cond, not, _&&_, true≢false}
-use mathlib.Core.List.{List, [], _∷_}
-use Prim.Native.Nat.{ℕ, zero, suc, _+_, _≤_, _<_}
+use mathlib.Core.Bool.{Bool, true, _&&_}
+use mathlib.Core.List.{List}
+use Prim.Native.Nat.{ℕ, _≤_, _<_}
 use native.Mathlib.Omega.{arith}
 use lib.Dec.{eqb}
 use lib.IntN.{ℤ, pos, negsuc}
 use lib.ListN.{length, getD}
-use Rattle.lists.specs.Cases.{eq-or-ne}
-use Rattle.lists.specs.Tests.{some, some-at, some-of, and-fst, and-snd, both, not-both, refuted}
+use Rattle.lists.specs.Tests.{some, some-at, some-of, and-fst, and-snd, both}
 use Rattle.cells.specs.Slots.{slotAt}
 use Rattle.cells.specs.Bijection.{Taken, Bijection}
 use Rattle.matchings.specs.Counts.{count, without, count-injected, count-without, count-all, without-other}

@@ -2,8 +2,8 @@
 -- back: so a program need not go position by position. Assumes nothing.
 use mathlib.Core.Path.{_≡_, refl, sym, ap, ap₂, _∙_, subst}
 use mathlib.Core.Logic.{_⊎_, inl, inr}
-use mathlib.Core.Bool.{Bool, true, false, cond}
-use Prim.Native.Nat.{ℕ, zero, suc, _+_, _*_, _/_, _%_, _≤_, _<_}
+use mathlib.Core.Bool.{cond}
+use Prim.Native.Nat.{ℕ, zero, suc, _+_, _*_, _/_, _%_, _<_}
 use native.Mathlib.Nat.{mod-lt, div-add-mod', not-suc-le-zero}
 use native.Mathlib.Decide.{ℕ-discrete}
 use native.Mathlib.Omega.{arith}
@@ -12,9 +12,9 @@ use lib.ListN.{length, getD}
 use lib.Seq.{ext-getD}
 use lib.Ieee.{Float, nan}
 use Rattle.lists.specs.Tests.{refuted}
-use Rattle.lists.specs.Tab.{tab, length-tab, getD-tab, times}
-use Rattle.lists.specs.Elements.{All, Below, pick, pick-pick, length-pick, all-pick, straight, pick-straight}
-use Rattle.lists.specs.Digits.{horner, room, rest, digits, digits-horner, horner-digits, length-digits, digits-below, rest-below, quotient, remainder}
+use Rattle.lists.specs.Tab.{tab, getD-tab, times}
+use Rattle.lists.specs.Elements.{Below, pick, pick-pick, length-pick, all-pick, straight, pick-straight}
+use Rattle.lists.specs.Digits.{horner, rest, digits, digits-horner, horner-digits, length-digits, digits-below, rest-below, quotient, remainder}
 use Rattle.lists.specs.Members.{In}
 use Rattle.places.specs.Permutations.{Permutation}
 use Rattle.blocks.specs.Block.{putBlock, length-putBlock, put-inside, put-outside}

@@ -1,13 +1,13 @@
 -- The counterpart of a block that is given by its atoms: the stored block of the atoms permuted. This is how a program finds it from the
 -- tables. Assumes nothing.
 use mathlib.Core.Path.{_≡_, refl, sym, ap, ap₂, _∙_}
-use Prim.Native.Nat.{ℕ, zero, suc, _+_, _*_, _<_}
-use mathlib.Core.List.{List, [], _∷_, map}
-use lib.ListN.{length, getD}
+use Prim.Native.Nat.{ℕ, _<_}
+use mathlib.Core.List.{List, _∷_}
+use lib.ListN.{length}
 use Rattle.lists.specs.Tab.{getD-tab}
-use Rattle.lists.specs.Elements.{All, Below, pick, straight, map-id}
-use Rattle.lists.specs.Digits.{horner, room, rest, digits, rest-horner, digits-horner}
-use Rattle.tables.specs.Shifts.{Shifts, Laws, row, p2sAt, s2ppAt, nsymAt, nsym-p2s}
+use Rattle.lists.specs.Elements.{Below, pick, straight, map-id}
+use Rattle.lists.specs.Digits.{horner, rest-horner, digits-horner}
+use Rattle.tables.specs.Shifts.{Shifts, Laws, row, p2sAt, nsymAt, nsym-p2s}
 use Rattle.places.specs.Whole.{whole, whole-laws}
 use Rattle.places.specs.Addresses.{storedBlock}
 use Rattle.orbits.specs.Blockwise.{blockAtoms, storedAtoms, openedAtoms, atomsAt}

@@ -1,12 +1,11 @@
 -- A place block by block: its block depends on the atoms only, its position in the block on the directions only. Assumes nothing.
-use mathlib.Core.Path.{_≡_, refl, sym, ap, ap₂, _∙_}
-use Prim.Native.Nat.{ℕ, zero, suc, _+_, _*_, _/_, _%_, _≤_, _<_}
+use mathlib.Core.Path.{_≡_, refl, sym, ap, _∙_}
+use Prim.Native.Nat.{ℕ, suc, _/_, _<_}
 use mathlib.Core.List.{List, [], _∷_, map}
 use lib.ListN.{length, length-map}
-use Rattle.lists.specs.Elements.{Below, pick, pick-map}
 use Rattle.lists.specs.Digits.{horner, room, rest, digits, rest-div, rest-horner, rest-below, length-digits}
 use Rattle.tables.specs.Shifts.{Shifts, row, p2sAt, s2ppAt, nsymAt}
-use Rattle.places.specs.Places.{Leg, atom, dir, Place, shift, stored, opened, address, place, legsOf, size, size-rooms, dirs-below, atoms-legsOf, dirs-legsOf}
+use Rattle.places.specs.Places.{Leg, atom, dir, Place, shift, stored, opened, address, place, size, size-rooms, dirs-below, atoms-legsOf, dirs-legsOf}
 unfoldable pub use Rattle.places.specs.Places.{inBlock}
 
 -- ---- the block of an address: it depends on the atoms only

@@ -2,18 +2,18 @@
 -- Transposes exchange the two (`join` takes the other number), averages take their mean. Blocks that stay are passed over.
 -- The loop visits the blocks from first to last and works at the lower block of each pair; what it leaves is said place by place from the old set only.
 -- Assumes nothing.
-use mathlib.Core.Path.{_≡_, refl, sym, ap, ap₂, _∙_, subst}
+use mathlib.Core.Path.{_≡_, refl, sym, ap, ap₂, _∙_}
 use mathlib.Core.Logic.{_⊎_, inl, inr}
-use mathlib.Core.Bool.{Bool, true, false, not, _&&_, _||_, cond}
+use mathlib.Core.Bool.{Bool, true, false, not, _||_, cond}
 use Prim.Native.Nat.{ℕ, zero, suc, _+_, _*_, _/_, _%_, _≤_, _<_, min}
-use native.Mathlib.Nat.{div-lt-iff-lt-mul, mod-lt, mul-add-div-right, div-eq-of-lt, add-zero, mul-add-mod-self-right, mod-eq-of-lt, div-add-mod'}
+use native.Mathlib.Nat.{div-lt-iff-lt-mul, mod-lt, mul-add-div-right, div-eq-of-lt, add-zero}
 use native.Mathlib.Decide.{ℕ-discrete, decLt}
 use native.Mathlib.Omega.{arith}
 use mathlib.Core.List.{List}
 use lib.ListN.{length, getD}
 use lib.Seq.{ext-getD}
 use lib.Dec.{eqb, ltb}
-use borrow.Author.Tests.{eqb-true, eq-eqb, ne-eqb, lt-ltb, le-ltb}
+use borrow.Author.Tests.{eq-eqb, ne-eqb, lt-ltb, le-ltb}
 use Rattle.lists.specs.Cases.{later}
 use Rattle.lists.specs.Digits.{in-row}
 use Rattle.lists.specs.Tab.{tab, length-tab, getD-tab, times}

@@ -1,12 +1,12 @@
 -- The symmetrizers' loop over blocks, as a program runs it, leaves the symmetrized set: with a done table, or with a test that tells the first
 -- blocks of the groups. Assumes nothing.
-use mathlib.Core.Path.{_≡_, refl, sym, ap, ap₂, _∙_}
+use mathlib.Core.Path.{_≡_, refl, sym, ap, _∙_}
 use mathlib.Core.Bool.{Bool, true, false, cond}
-use Prim.Native.Nat.{ℕ, zero, suc, _+_, _*_, _/_, _%_, _≤_, _<_}
+use Prim.Native.Nat.{ℕ, zero, suc, _*_, _≤_, _<_}
 use native.Mathlib.Nat.{le-antisymm}
 use native.Mathlib.Decide.{ℕ-discrete}
 use native.Mathlib.Omega.{arith}
-use mathlib.Core.List.{List, [], _∷_, map}
+use mathlib.Core.List.{List}
 use lib.ListN.{length, getD}
 use lib.Dec.{eqb}
 use lib.Ieee.{Float, nan}
@@ -21,7 +21,7 @@ use Rattle.places.specs.Permutations.{Group}
 use Rattle.orbits.specs.Blockwise.{inBlock}
 use Rattle.orbits.specs.Symmetric.{firstBlock, symmetrized}
 use Rattle.orbits.specs.Symmetrizer.{imgs, groups, orbits, symmetrizes}
-use Rattle.orbits.specs.Spread.{setAll, spread, blocksOf, fbOf, Written, Marked, written-start, written-skip, written-take, first-le, marked-start, marked-skip, marked-take, met, not-met}
+use Rattle.orbits.specs.Spread.{setAll, spread, fbOf, Written, Marked, written-start, written-skip, written-take, first-le, marked-start, marked-skip, marked-take, met, not-met}
 use Rattle.orbits.specs.Groups.{groupBlocks, meanBlock, spreadBlock, spread-is, marked-are}
 
 -- a set and its done table

@@ -5,19 +5,19 @@ use mathlib.Core.Bool.{false}
 use Prim.Native.Nat.{ℕ, zero, suc, _+_, _*_, _/_, _%_, _≤_, _<_}
 use native.Mathlib.Omega.{arith}
 use mathlib.Core.List.{List, [], _∷_, map}
-use lib.ListN.{length, getD}
+use lib.ListN.{getD}
 use lib.Ieee.{Float, nan}
 use Rattle.lists.specs.Tab.{tab, getD-tab, times}
 use Rattle.lists.specs.Elements.{All, map-same}
 use Rattle.lists.specs.Digits.{room, quotient, remainder, in-row}
-use Rattle.lists.specs.Members.{In, in-all}
+use Rattle.lists.specs.Members.{in-all}
 use Rattle.tables.specs.Shifts.{Shifts, Laws}
-use Rattle.places.specs.Places.{Leg, stored, opened, address, place, size}
+use Rattle.places.specs.Places.{stored, opened, address, place, size}
 use Rattle.places.specs.Permutations.{taken, Permutation, Group}
 use Rattle.places.specs.Moves.{source}
 use Rattle.orbits.specs.Blockwise.{inBlock}
 use Rattle.orbits.specs.Counterparts.{across}
-use Rattle.orbits.specs.Transposed.{counterpart, blocksBy, across-is, permuted-is-below, in-block-pos, size-blocks}
+use Rattle.orbits.specs.Transposed.{counterpart, across-is, permuted-is-below, in-block-pos, size-blocks}
 use Rattle.blocks.specs.Permuted.{permuted}
 use Rattle.orbits.specs.Symmetric.{images}
 use Rattle.orbits.specs.Symmetrizer.{imgs, groups}

@@ -1,14 +1,14 @@
 -- The mean of document 01, said by the read-out alone: `IsMean`, and the theorem `symmetrized-is-mean`. "A group is worked out from its first
 -- member in loop order. Where .. several direction triples (quadruples) write the same places, the last in loop order holds." Assumes nothing.
-use mathlib.Core.Path.{_≡_, refl, sym, ap, ap₂, _∙_}
-use Prim.Native.Nat.{ℕ, zero, suc, _/_, _≤_, _<_}
+use mathlib.Core.Path.{_≡_, refl, sym, ap, _∙_}
+use Prim.Native.Nat.{ℕ, suc, _/_, _≤_}
 use mathlib.Core.List.{List, [], _∷_, map}
-use lib.ListN.{length, getD}
+use lib.ListN.{getD}
 use Rattle.lists.specs.Members.{In, in-map, map-in}
 use Rattle.lists.specs.Elements.{straight}
 use Rattle.tables.specs.Shifts.{Shifts, Laws}
 use Rattle.places.specs.Places.{Leg, Legs, stored, opened, address, place, at, readOut, readOut-fill, place-address, stored-place}
-use Rattle.places.specs.Permutations.{taken, Permutation, taken-legs, Group}
+use Rattle.places.specs.Permutations.{taken, taken-legs, Group}
 use Rattle.orbits.specs.Blockwise.{inBlock}
 use Rattle.orbits.specs.Symmetric.{images, leader, leader-in, leader-first, leader-last, meanAt, symmetrized, images-stored}
 

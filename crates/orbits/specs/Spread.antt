@@ -1,23 +1,23 @@
 -- The symmetrizer's loop, as the program runs it: over blocks from first to last, with a table of blocks that are done; a group is worked out at its first block
 -- and written to all its places, direction by direction. The invariant says in closed form what the set and the table hold after n blocks.
 -- It is all about addresses: `imgs q` are the addresses of the legs at q in every permutation. Assumes nothing.
-use mathlib.Core.Path.{_≡_, refl, sym, ap, ap₂, _∙_, subst}
+use mathlib.Core.Path.{_≡_, refl, sym, ap, _∙_}
 use mathlib.Core.Logic.{_⊎_, inl, inr}
-use mathlib.Core.Bool.{Bool, true, false, not, _&&_, _||_, cond}
+use mathlib.Core.Bool.{Bool, true, false, _||_, cond}
 use Prim.Native.Nat.{ℕ, zero, suc, _+_, _-_, _*_, _/_, _%_, _≤_, _<_}
 use native.Mathlib.Nat.{div-add-mod', mod-lt, mul-div-cancel, mul-add-div-right, div-eq-of-lt, add-zero, div-lt-iff-lt-mul, mul-le-mul-right, not-suc-le-zero}
-use native.Mathlib.Decide.{ℕ-discrete, decLt}
+use native.Mathlib.Decide.{ℕ-discrete}
 use native.Mathlib.Omega.{arith}
 use mathlib.Core.List.{List, [], _∷_, map}
 use lib.ListN.{length, getD, set, length-set}
-use lib.Seq.{getD-set-same, getD-set-other, ext-getD}
+use lib.Seq.{getD-set-same, getD-set-other}
 use lib.Dec.{eqb, ltb}
-use borrow.Author.Tests.{eqb-true, eq-eqb, ne-eqb, eqb-false, ltb-true, ltb-false, lt-ltb, le-ltb}
-use Rattle.lists.specs.Tests.{and-fst, and-snd, both, split, not-both, refuted, same-test}
+use borrow.Author.Tests.{eqb-true, eq-eqb, ne-eqb, ltb-true, ltb-false, lt-ltb, le-ltb}
+use Rattle.lists.specs.Tests.{split, not-both, refuted}
 use Rattle.lists.specs.Cases.{later}
-use Rattle.lists.specs.Elements.{All, map-same}
-use Rattle.lists.specs.Members.{In, Sub, all-in, in-all, in-map, map-in, map-sub, least, greatest, least-le, least-in, least-same, oneOf, one-of, one-of-in}
-use Rattle.orbits.specs.Symmetric.{firstBlock, leader, leader-in, leader-block, leader-last, leader-same}
+use Rattle.lists.specs.Elements.{map-same}
+use Rattle.lists.specs.Members.{In, Sub, in-all, in-map, map-in, map-sub, least-le, least-same, oneOf, one-of, one-of-in}
+use Rattle.orbits.specs.Symmetric.{firstBlock, leader, leader-in, leader-block, leader-last}
 
 -- a byte of the done table
 abbrev pub flag : Bool → ℕ

@@ -1,23 +1,17 @@
 -- The symmetrizers, for every rank at once: what each place holds afterwards, and that all permutations of any legs then read out the same.
 -- `os` lists the permutations of the legs, in the order of the sum's terms; `mean` makes one number of those reads. Assumes nothing.
-use mathlib.Core.Path.{_≡_, refl, sym, ap, ap₂, _∙_, subst}
-use mathlib.Core.Logic.{_⊎_, inl, inr}
-use mathlib.Core.Bool.{Bool, true, false, not, _&&_, _||_, cond}
-use Prim.Native.Nat.{ℕ, zero, suc, _+_, _*_, _/_, _%_, _≤_, _<_}
-use native.Mathlib.Omega.{arith}
+use mathlib.Core.Path.{_≡_, sym, ap, _∙_}
+use Prim.Native.Nat.{ℕ, _/_, _≤_}
 use mathlib.Core.List.{List, [], _∷_, map}
-use lib.ListN.{length, getD}
-use lib.Dec.{eqb, ltb}
+use lib.ListN.{getD}
+use lib.Dec.{eqb}
 use lib.Ieee.{Float, nan, binary64, div, ofBits}
 use borrow.Author.Tests.{eqb-true, eq-eqb}
-use Rattle.lists.specs.Tests.{and-fst, and-snd, both, split, not-both, says}
 use Rattle.tables.specs.Shifts.{Shifts, Laws}
-use Rattle.lists.specs.Tab.{tab}
 use Rattle.lists.specs.Floats.{sumFrom}
-use Rattle.lists.specs.Elements.{All, Below, pick, pick-pick, straight, pick-straight, map-same}
-use Rattle.lists.specs.Digits.{room}
-use Rattle.lists.specs.Members.{In, Sub, all-in, in-all, keep, in-keep, keep-in, in-map, map-in, map-sub, least, greatest, least-le, least-in, greatest-le, greatest-in, least-same, greatest-same, allOf, oneOf, alike, alike-true, all-of, one-of, members-say}
-use Rattle.places.specs.Places.{Leg, Legs, Place, stored, opened, address, place, readOut, fill, size, inBlock, taken, readOut-fill, stored-place}
+use Rattle.lists.specs.Elements.{pick, pick-pick, map-same}
+use Rattle.lists.specs.Members.{In, Sub, in-all, keep, in-keep, keep-in, in-map, map-in, map-sub, least, greatest, least-le, least-in, greatest-le, greatest-in, least-same, greatest-same}
+use Rattle.places.specs.Places.{Leg, Legs, stored, opened, address, place, readOut, fill, inBlock, taken, readOut-fill}
 use Rattle.places.specs.Permutations.{Permutation, taken-legs, Group}
 use Rattle.places.specs.Moves.{source, source-stored}
 

@@ -1,21 +1,17 @@
 -- The symmetrizer's loop leaves the symmetrized set: `Spread`'s invariant at the addresses of a compact set. Assumes nothing.
-use mathlib.Core.Path.{_≡_, refl, sym, ap, ap₂, _∙_, subst}
-use mathlib.Core.Bool.{Bool, true, false}
-use Prim.Native.Nat.{ℕ, zero, suc, _+_, _*_, _/_, _%_, _≤_, _<_}
-use native.Mathlib.Nat.{suc-ne-zero, suc-inj}
-use native.Mathlib.Omega.{arith}
+use mathlib.Core.Path.{_≡_, sym, ap, _∙_}
+use Prim.Native.Nat.{ℕ, suc, _/_, _<_}
 use lib.Dec.{lit<}
-use mathlib.Core.List.{List, [], _∷_, map}
-use lib.ListN.{length, getD, length-map}
+use mathlib.Core.List.{List, map}
 use lib.Seq.{ext-getD}
-use Rattle.tables.specs.Shifts.{Shifts, Laws, row, p2sAt, s2ppAt, nsymAt}
-use Rattle.lists.specs.Tab.{tab, length-tab, getD-tab}
-use Rattle.lists.specs.Elements.{All, Below, pick, pick-map, straight, pick-straight}
-use Rattle.lists.specs.Digits.{horner, room, rest, digits, room-mul, rest-div, room-is-pos, rest-horner, rest-below, length-digits}
-use Rattle.lists.specs.Members.{In, Sub, in-map, map-in}
-use Rattle.places.specs.Places.{Leg, atom, dir, Fit, Legs, Place, shift, stored, opened, address, place, legsOf, at, fill, size, size-rooms, stored-place, stored-opened, opened-legs, place-place, address-place, place-address, address-below, length-fill, dirs-below, atoms-legsOf}
-use Rattle.places.specs.Permutations.{taken, Permutation, taken-legs, Group}
-use Rattle.orbits.specs.Blockwise.{inBlock, blockAtoms, storedAtoms, openedAtoms, atoms-stored, atoms-opened, address-block, atoms-place, block-below}
+use Rattle.tables.specs.Shifts.{Shifts, Laws}
+use Rattle.lists.specs.Tab.{length-tab, getD-tab}
+use Rattle.lists.specs.Elements.{pick, pick-map, straight, pick-straight}
+use Rattle.lists.specs.Digits.{room, room-mul, room-is-pos}
+use Rattle.lists.specs.Members.{In, in-map, map-in}
+use Rattle.places.specs.Places.{atom, Legs, Place, stored, opened, address, place, at, fill, size, size-rooms, stored-place, stored-opened, opened-legs, place-place, address-place, place-address, address-below}
+use Rattle.places.specs.Permutations.{taken, taken-legs, Group}
+use Rattle.orbits.specs.Blockwise.{inBlock, blockAtoms, storedAtoms, openedAtoms, atoms-stored, atoms-opened, address-block, atoms-place}
 use Rattle.orbits.specs.Symmetric.{images, leader, meanAt, symmetrized, images-sub, images-sup, images-stored}
 use Rattle.orbits.specs.Spread.{Groups, Orbits, Written, finish, meanOf}
 

@@ -1,8 +1,8 @@
 -- The transposes are blocks worked over with their counterparts: `moved` for every block, `traded` for all but those that stay.
 -- Assumes nothing.
-use mathlib.Core.Path.{_≡_, refl, sym, ap, ap₂, _∙_, subst}
-use mathlib.Core.Bool.{Bool, true, false, not, _&&_, cond}
-use Prim.Native.Nat.{ℕ, zero, suc, _+_, _*_, _/_, _≤_, _<_}
+use mathlib.Core.Path.{_≡_, refl, sym, ap, ap₂, _∙_}
+use mathlib.Core.Bool.{Bool, true, false, not, cond}
+use Prim.Native.Nat.{ℕ, suc, _<_}
 use native.Mathlib.Nat.{suc-ne-zero}
 use native.Mathlib.Omega.{arith}
 use lib.Dec.{eqb}
@@ -10,17 +10,16 @@ use mathlib.Core.List.{List, [], _∷_, map}
 use lib.ListN.{length, getD, length-map}
 use borrow.Author.Tests.{eqb-true, eq-eqb, not-true}
 use Rattle.lists.specs.Tests.{same-test, refuted, both, not-both, every, every-at, says}
-use Rattle.lists.specs.Tab.{tab, tab-ext, times}
-use Rattle.lists.specs.Elements.{All, all-at, all-map, Below, pick, getD-map, length-pick, all-pick}
+use Rattle.lists.specs.Tab.{tab-ext, times}
+use Rattle.lists.specs.Elements.{all-at, all-map, Below, pick, getD-map, length-pick, all-pick}
 use Rattle.lists.specs.Digits.{horner, room, rest, digits, rest-horner, digits-horner, rest-below, digits-below, length-digits}
 use Rattle.tables.specs.Shifts.{Shifts, Laws, row, p2sAt, s2ppAt, nsymAt, isNull, nsym-p2s}
 use Rattle.places.specs.Places.{Leg, atom, Place, at, fill, size, place, place-place, atoms-below}
 use Rattle.places.specs.Permutations.{taken, Permutation}
 use Rattle.places.specs.Moves.{source, moved, stays, traded}
-use Rattle.orbits.specs.Blockwise.{inBlock, blockAtoms, storedAtoms, openedAtoms, atomsAt}
-use Rattle.orbits.specs.Counterparts.{Blocks, Paired, visit, allWorked, loop-leaves}
+use Rattle.orbits.specs.Blockwise.{blockAtoms, storedAtoms, openedAtoms, atomsAt}
+use Rattle.orbits.specs.Counterparts.{visit, loop-leaves}
 use Rattle.orbits.specs.Transposed.{counterpart, blocksBy, size-blocks, counterpart-below, counterpart-undo, paired, worked-is}
-use Rattle.blocks.specs.Permuted.{permuted}
 
 -- the number of the counterpart takes the place of one's own
 abbrev pub theOther : {A : Type 0} → A → A → A

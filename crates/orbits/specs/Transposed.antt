@@ -1,21 +1,19 @@
 -- Transposes block by block: where two legs trade, each block has a counterpart, and the places of the one stand permuted in the other.
 -- For any permutation of the legs that undoes itself, at every rank. Assumes nothing.
 use mathlib.Core.Path.{_≡_, refl, sym, ap, ap₂, _∙_, subst}
-use mathlib.Core.Bool.{Bool, true, false, not, _&&_, _||_, cond}
-use Prim.Native.Nat.{ℕ, zero, suc, _+_, _*_, _/_, _%_, _≤_, _<_}
+use mathlib.Core.Bool.{Bool, false, cond}
+use Prim.Native.Nat.{ℕ, suc, _+_, _*_, _/_, _%_, _<_}
 use native.Mathlib.Nat.{mod-lt, mul-div-cancel, mul-lt-mul-of-pos-right}
-use native.Mathlib.Omega.{arith}
 use lib.Dec.{lit<}
-use mathlib.Core.List.{List, [], _∷_, map}
-use lib.ListN.{length, getD, length-map}
-use lib.Seq.{ext-getD}
-use Rattle.lists.specs.Tab.{tab, length-tab, getD-tab, tab-ext}
+use mathlib.Core.List.{List, map}
+use lib.ListN.{length, getD}
+use Rattle.lists.specs.Tab.{tab, tab-ext}
 use Rattle.lists.specs.Elements.{Below, pick, pick-map, length-pick, all-pick}
-use Rattle.lists.specs.Digits.{quotient, horner, room, rest, digits, room-mul, room-is-pos, length-digits, digits-below, digits-mod, horner-split, horner-zero}
+use Rattle.lists.specs.Digits.{quotient, horner, room, digits, room-mul, room-is-pos, length-digits, digits-below, digits-mod, horner-split, horner-zero}
 use Rattle.tables.specs.Shifts.{Shifts, Laws}
 use Rattle.places.specs.Places.{Leg, atom, dir, Legs, Place, stored, opened, address, place, at, fill, size, size-rooms, stored-place, stored-opened, opened-legs, place-place, address-place, place-address, address-below}
 use Rattle.places.specs.Permutations.{taken, Permutation, taken-legs}
-use Rattle.places.specs.Moves.{source, source-stored, moved, stays, traded}
+use Rattle.places.specs.Moves.{source, source-stored, stays}
 use Rattle.blocks.specs.Permuted.{permuted}
 use Rattle.orbits.specs.Blockwise.{inBlock, blockAtoms, storedAtoms, openedAtoms, atomsAt, atoms-stored, atoms-opened, atoms-of, dirs-stored, dirs-opened, dirs-of, address-is, address-block, block-below}
 use Rattle.orbits.specs.Counterparts.{Blocks, Paired, across, joined, allWorked}

@@ -1,6 +1,6 @@
 -- The address rule and the read-out spelled out at second, third and fourth order, and the numbers of blocks. Assumes nothing.
 use mathlib.Core.Path.{_≡_, refl, sym, ap, _∙_}
-use Prim.Native.Nat.{ℕ, zero, suc, _+_, _*_, _^_, _≤_, _<_}
+use Prim.Native.Nat.{ℕ, suc, _+_, _*_, _≤_, _<_}
 use native.Mathlib.Nat.{mul-le-mul-left, mul-le-mul-right}
 use native.Mathlib.Omega.{arith}
 use mathlib.Core.List.{List, [], _∷_, map}
@@ -11,7 +11,7 @@ use Rattle.lists.specs.Digits.{horner, room, horner-below, room-mul}
 use Rattle.blocks.specs.Block.{block, getD-block, fits}
 use Rattle.tables.specs.Lengths.{set-length2, set-length3, set-length4}
 use Rattle.tables.specs.Shifts.{Shifts, row, s2ppAt, nsymAt}
-use Rattle.places.specs.Places.{Leg, shift, stored, address, size, size-rooms, at, readOut}
+use Rattle.places.specs.Places.{shift, stored, address, size, size-rooms, at, readOut}
 
 -- ---- how many numbers a set has: n_patom × n_satom^m blocks of 9, 27 or 81
 

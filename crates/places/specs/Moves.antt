@@ -9,7 +9,7 @@ use lib.ListN.{length, getD}
 use lib.Dec.{eqb}
 use borrow.Author.Tests.{not-true}
 use Rattle.lists.specs.Tests.{not-both, refuted, says}
-use Rattle.lists.specs.Elements.{All, all-at, pick-map, straight, pick-straight}
+use Rattle.lists.specs.Elements.{all-at, pick-map, straight, pick-straight}
 use Rattle.tables.specs.Shifts.{Shifts, Laws, NoHalfShift, row, p2sAt, nsymAt, isNull, swaps-null}
 use Rattle.places.specs.Places.{Leg, atom, dir, Fit, Legs, Place, shift, stored, opened, at, readOut, fill, size, length-fill, stored-shift, opened-stored, stored-place, readOut-fill}
 use Rattle.places.specs.Permutations.{taken-legs}

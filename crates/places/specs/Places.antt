@@ -3,7 +3,7 @@
 -- has an atom of the primitive cell and the others have atoms of the supercell. Second, third and fourth order are m = 1, 2, 3.
 -- The definitions come first, their laws below; Addresses.antt spells both out at second, third and fourth order. Assumes nothing.
 use mathlib.Core.Path.{_≡_, refl, sym, ap, ap₂, _∙_, subst}
-use Prim.Native.Nat.{ℕ, zero, suc, _<_}
+use Prim.Native.Nat.{ℕ, suc, _<_}
 use native.Mathlib.Nat.{suc-inj, suc-ne-zero}
 use mathlib.Core.List.{List, [], _∷_, map}
 use lib.ListN.{length, getD, replicate, length-map}

@@ -2,14 +2,13 @@
 use mathlib.Core.Path.{_≡_, refl, sym, ap, ap₂, _∙_}
 use Prim.Native.Nat.{ℕ, _+_, _*_, _≤_, _<_}
 use native.Mathlib.Nat.{le-trans}
-use native.Mathlib.Omega.{arith}
 use mathlib.Core.List.{List, [], _∷_, map}
 use lib.IntN.{ℤ}
 use lib.ListN.{length, length-map}
 use Rattle.lists.specs.Digits.{horner, room, in-row, horner-below}
-use Rattle.lists.specs.Elements.{All, Below, all-map, map-same}
+use Rattle.lists.specs.Elements.{Below, all-map}
 use Rattle.tables.specs.Conditions.{indexAt, Readable, IndexTable, read}
-use Rattle.tables.specs.Shifts.{Shifts, row, s2ppAt, nsymAt}
+use Rattle.tables.specs.Shifts.{row, s2ppAt, nsymAt}
 use Rattle.tables.specs.Compact.{ShiftTables, shiftTables, shiftsOf, Fit, perms-is, s2pp-is, nsym-is}
 use Rattle.places.specs.Addresses.{storedBlock}
 

@@ -1,15 +1,14 @@
 -- Values of the definitions: document 01's sheets 6 and 7. Assumes nothing.
 use mathlib.Core.Path.{_≡_, refl}
 use mathlib.Core.Bool.{true, false}
-use Prim.Native.Nat.{ℕ, _*_}
-use mathlib.Core.List.{List, [], _∷_, map}
-use Rattle.lists.specs.Tab.{tab}
+use Prim.Native.Nat.{ℕ}
+use mathlib.Core.List.{[], _∷_, map}
 use Rattle.lists.specs.Tests.{every}
 use Rattle.lists.specs.Elements.{pick}
 use Rattle.lists.specs.Digits.{horner, rest, digits}
 use Rattle.tables.specs.Shifts.{Shifts, row, p2sAt, s2ppAt, nsymAt, isNull}
 use Rattle.tables.specs.Lengths.{setLength}
-use Rattle.places.specs.Places.{Leg, shift, stored, opened, address, size, legsOf, place, fill}
+use Rattle.places.specs.Places.{shift, stored, opened, address, size, legsOf, place}
 use Rattle.places.specs.Addresses.{storedBlock}
 use Rattle.places.specs.Moves.{source, stays, order}
 

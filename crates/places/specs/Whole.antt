@@ -5,13 +5,13 @@ use Prim.Native.Nat.{ℕ, zero, suc, _+_, _*_, _<_}
 use native.Mathlib.Nat.{zero-mul, zero-add, mul-one}
 use native.Mathlib.Omega.{arith}
 use lib.Dec.{lit<}
-use mathlib.Core.List.{List, [], _∷_, map}
-use lib.ListN.{length, getD, replicate, getD-replicate}
+use mathlib.Core.List.{List, [], _∷_}
+use lib.ListN.{getD, getD-replicate}
 use Rattle.tables.specs.Lengths.{setLength}
-use Rattle.tables.specs.Shifts.{Shifts, Laws, NoHalfShift, row, p2sAt, s2ppAt, nsymAt}
-use Rattle.lists.specs.Tab.{tab, getD-tab}
+use Rattle.tables.specs.Shifts.{Laws, NoHalfShift, row, p2sAt, s2ppAt, nsymAt}
+use Rattle.lists.specs.Tab.{getD-tab}
 use Rattle.lists.specs.Elements.{All, straight, map-id}
-use Rattle.places.specs.Places.{Leg, atom, dir, Fit, Legs, stored, shift, at, readOut, size}
+use Rattle.places.specs.Places.{Leg, atom, dir, Fit, stored, shift, at, readOut, size}
 unfoldable pub use Rattle.places.specs.Places.{whole}
 
 straight-at : (n a : ℕ) → a < n → getD (straight n) a 0 ≡ a

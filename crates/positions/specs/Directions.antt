@@ -1,15 +1,14 @@
 -- What the table says, in document 02's words (A.5): the entry of a permutation and a position is the address of that position's four
 -- directions taken in that permutation. It lies in the block, and no two positions have the same. Assumes nothing.
-use mathlib.Core.Path.{_≡_, refl, sym, ap, ap₂, _∙_}
-use Prim.Native.Nat.{ℕ, zero, suc, _+_, _*_, _<_}
+use mathlib.Core.Path.{_≡_, refl, sym, ap, _∙_}
+use Prim.Native.Nat.{ℕ, _+_, _*_, _<_}
 use native.Mathlib.Nat.{suc-inj, suc-ne-zero}
 use native.Mathlib.Omega.{arith}
 use mathlib.Core.List.{List, [], _∷_}
 use lib.ListN.{length, getD}
-use Rattle.lists.specs.Elements.{Below, pick}
+use Rattle.lists.specs.Elements.{pick}
 use Rattle.lists.specs.Digits.{horner, digits, digits-horner}
 use Rattle.blocks.specs.Permuted.{permuted}
-use Rattle.places.specs.Permutations.{Permutation}
 use Rattle.positions.specs.Positions.{permutationAt, addressTable, is-permutation, permuted-in, at-entry}
 use Rattle.positions.specs.Inverses.{inverseOf, inverse-below, there, back}
 

@@ -1,14 +1,14 @@
 -- The table of direction addresses over the 24 permutations of four legs and the 81 positions of a block, and its rule. Assumes nothing.
 use mathlib.Core.Path.{_≡_, refl, ap, ap₂, _∙_}
-use Prim.Native.Nat.{ℕ, zero, suc, _+_, _*_, _/_, _%_, _≤_, _<_}
+use Prim.Native.Nat.{ℕ, _+_, _*_, _/_, _%_, _<_}
 use native.Mathlib.Omega.{arith}
-use mathlib.Core.List.{List, [], _∷_}
+use mathlib.Core.List.{List, []}
 use lib.ListN.{length, getD}
 use Rattle.lists.specs.Tab.{tab, getD-tab}
 use Rattle.lists.specs.Elements.{all-at}
 use Rattle.lists.specs.Digits.{room, quotient, remainder}
 use Rattle.lists.specs.Members.{in-all}
-use Rattle.places.specs.Permutations.{Permutation, Group, twentyFour, twentyFour-group}
+use Rattle.places.specs.Permutations.{Permutation, twentyFour, twentyFour-group}
 use Rattle.orbits.specs.Blockwise.{inBlock}
 use Rattle.orbits.specs.Transposed.{permuted-is-below}
 use Rattle.blocks.specs.Permuted.{permuted}

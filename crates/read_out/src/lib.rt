@@ -8,7 +8,7 @@ use tables::Answer;
 use tables::Refusal;
 
 // How many numbers the full set of n atoms has, at rank m + 1.
-fn full_length(m: usize, n: usize) -> usize
+pub fn full_length(m: usize, n: usize) -> usize
     requires { ⌜ (1 ≤ m) × (m ≤ 3) × (n ≤ 1024) ⌝ }
     ensures { λ r. ⌜ r ≡ setLength n n m ⌝ }
 {

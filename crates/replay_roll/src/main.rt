@@ -2,8 +2,6 @@
 // document 02; oracle/README.md says what the words of a record are. It writes how many calls were compared, how many differ in the
 // answer, in a byte of the lent slice or in a slot, how many there are of each answer, and a checksum of the inputs and of all that
 // was worked out from them.
-ghost use mathlib.Core.Path.{_≡_};
-ghost use Prim.Native.Nat.{_≤_};
 use capi_roll::gf_append_roll;
 use capi_roll::gf_is_roll;
 use capi_roll::gf_is_roll_former;

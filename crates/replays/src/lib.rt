@@ -1,7 +1,6 @@
 // What the replay programs count and write: a tally of the records that were compared, and the lines of the report.
 ghost use mathlib.Core.Path.{_≡_};
-ghost use Rattle.lists.specs.Tab.{times};
-ghost use Rattle.replays.specs.Tally.{noRecord, countedAt, tally, differing, differences, mixedNumber, mixedNumbers, compare};
+ghost use Rattle.replays.specs.Tally.{noRecord, countedAt, tally, differences, mixedNumbers, compare};
 use records::steps::plus;
 use records::steps::some;
 

@@ -1,19 +1,17 @@
 -- Retirements appended one after the other: they are read after the former records, and the bytes after them stay. Assumes nothing.
 use mathlib.Core.Path.{_≡_, refl, sym, ap, _∙_, subst}
-use mathlib.Core.Bool.{true, _&&_, cond}
+use mathlib.Core.Bool.{true}
 use mathlib.Core.List.{List, [], _∷_, _++_, map, append-assoc, append-nil}
 use Prim.Native.Nat.{ℕ, suc, _+_, _*_, _≤_, _<_}
 use native.Mathlib.Omega.{arith}
-use lib.Dec.{eqb, leb}
-use lib.ListN.{length, getD, take, drop, length-append, length-drop}
+use lib.ListN.{length, take, drop, length-append, length-drop}
 use lib.Seq.{drop-drop}
-use borrow.Author.Tests.{le-leb, ne-eqb}
+use borrow.Author.Tests.{le-leb}
 use Rattle.lists.specs.Elements.{All}
 use Rattle.roll.specs.Format.{Entry, ruled, keepsRules}
 use Rattle.roll.specs.Reading.{countOf, entriesOf, holdsRoll}
 use Rattle.roll.specs.Numbers.{Bytes, bytes-none}
 use Rattle.roll.specs.Holding.{is-there}
-use Rattle.roll_append.specs.declared.Appended.{Appended}
 use Rattle.roll_append.specs.declared.Appended.the-variants.{Count}
 use Rattle.roll_append.specs.Calls.{judgedAppend, appended}
 use Rattle.roll_append.specs.Appending.{entries-count, answer-done}

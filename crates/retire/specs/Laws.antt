@@ -5,30 +5,28 @@ use mathlib.Core.Path.{_≡_, refl, sym, ap, ap₂, _∙_, subst}
 use mathlib.Core.Bool.{Bool, true, false, not, _&&_, _||_, cond, true≢false}
 use mathlib.Core.Logic.{_⊎_, inl, inr, ⊎-elim, _↔_}
 use mathlib.Core.List.{List, [], _∷_, _++_, map}
-use Prim.Native.Nat.{ℕ, zero, suc, _+_, _*_, _≤_, _<_}
+use Prim.Native.Nat.{ℕ, _+_, _*_, _≤_, _<_}
 use native.Mathlib.Omega.{arith}
 use lib.Dec.{eqb, ltb}
-use lib.ListN.{length, getD, take, drop, length-append}
+use lib.ListN.{length, getD, take, length-append}
 use borrow.Author.Tests.{eq-eqb, ne-eqb, eqb-true, ltb-false, le-ltb}
 use Rattle.lists.specs.Cases.{eq-or-ne}
-use Rattle.lists.specs.Tests.{or-true, or-none, and-false, and-fst, and-snd, both, not-both, split}
-use Rattle.lists.specs.Elements.{All}
+use Rattle.lists.specs.Tests.{or-true, or-none, and-false, and-snd, both, split}
 use Rattle.lists.specs.Members.{In, in-all}
 use Rattle.roll.specs.Format.{Entry}
 use Rattle.roll.specs.Reading.{fourAt, start, entryAt, isRoll, entriesOf, countOf, rollBytes, holdsRoll}
 use Rattle.roll.specs.Numbers.{Bytes, four-small}
 use Rattle.roll.specs.Holding.{is-there, is-roll, within-limits, bytes-take, bytes-there}
-use Rattle.roll_append.specs.declared.Appended.{Appended}
-use Rattle.roll_append.specs.declared.Appended.the-variants.{Count, Refused}
+use Rattle.roll_append.specs.declared.Appended.the-variants.{Count}
 use Rattle.roll_append.specs.Calls.{passes}
-use Rattle.standing.specs.Register.{Register, blank, delivers, noted, notedAll, registerOf, allowed, allAllowed, lawful, rule, standsNow}
-use Rattle.standing.specs.Walk.{recordOf, after, entries-register, entries-many}
+use Rattle.standing.specs.Register.{Register, blank, noted, notedAll, registerOf, allowed, allAllowed, lawful, rule, standsNow}
+use Rattle.standing.specs.Walk.{recordOf, entries-register, entries-many}
 use Rattle.standing.specs.Chains.{Sound, endOf, carried, end-same, end-stays, linked-end, delivered-end, end-plus}
 use Rattle.standing.specs.Laws.{named, lawful-to, sound-roll, keeps-rules, only-these}
 use Rattle.standing.specs.declared.Standing.{Standing}
 use Rattle.standing.specs.declared.Standing.the-variants.{Unknown, Retired, Current}
 use Rattle.retire.specs.declared.Judged.{Judged}
-use Rattle.retire.specs.declared.Judged.the-variants.{Add, Not}
+use Rattle.retire.specs.declared.Judged.the-variants.{Add}
 use Rattle.retire.specs.Press.{retirement, lastOf, waits, placed, gathered, toRetire, addAll, judgedPress, press, pressed}
 use Rattle.retire.specs.Steps.{waitsAt, gatheredTo, to-retire-is, Pressable, add-says, roll-there}
 use Rattle.retire.specs.Members.{Rising, delivered-by, members, rises}

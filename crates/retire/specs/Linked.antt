@@ -1,6 +1,6 @@
 -- Linked by replacements, earlier or later: just those sets whose chains end in one set. Assumes nothing.
 use mathlib.Core.Path.{_≡_, refl, sym, ap, _∙_, subst}
-use mathlib.Core.Logic.{_⊎_, inl, inr, ⊎-elim, _↔_}
+use mathlib.Core.Logic.{_⊎_, ⊎-elim, _↔_}
 use Prim.Native.Nat.{ℕ, zero, suc}
 use Rattle.lists.specs.Cases.{eq-or-ne}
 use Rattle.standing.specs.Register.{Register}

@@ -1,22 +1,22 @@
 -- The sets that are to be retired with one: by rising number, and just those that are linked to it and have no retirement.
 -- Assumes nothing.
-use mathlib.Core.Path.{_≡_, refl, sym, ap, ap₂, _∙_, subst}
+use mathlib.Core.Path.{_≡_, refl, sym, ap, _∙_, subst}
 use mathlib.Core.Bool.{Bool, true, false, not, _&&_, _||_, cond}
 use mathlib.Core.Logic.{_⊎_, inl, inr, ⊎-elim, _↔_}
-use mathlib.Core.List.{List, [], _∷_, _++_}
-use Prim.Native.Nat.{ℕ, zero, suc, _+_, _≤_, _<_, min, max}
+use mathlib.Core.List.{List, [], _∷_}
+use Prim.Native.Nat.{ℕ, zero, suc, _≤_, _<_, min, max}
 use native.Mathlib.Omega.{arith}
 use lib.Dec.{eqb}
-use borrow.Author.Tests.{eq-eqb, ne-eqb, eqb-true, eqb-false, not-true}
+use borrow.Author.Tests.{eq-eqb, eqb-true, not-true}
 use Rattle.lists.specs.Cases.{lt-or-le, eq-or-ne}
-use Rattle.lists.specs.Tests.{and-fst, and-snd, both, not-both, split, or-true, every-at}
+use Rattle.lists.specs.Tests.{and-fst, and-snd, not-both, split, or-true, every-at}
 use Rattle.lists.specs.Elements.{All}
 use Rattle.lists.specs.Members.{In}
 use Rattle.roll.specs.Format.{Entry}
 use Rattle.standing.specs.Register.{Register, delivers, noted, blank, allowed}
 use Rattle.standing.specs.Walk.{after, lawfulTo}
 use Rattle.standing.specs.Chains.{endOf, carried, carried-is}
-use Rattle.retire.specs.Press.{placed, waits, gathered}
+use Rattle.retire.specs.Press.{placed}
 use Rattle.retire.specs.Steps.{waitsAt, gatheredTo}
 
 -- ---- numbers put into a rising list

@@ -1,11 +1,10 @@
 -- Retire a set everywhere (document 02, A.12): a retirement with an empty label for each set that is linked to the given one by
 -- replacements, earlier or later, and has none of its own, by rising set number. Assumes nothing.
-use mathlib.Core.Bool.{Bool, not, _&&_, _||_, cond}
+use mathlib.Core.Bool.{Bool, not, _&&_, cond}
 use mathlib.Core.List.{List, [], _∷_}
 use Prim.Native.Nat.{ℕ, _+_, _*_, min, max}
 use lib.Dec.{eqb}
 use lib.ListN.{length}
-use Rattle.tables.specs.declared.Refusal.{Refusal}
 use Rattle.tables.specs.declared.Refusal.the-variants.{NotARoll, NotLawful, UnknownSet, NoRoom}
 use Rattle.roll.specs.Format.{Entry, entry}
 use Rattle.roll.specs.Reading.{isRoll, entriesOf, rollBytes}

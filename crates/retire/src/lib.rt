@@ -3,7 +3,7 @@ ghost use mathlib.Core.Path.{_≡_};
 ghost use mathlib.Core.Bool.{true, cond};
 ghost use Prim.Native.Nat.{ℕ, _+_, _*_, _≤_, _<_, min, max};
 ghost use lib.ListN.{length, take};
-ghost use Rattle.roll.specs.Reading.{start, entryAt, entriesOf, countOf, isRoll, rollBytes};
+ghost use Rattle.roll.specs.Reading.{entryAt, entriesOf, countOf, isRoll, rollBytes};
 ghost use Rattle.standing.specs.Walk.{recordOf};
 ghost use Rattle.retire.specs.Press.{placed, toRetire, addAll, judgedPress, pressed};
 ghost use Rattle.retire.specs.Steps.{waitsAt, gatheredTo};

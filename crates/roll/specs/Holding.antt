@@ -1,23 +1,21 @@
 -- What is known of a roll that passed the check, and what the check's tests say. Assumes nothing.
 use mathlib.Core.Path.{_≡_, refl, sym, ap, ap₂, _∙_, subst}
-use mathlib.Core.Bool.{Bool, true, false, not, _&&_, _||_, cond}
+use mathlib.Core.Bool.{Bool, true, false, _&&_}
 use mathlib.Core.Logic.{_⊎_, inl, inr}
-use mathlib.Core.List.{List, [], _∷_, _++_, append-assoc}
-use Prim.Native.Nat.{ℕ, zero, suc, _+_, _*_, _-_, _≤_, _<_}
+use mathlib.Core.List.{List, [], _∷_, _++_}
+use Prim.Native.Nat.{ℕ, suc, _+_, _*_, _-_, _≤_, _<_}
 use native.Mathlib.Omega.{arith}
-use lib.Dec.{eqb, leb, ltb}
-use lib.ListN.{length, getD, take, drop, length-append, length-take, List·getD-eq-default}
-use lib.Seq.{length-take-le, getD-take, take-take, take-at}
-use borrow.Author.Tests.{leb-true, eqb-true, eq-eqb, le-leb, lt-leb, lt-ltb, le-ltb}
-use Rattle.lists.specs.Tests.{every, every-at, and-fst, and-snd, or-true, refuted}
-use Rattle.lists.specs.Tab.{tab, length-tab}
+use lib.Dec.{eqb, leb}
+use lib.ListN.{length, getD, take, length-append, length-take, List·getD-eq-default}
+use lib.Seq.{length-take-le, getD-take}
+use borrow.Author.Tests.{leb-true, eqb-true, le-leb, lt-leb}
+use Rattle.lists.specs.Tests.{every, every-at, and-fst, and-snd, refuted}
 use Rattle.lists.specs.Cases.{lt-or-le}
-use Rattle.roll.specs.Format.{Entry, bytesOf, sizeOf, inFour, inFours, joined, startsFrom, startsOf, ruled, keepsRules, rendered}
-use Rattle.roll.specs.Reading.{fourAt, trailerAt, countOf, listed, entryAt, start, follow, listedOnce, sized, framed, inOrder, isRoll, eachOnce, isFormerRoll, rollBytes, holdsRoll, holdsFormerRoll}
+use Rattle.roll.specs.Format.{Entry, sizeOf, inFour, inFours, joined, startsFrom, rendered}
+use Rattle.roll.specs.Reading.{fourAt, trailerAt, countOf, listed, start, follow, listedOnce, sized, framed, inOrder, isRoll, eachOnce, isFormerRoll, rollBytes, holdsRoll, holdsFormerRoll}
 use Rattle.roll.specs.Roll.{Sized}
 use Rattle.roll.specs.Starts.{follow-ends}
 use Rattle.roll.specs.Numbers.{Bytes, four-same, length-fours}
-use Rattle.roll.specs.Rendering.{startAt, startList, start-at, tab-starts, starts-in, joined-more, joined-one, length-bytes, records-back}
 
 -- ---- what the two rules have in common
 

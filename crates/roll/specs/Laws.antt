@@ -2,24 +2,23 @@
 -- records; so two rolls have the same records in the same order exactly when they have the same bytes.
 -- Assumes nothing.
 use mathlib.Core.Path.{_≡_, refl, sym, ap, ap₂, _∙_, subst}
-use mathlib.Core.Bool.{Bool, true, false, not, _&&_, _||_, cond, true≢false}
-use mathlib.Core.Logic.{_⊎_, inl, inr, _↔_}
+use mathlib.Core.Bool.{true, false, not}
+use mathlib.Core.Logic.{_↔_}
 use mathlib.Core.List.{List, [], _∷_, _++_, append-assoc, append-nil}
 use Prim.Native.Nat.{ℕ, zero, suc, _+_, _*_, _-_, _≤_, _<_}
 use native.Mathlib.Omega.{arith}
-use lib.Dec.{eqb, leb, ltb}
+use lib.Dec.{eqb, leb}
 use lib.ListN.{length, getD, take, drop, length-append, length-take, take-append-drop}
-use lib.Seq.{split-at, take-at, drop-at, take-add, drop-drop, length-take-le, drop-length}
-use borrow.Author.Tests.{ltb-false, leb-true, eqb-true, le-leb, lt-leb, eq-eqb, ne-eqb}
-use Rattle.lists.specs.Tests.{every, some, every-of, some-of, and-fst, and-snd, both, refuted, not-both, some-at, split}
+use lib.Seq.{split-at, take-add, drop-drop, length-take-le, drop-length}
+use borrow.Author.Tests.{eqb-true, le-leb, eq-eqb}
+use Rattle.lists.specs.Tests.{every, some, every-of, some-of, and-fst, both, refuted, some-at}
 use Rattle.lists.specs.Tab.{tab, length-tab, getD-tab, tab-ext}
 use Rattle.lists.specs.Elements.{All, all-at}
 use Rattle.lists.specs.Members.{of-getD}
-use Rattle.roll.specs.Format.{Entry, bytesOf, inFour, inFours, joined, startsFrom, startsOf, ruled, keepsRules, rendered}
-use Rattle.roll.specs.Reading.{fourAt, trailerAt, countOf, listed, entryAt, sizeAt, start, isStart, ruledAt, follow, listedOnce, sized, framed, inOrder, isRoll, eachOnce, isFormerRoll, entriesOf}
-use Rattle.roll.specs.Roll.{Sized}
-use Rattle.roll.specs.Starts.{start-next, start-apart, ends-before, head-before, follow-ends, follow-ruled, no-start}
-use Rattle.roll.specs.Numbers.{Bytes, four-written, four-small, read-back, length-fours, fours-more, fours-tab, length-fours-tab, tab-more}
+use Rattle.roll.specs.Format.{Entry, inFour, inFours, joined, startsOf, ruled, keepsRules, rendered}
+use Rattle.roll.specs.Reading.{fourAt, trailerAt, countOf, listed, entryAt, start, isStart, ruledAt, follow, listedOnce, sized, framed, inOrder, isRoll, eachOnce, isFormerRoll, entriesOf}
+use Rattle.roll.specs.Starts.{start-apart, ends-before, head-before, follow-ruled}
+use Rattle.roll.specs.Numbers.{Bytes, four-written, four-small, read-back, length-fours, fours-more, fours-tab}
 use Rattle.roll.specs.Rendering.{Fits, startAt, startList, start-at, tab-starts, tab-entries, starts-in, entries-in, records-back}
 use Rattle.roll.specs.Holding.{framed-following, framed-sized, is-framed, is-listing, former-framed, former-listing, length-starts-from, length-rendered}
 use Rattle.roll.specs.Listing.{Differ, listed-in-order}

@@ -1,18 +1,18 @@
 -- n different numbers below n are all the numbers below n: so a list of as many numbers as there are starts, each of them a start and none
 -- twice, lists every start just once. Assumes nothing.
-use mathlib.Core.Path.{_≡_, refl, sym, ap, _∙_, subst}
-use mathlib.Core.Bool.{Bool, true, false, not, _&&_, cond, false≢true}
+use mathlib.Core.Path.{_≡_, refl, sym, ap, _∙_}
+use mathlib.Core.Bool.{Bool, true, false, not, cond}
 use mathlib.Core.Logic.{_⊎_, inl, inr}
 use mathlib.Core.List.{List}
 use Prim.Native.Nat.{ℕ, zero, suc, _+_, _-_, _≤_, _<_}
 use native.Mathlib.Nat.{not-suc-le-zero}
 use native.Mathlib.Omega.{arith}
 use lib.Dec.{eqb, ltb}
-use borrow.Author.Tests.{lt-ltb, le-ltb, eqb-true, eqb-false, eq-eqb, not-true}
+use borrow.Author.Tests.{lt-ltb, le-ltb, eqb-true, eq-eqb, not-true}
 use Rattle.lists.specs.Tests.{some, some-at, some-of, split, not-both, and-fst, and-snd}
 use Rattle.lists.specs.Cases.{lt-or-le}
 use Rattle.roll.specs.Reading.{start, listed, listedOnce, isStart, countOf}
-use Rattle.roll.specs.Starts.{start-apart, head-before}
+use Rattle.roll.specs.Starts.{head-before}
 
 -- the first n values differ
 abbrev pub Differ : ℕ → (ℕ → ℕ) → Type 0

@@ -1,12 +1,12 @@
 -- Integers in 4 bytes: written and read back, read and written back. Assumes nothing.
 use mathlib.Core.Path.{_≡_, refl, sym, ap, ap₂, _∙_, subst}
 use mathlib.Core.Logic.{_⊎_, inl, inr}
-use mathlib.Core.List.{List, [], _∷_, _++_, append-assoc}
+use mathlib.Core.List.{List, [], _∷_, _++_}
 use Prim.Native.Nat.{ℕ, zero, suc, _+_, _*_, _/_, _%_, _≤_, _<_}
 use native.Mathlib.Nat.{add-zero}
 use native.Mathlib.Omega.{arith}
 use lib.ListN.{length, getD, take, drop, length-append, List·getD-append}
-use lib.Seq.{getD-append-add, getD-take, getD-drop, drop-cons, take-add, drop-drop, getD-at}
+use lib.Seq.{getD-append-add, drop-cons, getD-at}
 use Rattle.lists.specs.Tab.{tab, is-tab, length-tab, getD-tab}
 use Rattle.lists.specs.Cases.{lt-or-le}
 use Rattle.roll.specs.Format.{inFour, inFours}

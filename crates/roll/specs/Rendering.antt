@@ -1,15 +1,15 @@
 -- Records as bytes and bytes as records: a roll is its records one after the other and a trailer, and they are read back. Assumes nothing.
 use mathlib.Core.Path.{_≡_, refl, sym, ap, ap₂, _∙_, subst}
 use mathlib.Core.List.{List, [], _∷_, _++_, append-assoc, append-nil}
-use Prim.Native.Nat.{ℕ, zero, suc, _+_, _*_, _-_, _≤_, _<_}
+use Prim.Native.Nat.{ℕ, zero, suc, _+_, _-_, _≤_, _<_}
 use native.Mathlib.Nat.{add-zero, not-suc-le-zero, le-of-suc-le-suc}
 use native.Mathlib.Omega.{arith}
 use lib.ListN.{length, getD, take, drop, length-append, length-drop}
 use lib.Seq.{drop-cons, take-add, drop-drop, getD-drop, take-append-seam, drop-append-seam, length-take-le}
 use Rattle.lists.specs.Tab.{tab, is-tab}
 use Rattle.lists.specs.Elements.{All}
-use Rattle.roll.specs.Format.{Entry, bytesOf, sizeOf, inFour, inFours, joined, startsFrom}
-use Rattle.roll.specs.Reading.{fourAt, entryAt, sizeAt, start, countOf, entriesOf}
+use Rattle.roll.specs.Format.{Entry, bytesOf, sizeOf, inFour, joined, startsFrom}
+use Rattle.roll.specs.Reading.{fourAt, entryAt, sizeAt, start}
 use Rattle.roll.specs.Numbers.{Bytes, four-written, read-back}
 
 -- ---- sizes

@@ -1,12 +1,12 @@
 -- Small rolls and what they are not (document 02, A.7 and A.13). Assumes nothing.
 use mathlib.Core.Path.{_≡_, refl}
-use mathlib.Core.Bool.{true, false, _&&_}
+use mathlib.Core.Bool.{true, false}
 use mathlib.Core.List.{List, [], _∷_, _++_}
 use Prim.Native.Nat.{ℕ}
-use lib.ListN.{length, set, take, replicate}
+use lib.ListN.{set, take}
 use Rattle.lists.specs.Tests.{every, some}
 use Rattle.lists.specs.Tab.{tab, tabFrom}
-use Rattle.roll.specs.Format.{Entry, ruled, joined, startsFrom, inFours, rendered}
+use Rattle.roll.specs.Format.{Entry, ruled, joined, inFours, rendered}
 use Rattle.roll.specs.Reading.{fourAt, trailerAt, countOf, listed, entryAt, sizeAt, start, isStart, ruledAt, listedOnce, follow, framed, isRoll, eachOnce, isFormerRoll, entriesOf}
 
 -- set 7 is delivered with a label of two bytes, and set 300 replaces it

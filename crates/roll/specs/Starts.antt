@@ -1,6 +1,6 @@
 -- Where the records of a roll start, and what the check's two loops tell by their marks. Assumes nothing.
-use mathlib.Core.Path.{_≡_, refl, sym, ap, _∙_, subst}
-use mathlib.Core.Bool.{Bool, true, false, not, _&&_, _||_, cond}
+use mathlib.Core.Path.{_≡_, refl, sym, ap, _∙_}
+use mathlib.Core.Bool.{Bool, true, false, not, _&&_, cond}
 use mathlib.Core.Logic.{_⊎_, inl, inr}
 use mathlib.Core.List.{List}
 use Prim.Native.Nat.{ℕ, zero, suc, _+_, _*_, _≤_, _<_}
@@ -10,12 +10,12 @@ use native.Mathlib.Omega.{arith}
 use lib.Dec.{eqb, leb}
 use lib.ListN.{length, getD, set, replicate, length-set, length-replicate, getD-replicate, List·getD-eq-default}
 use lib.Seq.{getD-set-same, getD-set-other}
-use borrow.Author.Tests.{not-true, not-false, leb-true, leb-false, eq-eqb, ne-eqb, eqb-true, eqb-false, le-leb, lt-leb}
-use Rattle.lists.specs.Tests.{every, some, every-at, every-of, some-at, some-of, refuted, not-both, split, and-fst, and-snd, both, or-none, or-true, and-false}
+use borrow.Author.Tests.{not-true, not-false, leb-true, leb-false, eq-eqb, ne-eqb, eqb-true, le-leb, lt-leb}
+use Rattle.lists.specs.Tests.{every, some, every-at, every-of, some-at, some-of, refuted, not-both, split, and-fst, and-snd, or-none, or-true, and-false}
 use Rattle.lists.specs.Cases.{lt-or-le, eq-or-ne}
 use Rattle.roll.specs.Format.{ruled}
 use Rattle.roll.specs.Reading.{fourAt, start, sizeAt, ruledAt, follow, isStart, listed, listedOnce, countOf, trailerAt}
-use Rattle.roll.specs.Roll.{Sized, Marked}
+use Rattle.roll.specs.Roll.{Marked}
 
 -- a test that the code negates
 pub told-no : {r b : Bool} → r ≡ b → not r ≡ true → b ≡ false

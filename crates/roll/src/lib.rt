@@ -1,6 +1,6 @@
 // A delivery roll (document 02, A.7): one file that lists what was delivered. What a roll is.
 ghost use mathlib.Core.Path.{_≡_};
-ghost use Rattle.roll.specs.Reading.{isRoll, rollBytes, holdsRoll};
+ghost use Rattle.roll.specs.Reading.{rollBytes};
 
 pub mod judge;
 pub mod numbers;

@@ -1,27 +1,24 @@
 -- How the appender's stores make the new roll, and what its tests say of its answer. Assumes nothing.
-use mathlib.Core.Path.{_≡_, refl, sym, ap, ap₂, _∙_, subst}
-use mathlib.Core.Bool.{Bool, true, false, not, _&&_, _||_, cond}
+use mathlib.Core.Path.{_≡_, refl, sym, ap, ap₂, _∙_}
+use mathlib.Core.Bool.{Bool, true, false, _&&_, _||_, cond}
 use mathlib.Core.Logic.{_⊎_, inl, inr}
 use mathlib.Core.List.{List, [], _∷_, _++_, append-assoc}
-use Prim.Native.Nat.{ℕ, zero, suc, _+_, _*_, _-_, _≤_, _<_}
+use Prim.Native.Nat.{ℕ, _+_, _-_, _≤_, _<_}
 use native.Mathlib.Omega.{arith}
-use lib.Dec.{eqb, leb, ltb}
-use lib.ListN.{length, getD, take, drop, length-append, length-take, List·getD-eq-default}
-use lib.Seq.{length-take-le, getD-take, take-take, take-at}
-use borrow.Author.Tests.{leb-true, eqb-true, eq-eqb, le-leb, lt-leb, lt-ltb, le-ltb}
-use Rattle.lists.specs.Tests.{every, every-at, and-fst, and-snd, or-true, refuted}
+use lib.Dec.{leb, ltb}
+use lib.ListN.{length, take, drop, length-append}
+use lib.Seq.{length-take-le, take-take}
+use borrow.Author.Tests.{lt-ltb, le-ltb}
+use Rattle.lists.specs.Tests.{or-true}
 use Rattle.lists.specs.Tab.{tab, length-tab}
-use Rattle.lists.specs.Cases.{lt-or-le}
-use Rattle.roll.specs.Format.{Entry, bytesOf, sizeOf, inFour, inFours, joined, startsFrom, startsOf, ruled, keepsRules, rendered}
-use Rattle.roll.specs.Reading.{fourAt, trailerAt, countOf, entryAt, start, isRoll, entriesOf, holdsRoll}
-use Rattle.roll.specs.Starts.{follow-ends}
+use Rattle.roll.specs.Format.{Entry, bytesOf, sizeOf, inFour, inFours, joined, startsOf, ruled, keepsRules, rendered}
+use Rattle.roll.specs.Reading.{trailerAt, countOf, entryAt, start, entriesOf, holdsRoll}
 use Rattle.roll_append.specs.Laid.{laid, laid-laid}
-use Rattle.roll.specs.Numbers.{Bytes, four-same, length-fours}
+use Rattle.roll.specs.Numbers.{Bytes, length-fours}
 use Rattle.roll.specs.Rendering.{startAt, startList, start-at, tab-starts, starts-in, joined-more, joined-one, length-bytes, records-back}
-use Rattle.roll.specs.Holding.{is-sized, is-there, is-roll, has-count, at-least, within-limits, bytes-take, length-starts-from, length-rendered}
+use Rattle.roll.specs.Holding.{is-sized, is-there, is-roll, has-count, within-limits, bytes-take, length-starts-from, length-rendered}
 use Rattle.tables.specs.declared.Refusal.the-variants.{NotARoll, NoRoom}
-use Rattle.roll_append.specs.Calls.{withEntry, passes, judgedAppend, leaves, appended}
-use Rattle.roll_append.specs.declared.Appended.{Appended}
+use Rattle.roll_append.specs.Calls.{withEntry, passes, judgedAppend}
 use Rattle.roll_append.specs.declared.Appended.the-variants.{Count, Refused}
 
 -- ---- the record to add

@@ -1,25 +1,25 @@
 -- Document 02, A.13: two desks that append the same records hold identical rolls. Assumes nothing.
 use mathlib.Core.Path.{_≡_, refl, sym, ap, _∙_, subst}
-use mathlib.Core.Bool.{Bool, true, _&&_, cond}
+use mathlib.Core.Bool.{true}
 use mathlib.Core.List.{List, [], _∷_, _++_, append-assoc, append-nil}
-use Prim.Native.Nat.{ℕ, _+_, _≤_, _<_}
+use Prim.Native.Nat.{ℕ, _+_, _<_}
 use native.Mathlib.Omega.{arith}
-use lib.Dec.{eqb, leb}
+use lib.Dec.{leb}
 use lib.ListN.{length, take, drop, length-append}
 use borrow.Author.Tests.{leb-true, le-leb}
 use Rattle.lists.specs.Tests.{every, and-fst, and-snd, both}
 use Rattle.lists.specs.Tab.{tab, tabFrom}
 use Rattle.lists.specs.Elements.{All}
-use Rattle.roll.specs.Format.{Entry, bytesOf, inFour, inFours, joined, startsOf, ruled, keepsRules, rendered}
+use Rattle.roll.specs.Format.{Entry, bytesOf, inFour, inFours, joined, startsOf, ruled, rendered}
 use Rattle.roll.specs.Reading.{fourAt, trailerAt, countOf, start, follow, framed, isRoll, entriesOf, holdsRoll}
-use Rattle.roll.specs.Numbers.{Bytes, bytes-none, bytes-cons, bytes-append, bytes-drop, bytes-four, bytes-fours}
+use Rattle.roll.specs.Numbers.{Bytes, bytes-cons, bytes-append, bytes-drop, bytes-four, bytes-fours}
 use Rattle.roll.specs.Rendering.{Fits}
 use Rattle.roll.specs.Holding.{is-roll, bytes-take}
 use Rattle.roll.specs.Laws.{same-bytes}
 use Rattle.roll.specs.Samples.{empty}
 use Rattle.roll_append.specs.Calls.{judgedAppend, appended}
 use Rattle.roll_append.specs.Appending.{records-are}
-use Rattle.roll_append.specs.Laws.{done-says, left-new, Grown, grown}
+use Rattle.roll_append.specs.Laws.{done-says, left-new, grown}
 use Rattle.roll_append.specs.declared.Appended.the-variants.{Count}
 
 -- a record as the appender takes it: numbers of 4 bytes, a label of bytes

@@ -1,10 +1,10 @@
 -- Bytes laid over a list: where they stand, and one run after another. Assumes nothing.
-use mathlib.Core.Path.{_≡_, refl, sym, ap, _∙_, subst}
-use mathlib.Core.List.{List, [], _∷_, _++_, append-assoc}
+use mathlib.Core.Path.{_≡_, sym, ap, _∙_, subst}
+use mathlib.Core.List.{List, _++_, append-assoc}
 use Prim.Native.Nat.{ℕ, _+_, _-_, _≤_, _<_}
 use native.Mathlib.Omega.{arith}
 use lib.ListN.{length, getD, take, drop, length-append, length-drop, List·getD-append}
-use lib.Seq.{paste, take-length, length-take-le, take-at, drop-at, drop-append-add, drop-drop, getD-take}
+use lib.Seq.{paste, take-length, length-take-le, take-at, drop-append-add, drop-drop, getD-take}
 
 -- xs laid over s from byte `at`
 unfoldable pub laid : List ℕ → ℕ → List ℕ → List ℕ

@@ -1,27 +1,22 @@
 -- Document 02, A.7, as laws about the appender: reading an appended roll gives the former records and then the added one, and the bytes
 -- after it stay.
 -- Assumes nothing.
-use mathlib.Core.Path.{_≡_, refl, sym, ap, ap₂, _∙_, subst}
+use mathlib.Core.Path.{_≡_, refl, sym, ap, _∙_, subst}
 use mathlib.Core.Bool.{Bool, true, false, not, _&&_, _||_, cond, true≢false}
 use mathlib.Core.Logic.{_⊎_, inl, inr}
-use mathlib.Core.List.{List, [], _∷_, _++_, append-assoc, append-nil}
-use Prim.Native.Nat.{ℕ, zero, suc, _+_, _*_, _-_, _≤_, _<_}
+use mathlib.Core.List.{List, [], _∷_, _++_}
+use Prim.Native.Nat.{ℕ, _+_, _-_, _≤_}
 use native.Mathlib.Omega.{arith}
-use lib.Dec.{eqb, leb, ltb}
-use lib.ListN.{length, getD, take, drop, length-append, length-take, take-append-drop}
-use lib.Seq.{split-at, take-at, drop-at, take-add, drop-drop, length-take-le, drop-length}
-use borrow.Author.Tests.{ltb-false, leb-true, eqb-true, le-leb, lt-leb, eq-eqb, ne-eqb}
-use Rattle.lists.specs.Tests.{every, some, every-of, some-of, and-fst, and-snd, both, refuted, not-both, some-at, split}
-use Rattle.lists.specs.Tab.{tab, length-tab, getD-tab}
-use Rattle.lists.specs.Elements.{All, all-at}
-use Rattle.lists.specs.Members.{of-getD}
-use Rattle.roll.specs.Format.{Entry, bytesOf, inFour, inFours, joined, startsFrom, startsOf, ruled, keepsRules, rendered}
-use Rattle.roll.specs.Reading.{fourAt, trailerAt, countOf, listed, entryAt, sizeAt, start, isStart, ruledAt, follow, listedOnce, isRoll, entriesOf, holdsRoll}
-use Rattle.roll.specs.Roll.{Sized}
-use Rattle.roll.specs.Starts.{start-next, start-apart, ends-before, follow-ends, follow-ruled, no-start}
-use Rattle.roll.specs.Numbers.{Bytes, four-written, four-small, read-back, length-fours, fours-more, fours-tab, length-fours-tab, tab-more}
-use Rattle.roll.specs.Rendering.{Fits, startAt, startList, start-at, tab-starts, tab-entries, starts-in, entries-in, records-back}
-use Rattle.roll.specs.Listing.{Differ}
+use lib.Dec.{leb, ltb}
+use lib.ListN.{length, take, drop, length-append}
+use lib.Seq.{take-at, drop-at}
+use borrow.Author.Tests.{ltb-false, leb-true, le-leb}
+use Rattle.lists.specs.Tests.{and-fst, and-snd, both}
+use Rattle.lists.specs.Elements.{All}
+use Rattle.roll.specs.Format.{Entry, startsOf, ruled, keepsRules, rendered}
+use Rattle.roll.specs.Reading.{entriesOf, holdsRoll}
+use Rattle.roll.specs.Numbers.{Bytes}
+use Rattle.roll.specs.Rendering.{Fits}
 use Rattle.roll.specs.Holding.{is-roll, bytes-take}
 use Rattle.roll.specs.Laws.{Good, good-entries, rendered-is, entries-back}
 use Rattle.roll_append.specs.Appending.{new-length}

@@ -1,13 +1,11 @@
 -- Records added to small rolls (document 02, A.7). Assumes nothing.
 use mathlib.Core.Path.{_≡_, refl}
-use mathlib.Core.Bool.{true, false, _&&_}
-use mathlib.Core.List.{List, [], _∷_, _++_}
-use Prim.Native.Nat.{ℕ}
-use lib.ListN.{length, set, take, replicate}
-use Rattle.lists.specs.Tests.{every, some}
+use mathlib.Core.List.{[], _∷_, _++_}
+use lib.ListN.{replicate}
+use Rattle.lists.specs.Tests.{every}
 use Rattle.lists.specs.Tab.{tab, tabFrom}
-use Rattle.roll.specs.Format.{Entry, ruled, joined, startsFrom, inFours, rendered}
-use Rattle.roll.specs.Reading.{fourAt, trailerAt, countOf, listed, entryAt, sizeAt, start, isStart, ruledAt, follow, framed, isRoll, entriesOf, holdsRoll}
+use Rattle.roll.specs.Format.{ruled, joined, startsFrom, inFours, rendered}
+use Rattle.roll.specs.Reading.{fourAt, trailerAt, countOf, listed, entryAt, sizeAt, start, ruledAt, follow, framed, isRoll, entriesOf, holdsRoll}
 use Rattle.tables.specs.declared.Refusal.the-variants.{NotARoll, NoRoom}
 use Rattle.roll.specs.Samples.{first, second, empty, one}
 use Rattle.roll_append.specs.Calls.{withEntry, passes, judgedAppend, appended}

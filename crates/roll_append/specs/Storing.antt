@@ -1,5 +1,5 @@
 -- What the appender's stores make, one after the other. Assumes nothing.
-use mathlib.Core.Path.{_≡_, refl, sym, ap, _∙_, subst}
+use mathlib.Core.Path.{_≡_, sym, ap, _∙_}
 use mathlib.Core.List.{List, [], _∷_, _++_, append-assoc}
 use Prim.Native.Nat.{ℕ, _+_, _*_, _/_, _%_, _≤_, _<_}
 use native.Mathlib.Nat.{add-zero}
@@ -8,7 +8,7 @@ use lib.ListN.{length, getD, take, drop, take-append-drop, length-append}
 use Rattle.lists.specs.Tab.{tab, tabFrom}
 use Rattle.roll.specs.Format.{entry, bytesOf, inFour, inFours}
 use Rattle.roll.specs.Reading.{start}
-use Rattle.roll_append.specs.Laid.{laid, laid-laid, getD-laid, length-laid}
+use Rattle.roll_append.specs.Laid.{laid, laid-laid, getD-laid}
 use Rattle.roll.specs.Numbers.{fours-tab, length-fours-tab}
 use Rattle.roll.specs.Starts.{head-before}
 

@@ -1,6 +1,6 @@
 -- What the reader says of the roll b at a position (document 02, A.7), on every input, by the rule of A.13 and by the former one of A.7.
 -- Assumes nothing.
-use mathlib.Core.Bool.{Bool, not, _&&_, cond}
+use mathlib.Core.Bool.{Bool, _&&_, cond}
 use mathlib.Core.List.{List, []}
 use Prim.Native.Nat.{ℕ, _+_}
 use lib.Dec.{eqb}

@@ -1,16 +1,15 @@
 -- Document 02, A.7, as laws about the reader: it walks a roll record by record from byte 0, and says end at the trailer. They hold for
 -- either rule: ok is its answer.
 -- Assumes nothing.
-use mathlib.Core.Path.{_≡_, refl, sym, ap, _∙_}
-use mathlib.Core.Bool.{Bool, true, false, _&&_, cond}
+use mathlib.Core.Path.{_≡_, refl, sym}
+use mathlib.Core.Bool.{Bool, true}
 use mathlib.Core.List.{List}
-use Prim.Native.Nat.{ℕ, zero, suc, _+_, _≤_, _<_}
+use Prim.Native.Nat.{ℕ, _+_, _<_}
 use native.Mathlib.Omega.{arith}
 use lib.Dec.{eqb}
 use borrow.Author.Tests.{eq-eqb}
 use Rattle.lists.specs.Tests.{some-of, both}
-use Rattle.roll.specs.Reading.{trailerAt, countOf, entryAt, sizeAt, start, isStart, framed}
-use Rattle.roll.specs.Roll.{Sized}
+use Rattle.roll.specs.Reading.{trailerAt, countOf, entryAt, start, isStart, framed}
 use Rattle.roll.specs.Starts.{start-next, no-start}
 use Rattle.roll.specs.Holding.{framed-sized}
 use Rattle.roll_read.specs.Calls.{readEntry, holdsRecord, readBy, labelBy, pastBy}

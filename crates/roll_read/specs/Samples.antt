@@ -1,13 +1,9 @@
 -- A small roll read (document 02, A.7 and A.13). Assumes nothing.
 use mathlib.Core.Path.{_≡_, refl}
-use mathlib.Core.Bool.{true, false, _&&_}
-use mathlib.Core.List.{List, [], _∷_, _++_}
-use Prim.Native.Nat.{ℕ}
-use lib.ListN.{length, set, take, replicate}
+use mathlib.Core.List.{[], _∷_}
 use Rattle.lists.specs.Tests.{every, some}
-use Rattle.lists.specs.Tab.{tab, tabFrom}
-use Rattle.roll.specs.Format.{Entry, ruled, joined, startsFrom, inFours, rendered}
-use Rattle.roll.specs.Reading.{fourAt, trailerAt, countOf, listed, entryAt, sizeAt, start, isStart, ruledAt, listedOnce, follow, framed, isRoll, eachOnce, isFormerRoll, entriesOf}
+use Rattle.roll.specs.Format.{ruled, joined, inFours, rendered}
+use Rattle.roll.specs.Reading.{fourAt, trailerAt, countOf, listed, entryAt, sizeAt, start, isStart, ruledAt, listedOnce, follow, framed, isRoll, eachOnce, isFormerRoll}
 use Rattle.tables.specs.declared.Refusal.the-variants.{NotARoll}
 use Rattle.roll.specs.Samples.{first, second, two, older}
 use Rattle.roll_read.specs.Calls.{holdsRecord, readBy, labelBy, pastBy, readAt, labelAt, pastAt, readAtFormer, labelAtFormer, pastAtFormer}

@@ -1,6 +1,6 @@
 -- What the reader's code makes of its tests. Assumes nothing.
-use mathlib.Core.Path.{_≡_, refl, sym, ap, _∙_}
-use mathlib.Core.Bool.{Bool, true, false, not, _&&_, cond}
+use mathlib.Core.Path.{_≡_, refl}
+use mathlib.Core.Bool.{Bool, true, false}
 use mathlib.Core.List.{List, []}
 use Prim.Native.Nat.{ℕ, _+_, _-_, _≤_, _<_}
 use native.Mathlib.Omega.{arith}
@@ -10,7 +10,6 @@ use borrow.Author.Tests.{eq-eqb, ne-eqb, eqb-true}
 use Rattle.lists.specs.Tests.{some-at, and-fst, and-snd}
 use Rattle.tables.specs.declared.Refusal.the-variants.{NotARoll}
 use Rattle.roll.specs.Reading.{fourAt, trailerAt, countOf, entryAt, sizeAt, start, isStart, framed}
-use Rattle.roll.specs.Roll.{Sized}
 use Rattle.roll.specs.Starts.{ends-before, head-before}
 use Rattle.roll.specs.Holding.{framed-sized}
 use Rattle.roll_read.specs.Calls.{readEntry, holdsRecord, readBy, labelBy, pastBy}

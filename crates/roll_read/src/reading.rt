@@ -1,6 +1,6 @@
 // The reader's work, on a plain slice and a position, by either rule for the trailer's list.
 ghost use mathlib.Core.Path.{_≡_};
-ghost use mathlib.Core.Bool.{true, _&&_};
+ghost use mathlib.Core.Bool.{true};
 ghost use Prim.Native.Nat.{_+_, _≤_, _<_};
 ghost use lib.ListN.{length};
 ghost use Rattle.roll.specs.Reading.{framed, isStart, entryAt, fourAt};

@@ -1,16 +1,16 @@
 -- The arrangement of the code gives the rotated block. Assumes nothing.
-use mathlib.Core.Path.{_≡_, refl, sym, ap, ap₂, _∙_, subst}
+use mathlib.Core.Path.{_≡_, refl, sym, ap, ap₂, _∙_}
 use mathlib.Core.List.{List}
-use Prim.Native.Nat.{ℕ, zero, suc, _+_, _-_, _*_, _/_, _%_, _^_, _<_, _≤_}
-use native.Mathlib.Nat.{mul-add-div-right, mul-add-mod-self-right, div-eq-of-lt, mod-eq-of-lt, mod-lt, add-zero, zero-add, div-lt-iff-lt-mul, div-add-mod'}
+use Prim.Native.Nat.{ℕ, suc, _+_, _-_, _*_, _/_, _%_, _^_, _<_, _≤_}
+use native.Mathlib.Nat.{mod-lt, zero-add, div-lt-iff-lt-mul, div-add-mod'}
 use native.Mathlib.Omega.{arith}
 use lib.ListN.{length, getD, set, length-set}
-use lib.Seq.{getD-set-same, getD-set-other}
+use lib.Seq.{getD-set-other}
 use borrow.Author.Count.{below-none}
 use mathlib.Core.Logic.{⊎-elim}
 use Rattle.lists.specs.Cases.{lt-or-le}
-use lib.Ieee.{Float, nan, add, mul, binary64, ofBits}
-use Rattle.lists.specs.Tab.{tab, tabFrom, length-tab, getD-tab, is-tab, tab-ext, fill-more, times, times-more, times-same}
+use lib.Ieee.{Float, nan, add, mul, binary64}
+use Rattle.lists.specs.Tab.{tab, tabFrom, getD-tab, is-tab, tab-ext, fill-more, times, times-more, times-same}
 use Rattle.lists.specs.Digits.{in-row, quotient, remainder}
 use Rattle.blocks.specs.Block.{putBlock, put-inside, put-outside}
 use Rattle.blocks.specs.Nine.{transposed9}

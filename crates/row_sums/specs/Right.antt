@@ -1,8 +1,8 @@
 -- Row sums that were right stay right over any series of edits on the grid, and each edit leaves all else alone (document 02, A.10).
 -- Assumes nothing.
-use mathlib.Core.Path.{_≡_, refl, sym, ap, ap₂, _∙_}
+use mathlib.Core.Path.{_≡_, sym, ap, ap₂, _∙_}
 use mathlib.Core.Logic.{_⊎_, inl, inr}
-use mathlib.Core.Bool.{Bool, true, false}
+use mathlib.Core.Bool.{true, false}
 use mathlib.Core.List.{List, [], _∷_}
 use Prim.Native.Nat.{ℕ, _+_, _*_, _/_, _%_, _≤_, _<_}
 use native.Mathlib.Nat.{mod-lt, div-lt-iff-lt-mul}
@@ -12,8 +12,8 @@ use lib.ListN.{length, getD}
 use lib.Ieee.{Float, nan, binary64, add}
 use Rattle.lists.specs.Cases.{eq-or-ne}
 use Rattle.lists.specs.Digits.{quotient, remainder}
-use Rattle.lists.specs.Tab.{tab, length-tab, getD-tab, is-tab, times-same}
-use Rattle.lists.specs.Tests.{split, every, every-at}
+use Rattle.lists.specs.Tab.{length-tab, getD-tab, is-tab, times-same}
+use Rattle.lists.specs.Tests.{split, every-at}
 use Rattle.tables.specs.declared.Answer.{Answer}
 use Rattle.tables.specs.Answers.{isRefusal, after, after-refusal, after-done}
 use Rattle.blocks.specs.Block.{block, putBlock, getD-block, length-putBlock, put-inside, put-outside, block-put, block-put-other, fits}
@@ -23,7 +23,7 @@ use Rattle.grid.specs.Grid.{onGrid, nineOnGrid}
 use Rattle.grid.specs.Sums.{passOver, AllOnGrid}
 use Rattle.grid.specs.Edits.{edited, ButAt, stays-right}
 use Rattle.row_sums.specs.RowSums.{entry, rowSums, corrected, judgedReplace, replaced, replaceBlock}
-use Rattle.row_sums.specs.Calls.{Ready, Accepted, accepted, block-in}
+use Rattle.row_sums.specs.Calls.{Accepted, accepted, block-in}
 
 -- a full set of n atoms, every entry on the grid
 pub record OnGrid (n : ℕ) (set : List Float) : Type 0 where

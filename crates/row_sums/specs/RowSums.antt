@@ -1,5 +1,5 @@
 -- Row sums of a full second-order set (document 02, A.10): what the two calls answer and what they leave. Definitions only.
-use mathlib.Core.Bool.{Bool, not, _&&_, _||_}
+use mathlib.Core.Bool.{not, _&&_, _||_}
 use mathlib.Core.List.{List, [], _∷_}
 use Prim.Native.Nat.{ℕ, _+_, _*_, _/_, _%_}
 use lib.Dec.{leb}

@@ -1,5 +1,5 @@
 -- The loop over the atoms makes the sums of a fresh pass: turn i writes the nine sums of atom i. Assumes nothing.
-use mathlib.Core.Path.{_≡_, refl, sym, ap, ap₂, _∙_}
+use mathlib.Core.Path.{_≡_, sym, ap, _∙_}
 use mathlib.Core.List.{List}
 use Prim.Native.Nat.{ℕ, suc, _+_, _*_, _/_, _%_, _<_}
 use native.Mathlib.Nat.{div-lt-iff-lt-mul}
@@ -7,7 +7,7 @@ use native.Mathlib.Omega.{arith}
 use lib.Dec.{lit<}
 use lib.ListN.{length, getD}
 use lib.Ieee.{Float, nan, add, binary64}
-use Rattle.lists.specs.Tab.{tab, times, is-tab, times-same}
+use Rattle.lists.specs.Tab.{times, is-tab, times-same}
 use Rattle.lists.specs.Stages.{Stage, next, stages}
 use Rattle.blocks.specs.Block.{putBlock, length-putBlock, put-inside, put-outside}
 use Rattle.lines.specs.Nine.{plusZero, sumIn, zeros, getD-nine, in-nine}

@@ -11,9 +11,9 @@ use lib.ListN.{length, getD, set, replicate, length-set, length-replicate, getD-
 use lib.Seq.{getD-set-other, getD-set-same}
 use Rattle.lists.specs.Cases.{lt-or-le, eq-or-ne}
 use Rattle.lists.specs.Digits.{in-row}
-use Rattle.tables.specs.Conditions.{indexAt, Readable, IndexTable, read}
+use Rattle.tables.specs.Conditions.{indexAt, Readable, read}
 use Rattle.shift_rows.specs.Rows.{Rows, image, Composed, Closed, Sent}
-use Rattle.shift_rows.specs.Loops.{Marked, Made, shift-none, generator, shift-after, Known, More, Learnt, KeepsAt, rightOf, Commutes, Settled}
+use Rattle.shift_rows.specs.Loops.{Marked, Made, shift-none, generator, shift-after, Known, More, KeepsAt, rightOf, Commutes, Settled}
 
 pub image-below : {n m : ℕ} {perms : List ℤ} → Rows n m perms → (t a : ℕ) → t < m → a < n → image perms n t a < n
 image-below {n} {m} R t a ht ha = read (R .table) _ (in-row m n t a ht ha) .1

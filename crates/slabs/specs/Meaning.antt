@@ -2,7 +2,7 @@
 use mathlib.Core.Path.{_≡_, refl, sym, ap, _∙_, subst}
 use mathlib.Core.Bool.{cond}
 use mathlib.Core.List.{List, [], _∷_, map}
-use Prim.Native.Nat.{ℕ, zero, suc, _+_, _*_, _^_, _<_, _≤_}
+use Prim.Native.Nat.{ℕ, suc, _+_, _*_, _^_, _<_, _≤_}
 use lib.Dec.{eqb}
 use lib.IntN.{ℤ}
 use lib.ListN.{length, getD}
@@ -10,7 +10,7 @@ use lib.Seq.{ext-getD}
 use lib.Ieee.{Float, nan}
 use borrow.Author.Tests.{eq-eqb, ne-eqb}
 use Rattle.lists.specs.Tab.{length-tab, getD-tab}
-use Rattle.lists.specs.Digits.{horner, rest, digits, rest-horner, digits-horner}
+use Rattle.lists.specs.Digits.{horner, rest, rest-horner, digits-horner}
 use Rattle.blocks.specs.Block.{block, getD-block, length-block, block-of, place-of, inside}
 use Rattle.rotations.specs.Rotation.{rotated}
 use Rattle.tables.specs.Conditions.{indexAt}

@@ -1,7 +1,7 @@
 -- One slab of a set filled from another (`distribute_fc3`, `distribute_fc4`), for every order at once. Definitions only.
 -- A block is numbered by its slab and its other k atoms of n, the slab slowest; it has 3 ^ (k + 1) numbers.
 use mathlib.Core.List.{List, [], _∷_, map}
-use mathlib.Core.Bool.{Bool, cond}
+use mathlib.Core.Bool.{cond}
 use Prim.Native.Nat.{ℕ, zero, suc, _+_, _*_, _/_, _%_, _^_}
 use lib.Dec.{eqb}
 use lib.IntN.{ℤ}

@@ -1,6 +1,6 @@
 -- The loops fill the target slab. Assumes nothing.
 use mathlib.Core.Path.{_≡_, refl, sym, ap, _∙_, subst}
-use mathlib.Core.Bool.{Bool, true, false, cond}
+use mathlib.Core.Bool.{true, false, cond}
 use mathlib.Core.List.{List, [], _∷_, _++_, map}
 use mathlib.Core.Logic.{_⊎_, inl, inr, ⊎-elim}
 use Prim.Native.Nat.{ℕ, zero, suc, _+_, _-_, _*_, _/_, _%_, _^_, _<_, _≤_}
@@ -15,15 +15,15 @@ use lib.Ieee.{Float, nan}
 use borrow.Author.Tests.{eq-eqb, ne-eqb}
 use Rattle.lists.specs.Tab.{tab, length-tab, getD-tab, is-tab, tab-ext, times}
 use Rattle.lists.specs.Cases.{eq-or-ne, lt-or-le, within, within-in, within-below, within-above}
-use Rattle.lists.specs.Elements.{Below, All}
-use Rattle.lists.specs.Digits.{in-row, horner, room, rest, digits, rest-horner, digits-horner, horner-below, room-mul, room-is-pos, rest-div}
+use Rattle.lists.specs.Elements.{Below}
+use Rattle.lists.specs.Digits.{horner, room, rest, digits, rest-horner, digits-horner, horner-below, room-mul, room-is-pos, rest-div}
 use Rattle.blocks.specs.Block.{block, putBlock, getD-block, length-block, length-putBlock, put-inside, put-outside, block-of, inside}
 use Rattle.rotations.specs.Rotation.{rotated}
 use Rattle.tables.specs.declared.Answer.{Answer}
 use Rattle.tables.specs.declared.Answer.the-variants.{Done, Refused}
 use Rattle.tables.specs.declared.Refusal.the-variants.{CountAboveLimit}
-use Rattle.tables.specs.Answers.{isRefusal, after, refuseIf, passed, is-done, after-refusal, after-done}
-use Rattle.tables.specs.Conditions.{anyAbove, anyWrong, outOfRange, indexAt, IndexTable, not-above, not-wrong, not-bad-slab}
+use Rattle.tables.specs.Answers.{isRefusal, passed, is-done, after-refusal, after-done}
+use Rattle.tables.specs.Conditions.{anyAbove, indexAt, IndexTable, not-above, not-wrong, not-bad-slab}
 use Rattle.tables.specs.Lengths.{setLength}
 use Rattle.lists.specs.Tests.{split}
 use Rattle.slabs.specs.Slab.{sourceOf, distributed, judgedSlabs, distributeSlab, moveBlock, move}

@@ -1,14 +1,12 @@
 -- The answer for a set by the end of its chain, which one walk over the records finds. Assumes nothing.
 use mathlib.Core.Path.{_≡_, refl, sym, ap, ap₂, _∙_, subst}
-use mathlib.Core.Bool.{Bool, true, false, not, cond}
-use mathlib.Core.Logic.{_⊎_, inl, inr, ⊎-elim}
+use mathlib.Core.Bool.{Bool, true, false, cond}
+use mathlib.Core.Logic.{_⊎_, ⊎-elim}
 use mathlib.Core.List.{List}
-use Prim.Native.Nat.{ℕ, zero, suc, _+_, _≤_, _<_}
+use Prim.Native.Nat.{ℕ, zero, suc, _+_, _<_}
 use native.Mathlib.Numerals.{add-one}
-use lib.Dec.{eqb}
 use borrow.Author.Tests.{eq-eqb, ne-eqb}
 use Rattle.lists.specs.Cases.{eq-or-ne}
-use Rattle.roll.specs.Format.{Entry}
 use Rattle.roll.specs.Reading.{start, entryAt, countOf, isRoll, entriesOf}
 use Rattle.standing.specs.Register.{Register, replaces, lawful, rule, answer}
 use Rattle.standing.specs.Walk.{recordOf, after, lawfulTo, Notes, entries-lawful}

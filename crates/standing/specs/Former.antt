@@ -1,10 +1,10 @@
 -- What document 02, A.14, changes: the rules of A.8, which looked at retirement first, and where their answers differ from those of today.
 -- Assumes nothing.
-use mathlib.Core.Path.{_≡_, refl, sym, ap, ap₂, _∙_, subst}
+use mathlib.Core.Path.{_≡_, refl, sym, ap, _∙_, subst}
 use mathlib.Core.Bool.{Bool, true, false, not, _&&_, _||_, cond, false≢true}
 use mathlib.Core.Logic.{_⊎_, inl, inr, ⊎-elim}
 use mathlib.Core.List.{List}
-use Prim.Native.Nat.{ℕ, zero, suc, _+_, _≤_, _<_}
+use Prim.Native.Nat.{ℕ, zero, suc, _+_}
 use native.Mathlib.Numerals.{add-one}
 use lib.Dec.{eqb}
 use lib.ListN.{length}
@@ -15,7 +15,7 @@ use Rattle.tables.specs.declared.Refusal.the-variants.{NotARoll, NotLawful}
 use Rattle.roll.specs.Format.{Entry}
 use Rattle.roll.specs.Reading.{isRoll, entriesOf}
 use Rattle.standing.specs.Register.{Register, registerOf, lawful, answer, rule, standsNow}
-use Rattle.standing.specs.Chains.{Sound, endOf, end-zero, end-goes, end-stays}
+use Rattle.standing.specs.Chains.{Sound, endOf, end-zero, end-goes}
 use Rattle.standing.specs.Laws.{sound-roll}
 use Rattle.standing.specs.Walk.{entries-many}
 use Rattle.standing.specs.Ends.{atEnd, by-end}

@@ -1,18 +1,18 @@
 -- Document 02, A.8, as laws: in a lawful roll no chain of replacements goes on without end, and what the roll answers is what the rules give
 -- over the plain register of its records, and nothing else is. Assumes nothing.
 use mathlib.Core.Path.{_≡_, refl, sym, ap, _∙_, subst}
-use mathlib.Core.Bool.{Bool, true, false, not, _&&_, cond}
-use mathlib.Core.Logic.{_⊎_, inl, inr, ⊎-elim}
+use mathlib.Core.Bool.{true, not, _&&_, cond}
+use mathlib.Core.Logic.{_⊎_, ⊎-elim}
 use mathlib.Core.List.{List}
-use Prim.Native.Nat.{ℕ, zero, suc, _+_, _≤_, _<_}
+use Prim.Native.Nat.{ℕ, zero, suc, _+_, _<_}
 use native.Mathlib.Numerals.{add-one}
 use native.Mathlib.Omega.{arith}
 use lib.Dec.{eqb, leb}
-use lib.ListN.{length, getD}
-use borrow.Author.Tests.{eq-eqb, ne-eqb, leb-true}
+use lib.ListN.{getD}
+use borrow.Author.Tests.{eq-eqb, leb-true}
 use Rattle.lists.specs.Cases.{eq-or-ne}
 use Rattle.lists.specs.Tests.{and-fst, and-snd}
-use Rattle.roll.specs.Format.{Entry, ruled}
+use Rattle.roll.specs.Format.{ruled}
 use Rattle.roll.specs.Reading.{fourAt, start, entryAt, ruledAt, countOf, trailerAt, isRoll, entriesOf}
 use Rattle.roll.specs.Starts.{follow-ruled}
 use Rattle.roll.specs.Holding.{is-following}
@@ -20,7 +20,6 @@ use Rattle.standing.specs.Register.{Register, registerOf, lawful, rule, 
 use Rattle.standing.specs.Walk.{recordOf, after, lawfulTo, entries-register, entries-lawful, by-rules}
 use Rattle.standing.specs.Chains.{Sound, endOf, end-zero, end-goes, sound}
 use Rattle.standing.specs.declared.Standing.{Standing}
-use Rattle.standing.specs.declared.Standing.the-variants.{Unknown, Retired, Current, Refused}
 
 -- ---- the rules over a register whose chains end
 

@@ -1,8 +1,8 @@
 -- The register that is read off a roll, record by record, and what the code's tests say of it. Assumes nothing.
-use mathlib.Core.Path.{_≡_, refl, sym, ap, ap₂, _∙_, subst}
+use mathlib.Core.Path.{_≡_, refl, sym, ap, ap₂, _∙_}
 use mathlib.Core.Bool.{Bool, true, false, not, _&&_, _||_, cond}
 use mathlib.Core.List.{List, [], _∷_, _++_}
-use Prim.Native.Nat.{ℕ, zero, suc, _+_, _-_, _*_, _≤_, _<_}
+use Prim.Native.Nat.{ℕ, zero, suc, _+_, _-_, _≤_, _<_}
 use native.Mathlib.Nat.{add-zero, add-suc, suc-add, zero-add}
 use native.Mathlib.Numerals.{add-one}
 use native.Mathlib.Omega.{arith}
@@ -12,14 +12,13 @@ use borrow.Author.Tests.{eq-eqb, ne-eqb}
 use Rattle.lists.specs.Tests.{every}
 use Rattle.lists.specs.Tab.{tab, tabFrom, length-tab}
 use Rattle.roll.specs.Format.{Entry}
-use Rattle.roll.specs.Roll.{Sized}
-use Rattle.roll.specs.Reading.{fourAt, start, entryAt, countOf, trailerAt, isRoll, entriesOf, rollBytes}
+use Rattle.roll.specs.Reading.{fourAt, start, entryAt, countOf, isRoll, entriesOf}
 use Rattle.roll.specs.Starts.{head-before}
 use Rattle.roll.specs.Holding.{is-sized}
 use Rattle.tables.specs.declared.Refusal.the-variants.{NotARoll, NotLawful}
 use Rattle.standing.specs.declared.Standing.{Standing}
-use Rattle.standing.specs.declared.Standing.the-variants.{Unknown, Retired, Current, Refused}
-use Rattle.standing.specs.Register.{Register, blank, delivers, retires, replaces, noted, notedAll, registerOf, allowed, allAllowed, lawful, rule, answer, standsNow}
+use Rattle.standing.specs.declared.Standing.the-variants.{Refused}
+use Rattle.standing.specs.Register.{Register, blank, delivers, retires, replaces, noted, notedAll, registerOf, allowed, allAllowed, lawful, answer, standsNow}
 
 -- record k of a roll
 unfoldable pub recordOf : List ℕ → ℕ → Entry

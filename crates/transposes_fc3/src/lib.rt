@@ -3,7 +3,7 @@
 // move them too.
 ghost use mathlib.Core.Path.{_≡_};
 ghost use mathlib.Core.Bool.{false, cond};
-ghost use Prim.Native.Nat.{_+_, _*_, _<_, _≤_};
+ghost use Prim.Native.Nat.{_+_, _<_, _≤_};
 ghost use lib.ListN.{length};
 ghost use Rattle.tables.specs.Compact.{shiftTables, shiftsOf};
 ghost use Rattle.transposes_fc3.specs.Fc3.{transposedBy, transposeCompactFc3};

@@ -22,17 +22,19 @@ file. The library has no state, and a call gives the interpreter's lock up: thre
 """
 from __future__ import annotations
 
-from . import cells, common, fc2, fc3, fc4, roll, tables
+from . import audit, cells, common, fc2, fc3, fc4, roll, tables
 from ._library import version, words
 from ._refused import Refused
+from .audit import Audit, audit_compact_fc2, audit_compact_fc3, audit_compact_fc4, audit_fc2, audit_fc3, audit_fc4, same_set
 from .cells import Match, Pairing, compute_permutation, find_permutation
 from .common import nint, round, sqrt
 from .fc2 import (
-    Along, Drift, DriftKind, compact_to_full_fc2, distribute_fc2, drift_report, perm_trans_symmetrize_compact_fc, perm_trans_symmetrize_fc, replace_block_fc2,
-    row_sums_fc2, set_index_permutation_symmetry_compact_fc, true_transpose_compact_fc2,
+    Along, Drift, DriftKind, compact_to_full_fc2, distribute_fc2, drift_report, drift_report_compact_fc2, perm_trans_symmetrize_compact_fc,
+    perm_trans_symmetrize_fc, replace_block_fc2, row_sums_fc2, set_index_permutation_symmetry_compact_fc, true_transpose_compact_fc2,
 )
 from .fc3 import (
-    compact_to_full_fc3, distribute_fc3, rotate_delta_fc2s, set_permutation_symmetry_compact_fc3, set_permutation_symmetry_fc3, transpose_compact_fc3,
+    LegDrift, compact_to_full_fc3, distribute_fc3, drift_report_fc3, rotate_delta_fc2s, set_permutation_symmetry_compact_fc3,
+    set_permutation_symmetry_fc3, transpose_compact_fc3,
     true_transpose_compact_fc3,
 )
 from .fc4 import (
@@ -44,7 +46,7 @@ from .tables import Tables, check_shift_tables
 
 __version__ = version()
 __all__ = [
-    "Along", "Drift", "DriftKind", "Match", "Pairing", "Refused", "Tables", "version", "words",
-    *common.__all__[0:1], "sqrt", *(n for m in (cells, fc2, fc3, fc4) for n in m.__all__ if n[0].islower()),
+    "Along", "Audit", "Drift", "DriftKind", "LegDrift", "Match", "Pairing", "Refused", "Tables", "version", "words",
+    *common.__all__[0:1], "sqrt", *(n for m in (audit, cells, fc2, fc3, fc4) for n in m.__all__ if n[0].islower()),
     "append_roll", "check_shift_tables", "is_roll", "is_roll_former", "read_roll", "read_roll_former", "retire_all", "stands_now",
 ]

@@ -5,36 +5,31 @@
 FILE: FORCE_CONSTANTS, force_constants.hdf5, fc2.hdf5, fc3.hdf5, .npy, or a delivery folder; full or compact. The columns and
 the exchange of atoms of a compact set are judged with shift tables: a delivery has them, for other files --cell names a
 phonopy.yaml. A sum or a difference is a fault if it is larger than the tolerance times the largest number of the set.
---symmetrize writes the symmetrized set, to a file (or folder, for a delivery) that is not there yet.
+--symmetrize writes the symmetrized set, to a file (or folder, for a delivery) that is not there yet. Of a delivery that has a
+certificate each line is held against the files, as `verify` does; a line that does not hold is a fault.
 Status 0: clean; 1: faults; 2: the file cannot be read, or a call was refused.
 """
 from __future__ import annotations
 
 import argparse
-import itertools
 import os
 import sys
-from typing import Any, Iterator, List, NamedTuple, Optional, Tuple
+from typing import List, NamedTuple, Optional, Tuple
 
 import numpy as np
 
 import gullyfork as gf
 
-from . import files
+from . import _look as look
+from . import certificate, files, picture
+from ._progress import Tell, quiet, terminal
 from .files import ForceConstants, Unreadable
+from .picture import Cell
 from .tables import Tables
 
 __all__ = ["Cell", "Finding", "check", "main"]
 
 _LARGEST, _SMALLEST = 1e30, 1e-290  # of the largest number of a set, in any unit in use
-
-
-class Cell(NamedTuple):
-    """What a check can know of the cell: the shift tables, basis vectors in rows, positions in them."""
-
-    tables: Tables
-    lattice: np.ndarray
-    positions: np.ndarray
 
 
 class Finding(NamedTuple):
@@ -43,72 +38,6 @@ class Finding(NamedTuple):
     lines: List[str]
     faults: List[str]
     symmetrized: Optional[np.ndarray]
-
-
-def _place(k: Any, atoms: int) -> str:
-    k = [int(i) for i in k]
-    return ("atom " if atoms == 1 else "atoms ") + " ".join(str(i) for i in k[:atoms]) + ", " + "".join("xyz"[i] for i in k[atoms:])
-
-
-def _worst(a: np.ndarray) -> Tuple[float, Tuple[int, ...]]:
-    if a.size == 0:
-        return 0.0, (0,) * a.ndim
-    k = np.unravel_index(np.argmax(np.abs(a)), a.shape)
-    return abs(float(a[k])), tuple(int(i) for i in k)
-
-
-def _permutations(order: int) -> List[Tuple[int, ...]]:
-    return [p for p in itertools.permutations(range(order)) if p != tuple(range(order))]
-
-
-def _exchanged(fc: np.ndarray, tables: Optional[Tables]) -> Iterator[np.ndarray]:
-    """The set with its (atom, direction) pairs in every other order, one after the other."""
-    order = fc.ndim // 2
-    if tables is None:
-        for p in _permutations(order):
-            yield fc.transpose(*p, *(order + k for k in p))
-    elif order == 2:
-        other = fc.copy()
-        gf.true_transpose_compact_fc2(other, tables)
-        yield other
-    else:  # every order of three pairs is one or two exchanges
-        for types in ((0,), (1,), (2,), (0, 1), (1, 0)):
-            other = fc.copy()
-            for t_type in types:
-                gf.true_transpose_compact_fc3(other, tables, t_type)
-            yield other
-
-
-def _symmetrize(fc: np.ndarray, tables: Optional[Tables], level: int) -> np.ndarray:
-    out = fc.copy()
-    if fc.ndim == 4 and tables is None:
-        gf.perm_trans_symmetrize_fc(out, level)
-    elif fc.ndim == 4:
-        gf.perm_trans_symmetrize_compact_fc(out, tables, level)
-    elif tables is None:
-        gf.set_permutation_symmetry_fc3(out)
-    else:
-        gf.set_permutation_symmetry_compact_fc3(out, tables)
-    return out
-
-
-def _columns(fc: np.ndarray, tables: Optional[Tables]) -> np.ndarray:
-    """The sums over the first atom: those over the last one of the set with its first and last pair exchanged."""
-    if tables is None:
-        return fc.sum(axis=0)
-    other = fc.copy()
-    if fc.ndim == 4:
-        gf.true_transpose_compact_fc2(other, tables)
-    else:
-        gf.true_transpose_compact_fc3(other, tables, 1)
-    return other.sum(axis=fc.ndim // 2 - 1)
-
-
-def _rows(fc: np.ndarray) -> np.ndarray:
-    """The sums over the last atom."""
-    if fc.ndim == 4 and fc.shape[0] == fc.shape[1]:
-        return gf.row_sums_fc2(fc)
-    return fc.sum(axis=fc.ndim // 2 - 1)
 
 
 class _Check:
@@ -128,12 +57,12 @@ class _Check:
         odd = np.argwhere(~np.isfinite(fc))
         if len(odd):
             nan = int(np.isnan(fc).sum())
-            self.say("numbers", f"{nan:,} NaN, {len(odd) - nan:,} infinite, the first at {_place(odd[0], order)}")
+            self.say("numbers", f"{nan:,} NaN, {len(odd) - nan:,} infinite, the first at {look.place(odd[0], order)}")
             self.faults.append("numbers that are not finite")
             return False
         empty = ~fc.any(axis=tuple(range(order, 2 * order)))
         rows = np.flatnonzero(empty.all(axis=tuple(range(1, order))))
-        self.scale = _worst(fc)[0]
+        self.scale = look.worst(fc)[0]
         zero = f"{int(empty.sum()):,} of {empty.size:,} blocks zero, {len(rows)} of {len(fc)} rows zero"
         self.say("numbers", f"all finite, largest {self.scale:.6g}, {zero}")
         if self.scale > _LARGEST or 0.0 < self.scale < _SMALLEST:
@@ -147,34 +76,38 @@ class _Check:
             self.faults.append(words)
 
     def drift(self, columns: bool) -> None:
-        value, k = _worst(_rows(self.fc))
-        self.say("drift, rows", f"worst sum {value:.3e} at {_place(k, self.order - 1)}")
+        value, k = look.worst(look.rows(self.fc))
+        self.say("drift, rows", f"worst sum {value:.3e} at {look.place(k, self.order - 1)}")
         self.judge(value, "rows that do not add up to zero")
         if columns:
-            value, k = _worst(_columns(self.fc, self.tables))
-            self.say("drift, columns", f"worst sum {value:.3e} at {_place(k, self.order - 1)}")
+            value, k = look.worst(look.columns(self.fc, self.tables))
+            self.say("drift, columns", f"worst sum {value:.3e} at {look.place(k, self.order - 1)}")
             self.judge(value, "columns that do not add up to zero")
+            self.say("drift report", look.drift_words(self.fc, self.tables))
 
     def exchange(self) -> None:
         same = np.ones(self.fc.shape, bool)
         widest: Tuple[float, Tuple[int, ...]] = (0.0, (0,) * self.fc.ndim)
-        for other in _exchanged(self.fc, self.tables):
-            difference = _worst(self.fc - other)
+        for other in look.exchanged(self.fc, self.tables):
+            difference = look.worst(self.fc - other)
             widest = max(widest, difference, key=lambda w: w[0])
-            same &= self.fc.view(np.int64) == np.ascontiguousarray(other).view(np.int64)
-        self.say("exchange", f"widest difference {widest[0]:.3e} at {_place(widest[1], self.order)}; "
+            same &= look.same_bits(self.fc, other)
+        self.say("exchange", f"widest difference {widest[0]:.3e} at {look.place(widest[1], self.order)}; "
                              f"{int(same.sum()):,} of {same.size:,} numbers have the same bits in all orders of their legs")
         self.judge(widest[0], "numbers that change when atoms are exchanged")
 
+    def audit(self) -> None:
+        self.say("audit", look.audit_words(look.audit(self.fc, self.tables), self.tables is not None))
+
     def symmetrizing(self) -> np.ndarray:
-        out = _symmetrize(self.fc, self.tables, self.level)
-        value, k = _worst(out - self.fc)
-        self.say("symmetrizing", f"would change a number by {value:.3e} at most, at {_place(k, self.order)}")
+        out = look.symmetrized(self.fc, self.tables, self.level)
+        value, k = look.worst(out - self.fc)
+        self.say("symmetrizing", f"would change a number by {value:.3e} at most, at {look.place(k, self.order)}")
         return out
 
 
-def check(found: ForceConstants, tables: Optional[Tables] = None, tolerance: float = 1e-6, level: int = 3) -> Finding:
-    """Judges a set. tables: those of a compact set; without them only its rows are judged.
+def check(found: ForceConstants, tables: Optional[Tables] = None, tolerance: float = 1e-6, level: int = 3, tell: Tell = quiet) -> Finding:
+    """Judges a set. tables: those of a compact set; without them only its rows are judged. tell: what is told each step that begins.
 
     >>> finding = check(ForceConstants(np.zeros((1, 1, 3, 3)) + np.eye(3), "an example"))
     >>> finding.faults
@@ -188,12 +121,20 @@ def check(found: ForceConstants, tables: Optional[Tables] = None, tolerance: flo
         _judge_tables(c, found, tables)
     elif not found.full:
         c.say("tables", "none: --cell gives them; columns and exchange are not judged")
+    out = None
+    tell(f"{found.source}: numbers")
     if c.numbers() and not any("tables" in f for f in c.faults):
+        tell(f"{found.source}: drift")
         c.drift(known)
         if known:
+            tell(f"{found.source}: exchange of atoms")
             c.exchange()
-            return Finding(c.lines, c.faults, c.symmetrizing())
-    return Finding(c.lines, c.faults, None)
+            tell(f"{found.source}: audit")
+            c.audit()
+            tell(f"{found.source}: symmetrizing")
+            out = c.symmetrizing()
+    tell("")
+    return Finding(c.lines, c.faults, out)
 
 
 def _judge_tables(c: _Check, found: ForceConstants, tables: Tables) -> None:
@@ -230,57 +171,6 @@ def read_cell(path: str) -> Cell:
     return Cell(Tables.of(p.primitive), np.array(p.supercell.cell), np.array(p.supercell.scaled_positions))
 
 
-def _distances(cell: Cell, first: np.ndarray) -> np.ndarray:
-    """From each of the first atoms to the nearest image of every atom."""
-    d = cell.positions[None, :, :] - cell.positions[first][:, None, :]
-    d -= np.rint(d)
-    images = np.array(list(itertools.product((-1, 0, 1), repeat=3)))
-    return np.sqrt((((d[:, :, None, :] + images) @ cell.lattice) ** 2).sum(axis=-1).min(axis=-1))
-
-
-# ---- plot
-
-def plot(path: str, found: ForceConstants, finding: Finding, cell: Optional[Cell]) -> None:
-    """Drift by atom before and after, norm of blocks by distance (or their distribution, without a cell), differences under exchange."""
-    try:
-        import matplotlib
-    except ImportError:
-        raise ImportError("--plot needs matplotlib (Debian: python3-matplotlib)") from None
-    matplotlib.use("Agg")
-    import matplotlib.pyplot as plt
-
-    fc, order, least = found.array, found.order, 1e-18
-    tables = cell.tables if cell and not found.full else None
-    known = found.full or tables is not None
-    figure, (left, middle, right) = plt.subplots(1, 3, figsize=(14, 4))
-    for a, name, color in ((fc, "as it is", "C0"), (finding.symmetrized, "symmetrized", "C1")):
-        if a is not None:
-            sums = np.abs(_rows(a))
-            left.semilogy(sums.reshape(len(sums), -1).max(axis=1) + least, "o", color=color, fillstyle="none", label=f"rows, {name}")
-            if known:
-                sums = np.abs(_columns(a, tables))
-                left.semilogy(sums.reshape(len(sums), -1).max(axis=1) + least, "x", color=color, label=f"columns, {name}")
-    left.set(xlabel="atom", ylabel="worst sum", title="drift")
-    left.legend()
-    norms = np.sqrt((fc ** 2).sum(axis=tuple(range(order, 2 * order))))
-    if cell is not None:
-        far = _distances(cell, np.arange(len(fc)) if found.full else cell.tables.p2s)
-        if order == 3:
-            far = np.maximum(far[:, :, None], far[:, None, :])
-        middle.semilogy(far.ravel(), norms.ravel() + least, ".", markersize=2)
-        middle.set(xlabel="distance" if order == 2 else "larger distance from the first atom", ylabel="norm of a block", title="blocks")
-    else:
-        middle.hist(np.log10(norms[norms > 0]), bins=60)
-        middle.set(xlabel="log10 of a block's norm", title="blocks")
-    if known:
-        wide = np.max([np.abs(fc - other) for other in _exchanged(fc, tables)], axis=0)
-        right.hist(np.log10(wide.ravel() + least), bins=60)
-    right.set(xlabel="log10 of the difference (-18: none)", title="exchange of atoms")
-    figure.tight_layout()
-    figure.savefig(path)
-    plt.close(figure)
-
-
 # ---- the command
 
 def _print(name: str, found: ForceConstants, finding: Finding) -> None:
@@ -315,21 +205,50 @@ def _plots(path: str, names: List[str]) -> List[str]:
     return paths
 
 
+def _draw(path: str, name: str, found: ForceConstants, finding: Finding, cell: Optional[Cell], tell: Tell) -> None:
+    if not np.isfinite(found.array).all():
+        print("drawn          nothing: numbers that are not finite")
+    elif cell is not None and finding.symmetrized is None:
+        print("drawn          nothing: tables that are not of this set")
+    else:
+        tell(f"drawing of {path}")
+        picture.draw(path, name, found, finding.symmetrized, cell)
+        tell("")
+        print(f"drawn          {path}")
+
+
+def _certified(folder: str) -> List[str]:
+    """Prints what holds of the delivery's certificate, if it has one; what does not, as faults."""
+    path = os.path.join(folder, certificate.NAME)
+    if not os.path.lexists(path):
+        return []
+    print(f"{path}:")
+    wrong, whole = certificate.print_lines(folder)
+    return [f"{certificate.NAME}: {name}" for name in wrong] + ([] if whole else [f"{certificate.NAME}: the delivery cannot be read"])
+
+
 def _check_delivery(a: argparse.Namespace) -> int:
     if a.cell:
         raise Unreadable(f"{a.file}: a delivery has its own cell; leave --cell out")
     plots = _plots(a.plot, ["fc2", "fc3"]) if a.plot else []
-    d = files.read_delivery(a.file)
+    faults, tell = _certified(a.file), terminal()
+    sets: List[Optional[np.ndarray]] = []
+    try:
+        d = files.read_delivery(a.file)
+    except Unreadable as e:
+        if not faults:
+            raise
+        print(f"gullyfork: {e}", file=sys.stderr)
+        return _verdict(faults)
     cell = Cell(d.tables, d.lattice, d.positions)
-    faults, sets = [], []
     for name, array in (("fc2.f64", d.fc2), ("fc3.f64", d.fc3)):
-        found = ForceConstants(array, name)
-        finding = check(found, d.tables, a.tolerance, a.level)
-        _print(os.path.join(a.file, name), found, finding)
+        found, path = ForceConstants(array, name), os.path.join(a.file, name)
+        finding = check(found, d.tables, a.tolerance, a.level, tell)
+        _print(path, found, finding)
         faults += [f"{name}: {fault}" for fault in finding.faults]
+        if plots:
+            _draw(plots[len(sets)], path, found, finding, cell, tell)
         sets.append(finding.symmetrized)
-        if plots and np.isfinite(array).all():
-            plot(plots[len(sets) - 1], found, finding, cell)
     fc2, fc3 = sets
     if a.symmetrize and fc2 is not None and fc3 is not None:
         files.write_delivery(a.symmetrize, d._replace(fc2=fc2, fc3=fc3))
@@ -337,13 +256,13 @@ def _check_delivery(a: argparse.Namespace) -> int:
 
 
 def _check_file(a: argparse.Namespace) -> int:
-    plots = _plots(a.plot, []) if a.plot else []
+    plots, tell = _plots(a.plot, []) if a.plot else [], terminal()
     found = files.read(a.file)
     cell = read_cell(a.cell) if a.cell else None
-    finding = check(found, cell.tables if cell else None, a.tolerance, a.level)
+    finding = check(found, cell.tables if cell else None, a.tolerance, a.level, tell)
     _print(a.file, found, finding)
-    if plots and np.isfinite(found.array).all():
-        plot(plots[0], found, finding, cell)
+    if plots:
+        _draw(plots[0], a.file, found, finding, cell, tell)
     if a.symmetrize and finding.symmetrized is not None:
         files.write(a.symmetrize, finding.symmetrized, found.p2s, found.unit)
     return _ended(a, finding.symmetrized is not None, finding.faults)
@@ -359,16 +278,21 @@ def main(arguments: Optional[List[str]] = None) -> int:
     """The command; its status."""
     parser = argparse.ArgumentParser(prog="python -m gullyfork", description="What is wrong with a set of force constants.")
     parser.add_argument("--version", action="version", version=f"gullyfork {gf.version()}")
-    command = parser.add_subparsers(dest="command", required=True).add_parser(
+    commands = parser.add_subparsers(dest="command", required=True)
+    commands.add_parser("verify", description=certificate.__doc__, formatter_class=argparse.RawDescriptionHelpFormatter,
+                        help="hold a delivery against its certificate").add_argument("folder", metavar="FOLDER")
+    command = commands.add_parser(
         "check", description=__doc__, formatter_class=argparse.RawDescriptionHelpFormatter, help="judge a file or a delivery folder")
     command.add_argument("file", metavar="FILE")
     command.add_argument("--cell", metavar="YAML", help="a phonopy.yaml: shift tables and distances")
     command.add_argument("--tolerance", type=float, default=1e-6, help="of sums and differences, as a part of the largest number (1e-6)")
     command.add_argument("--level", type=int, default=3, help="of the symmetrizer of second order (3)")
-    command.add_argument("--plot", metavar="PNG", help="draw drift, blocks and exchange")
+    command.add_argument("--plot", metavar="PNG", help="draw drift, blocks, exchange, and where the audit fails")
     command.add_argument("--symmetrize", metavar="OUT", help="write the symmetrized set; OUT is not there yet")
     a = parser.parse_args(arguments)
     try:
+        if a.command == "verify":
+            return certificate.main(a.folder)
         if not 0.0 <= a.tolerance < float("inf"):
             raise Unreadable(f"--tolerance {a.tolerance}: a number from 0 on")
         if a.symmetrize:

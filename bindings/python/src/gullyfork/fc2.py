@@ -9,9 +9,11 @@ import numpy as np
 from . import _arrays
 from ._compact import compact, full_set
 from ._run import memory, run
+from .tables import Tables
 
-__all__ = ["Along", "Drift", "DriftKind", "compact_to_full_fc2", "distribute_fc2", "drift_report", "perm_trans_symmetrize_compact_fc",
-           "perm_trans_symmetrize_fc", "replace_block_fc2", "row_sums_fc2", "set_index_permutation_symmetry_compact_fc", "true_transpose_compact_fc2"]
+__all__ = ["Along", "Drift", "DriftKind", "compact_to_full_fc2", "distribute_fc2", "drift_report", "drift_report_compact_fc2",
+           "perm_trans_symmetrize_compact_fc", "perm_trans_symmetrize_fc", "replace_block_fc2", "row_sums_fc2",
+           "set_index_permutation_symmetry_compact_fc", "true_transpose_compact_fc2"]
 
 
 def perm_trans_symmetrize_fc(fc: np.ndarray, level: int = 1) -> None:
@@ -96,8 +98,27 @@ def drift_report(fc: Any) -> Drift:
     n = _arrays.full(fc, "fc", 2)
     value, place = np.zeros(1), np.zeros(4, np.uintp)
     answer = run("drift_report", 2, read={"fc": (fc, fc.shape)}, made={"value": value, "place": place}, values={"n_satom": n})
+    return _report(answer, value, place)
+
+
+def _report(answer: int, value: np.ndarray, place: np.ndarray) -> Drift:
     along, atom, i, j = (int(x) for x in place)
     return Drift(DriftKind(answer), float(value[0]), Along(along), atom, (i, j))
+
+
+def drift_report_compact_fc2(fc: Any, tables: Any) -> Drift:
+    """How far the rows and the columns of a compact set, read out to all atoms, are from adding up to zero.
+
+    >>> drift = drift_report_compact_fc2(np.eye(3).reshape(1, 1, 3, 3), ([0], [0], [0], [[0]]))
+    >>> drift.kind.name, drift.value, drift.along.name, drift.atom, drift.directions
+    ('WORST', 1.0, 'ROWS', 0, (0, 0))
+    """
+    fc = _arrays.numbers(fc, "fc")
+    t = tables if type(tables) is Tables else Tables.given(tables)
+    _arrays.of_order(fc, "fc", 2)
+    value, place = np.zeros(1), np.zeros(4, np.uintp)
+    answer = run("drift_report_compact_fc2", 2, read={"fc": (fc, t.shapes[0])}, made={"value": value, "place": place}, tables=t)
+    return _report(answer, value, place)
 
 
 def distribute_fc2(fc2: np.ndarray, atom_list: Any, fc_indices_of_atom_list: Any, r_carts: Any, permutations: Any, map_atoms: Any,

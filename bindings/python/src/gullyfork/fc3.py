@@ -1,7 +1,7 @@
 """Third order: sets of shape (n, m, m, 3, 3, 3), of doubles, changed in place."""
 from __future__ import annotations
 
-from typing import Any, Optional
+from typing import Any, NamedTuple, Optional, Tuple
 
 import numpy as np
 
@@ -9,9 +9,10 @@ from . import _arrays
 from ._compact import compact, full_set
 from ._deltas import distribute, rotate
 from ._run import run
+from .fc2 import DriftKind
 
-__all__ = ["compact_to_full_fc3", "distribute_fc3", "rotate_delta_fc2s", "set_permutation_symmetry_compact_fc3", "set_permutation_symmetry_fc3",
-           "transpose_compact_fc3", "true_transpose_compact_fc3"]
+__all__ = ["LegDrift", "compact_to_full_fc3", "distribute_fc3", "drift_report_fc3", "rotate_delta_fc2s", "set_permutation_symmetry_compact_fc3",
+           "set_permutation_symmetry_fc3", "transpose_compact_fc3", "true_transpose_compact_fc3"]
 
 
 def set_permutation_symmetry_fc3(fc3: np.ndarray) -> None:
@@ -104,3 +105,33 @@ def compact_to_full_fc3(fc3: Any, tables: Any, *, out: Optional[np.ndarray] = No
     True
     """
     return full_set("compact_to_full_fc3", fc3, 3, tables, out)
+
+
+
+
+class LegDrift(NamedTuple):
+    """A drift report of third order: the largest absolute value of a sum over a leg (0, 1 or 2), and the first sum that has it (or the
+    first that is NaN), by the atoms of the two other legs and the directions. The sums over the last leg come first."""
+
+    kind: DriftKind
+    value: float
+    leg: int
+    atoms: Tuple[int, int]
+    directions: Tuple[int, int, int]
+
+
+def drift_report_fc3(fc: Any) -> LegDrift:
+    """How far the sums over each leg of a full set are from zero: what phono3py prints as drift.
+
+    >>> fc3 = np.zeros((2, 2, 2, 3, 3, 3))
+    >>> fc3[1, 0, 0, 0, 0, 0], fc3[1, 0, 1, 0, 0, 0] = 1.0, -1.0
+    >>> drift = drift_report_fc3(fc3)
+    >>> drift.kind.name, drift.value, drift.leg, drift.atoms, drift.directions
+    ('WORST', 1.0, 1, (1, 0), (0, 0, 0))
+    """
+    fc = _arrays.numbers(fc, "fc")
+    n = _arrays.full(fc, "fc", 3)
+    value, place = np.zeros(1), np.zeros(6, np.uintp)
+    answer = run("drift_report_fc3", 3, read={"fc": (fc, fc.shape)}, made={"value": value, "place": place}, values={"num_atom": n})
+    leg, a, b, i, j, k = (int(x) for x in place)
+    return LegDrift(DriftKind(answer), float(value[0]), leg, (a, b), (i, j, k))

@@ -12,9 +12,14 @@ ForceConstants(order 2, compact, 1 x 2 atoms, from FORCE_CONSTANTS)
 """
 from __future__ import annotations
 
+import errno
+import io
+import math
 import os
+import re
+import stat
 from dataclasses import dataclass
-from typing import Any, Callable, List, NamedTuple, Optional, Sequence, Tuple
+from typing import Any, BinaryIO, Callable, List, NamedTuple, Optional, Sequence, Tuple
 
 import numpy as np
 
@@ -23,6 +28,8 @@ from .tables import Tables
 __all__ = ["Delivery", "ForceConstants", "Unreadable", "read", "read_delivery", "write", "write_delivery"]
 
 _NPY, _HDF5 = b"\x93NUMPY", b"\x89HDF\r\n\x1a\n"
+_LONGEST = 1 << 20  # letters of a line of text
+_NO_TEXT = re.compile(r"[^\t\r\n -~]")
 _DATASETS = {"fc3": 3, "fc4": 4, "force_constants": 2, "fc2": 2}
 
 
@@ -73,13 +80,21 @@ def _judged(a: np.ndarray, path: str, source: str, p2s: Any = None, unit: Option
 
 # ---- reading
 
+def opened(path: str) -> BinaryIO:
+    """A file to read from; a pipe or a device, which might never end, is an OSError as what cannot be opened is."""
+    mode = os.stat(path).st_mode
+    if not stat.S_ISREG(mode) and not stat.S_ISDIR(mode):  # of a folder `open` says it
+        raise OSError(errno.EINVAL, "it is no file, but a pipe or a device", path)
+    return open(path, "rb")
+
+
 def read(path: str) -> ForceConstants:
     """The set in a file, of whichever kind it is."""
     path = os.fspath(path)
     if os.path.isdir(path):
         raise Unreadable(f"{path}: a folder: read_delivery reads a delivery")
     try:
-        with open(path, "rb") as f:
+        with opened(path) as f:
             first = f.read(8)
         if first.startswith(_NPY):
             return _read_npy(path)
@@ -130,7 +145,7 @@ class _Lines:
     """The lines of a text that are not blank, one after the other, each with its words and its number."""
 
     def __init__(self, path: str) -> None:
-        self.path, self.number, self.file = path, 0, open(path, encoding="ascii")
+        self.path, self.number, self.file = path, 0, io.TextIOWrapper(opened(path), encoding="ascii", newline="\n")
 
     def __enter__(self) -> "_Lines":
         return self
@@ -144,8 +159,12 @@ class _Lines:
     def _words(self) -> List[str]:
         """The words of the next line that has any; none at the end of the file."""
         try:
-            while line := self.file.readline():
+            while line := self.file.readline(_LONGEST):
                 self.number += 1
+                if len(line) == _LONGEST:
+                    raise self.bad(self.number, f"it is longer than {_LONGEST:,} letters, and no line is")
+                if _NO_TEXT.search(line):
+                    raise self.bad(self.number, "it has a byte that is none of a text")
                 words = line.split()
                 if words:
                     return words
@@ -367,10 +386,12 @@ def _read_cell(path: str, n_satom: int) -> Tuple[np.ndarray, List[str], np.ndarr
 
 
 def _read_numbers(path: str, shape: Tuple[int, ...]) -> np.ndarray:
-    size, asked = os.path.getsize(path), 8 * int(np.prod(shape))
-    if size != asked:
-        raise Unreadable(f"{path}: it has {size} bytes, the counts ask for {asked // 8} numbers of 8 bytes, {asked}")
-    return np.fromfile(path, "<f8").reshape(shape).astype(np.float64, copy=False)
+    asked = 8 * math.prod(shape)
+    with opened(path) as f:
+        size = os.fstat(f.fileno()).st_size
+        if size != asked:
+            raise Unreadable(f"{path}: it has {size} bytes, the counts ask for {asked // 8} numbers of 8 bytes, {asked}")
+        return np.fromfile(f, "<f8").reshape(shape).astype(np.float64, copy=False)
 
 
 def write_delivery(folder: str, d: Delivery, overwrite: bool = False) -> None:

@@ -1,5 +1,5 @@
 -- `capi_cells::call_fits` meets its contract. Assumes nothing.
-use mathlib.Core.Path.{_≡_, refl, sym, _∙_}
+use mathlib.Core.Path.{refl, sym, _∙_}
 use borrow.Author.Needs.{needs}
 use Rattle.capi_cells.proofs.call_fits.Statement.{statement}
 use Rattle.capi_cells.proofs.call_fits.Tie as tie

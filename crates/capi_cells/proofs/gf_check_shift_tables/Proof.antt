@@ -1,5 +1,5 @@
 -- `capi_cells::gf_check_shift_tables` meets its contract. Assumes nothing.
-use mathlib.Core.Path.{_≡_, ap, _∙_}
+use mathlib.Core.Path.{ap, _∙_}
 use borrow.Author.Needs.{needs}
 use Rattle.tables.specs.Answers.{numberOf}
 use Rattle.capi_cells.proofs.gf_check_shift_tables.Statement.{statement}

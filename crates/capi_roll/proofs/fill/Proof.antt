@@ -5,8 +5,6 @@ use Rattle.capi_roll.specs.Told.{six-slots}
 use borrow.Author.Needs.{needs}
 use Rattle.capi_roll.proofs.fill.Statement.{statement}
 use Rattle.capi_roll.proofs.fill.Tie as tie
-use Rattle.capi_roll.proofs.fill.Reads as reads
-use Rattle.capi_roll.proofs.fill.Lts as lts
 
 slice-write-slots : tie.Need-slice-write-slots
 slice-write-slots c = search needs

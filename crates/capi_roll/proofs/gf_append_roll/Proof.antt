@@ -4,13 +4,6 @@ use Rattle.capi_roll.specs.Told.{append-told, append-slot}
 use borrow.Author.Needs.{needs}
 use Rattle.capi_roll.proofs.gf_append_roll.Statement.{statement}
 use Rattle.capi_roll.proofs.gf_append_roll.Tie as tie
-use Rattle.capi_roll.proofs.gf_append_roll.Reads as reads
-use Rattle.capi_roll.proofs.gf_append_roll.Lts as lts
-use Rattle.capi_roll.proofs.report.Reads as report-reads
-use Rattle.capi_roll.proofs.seven_or_two.Reads as seven-or-two-reads
-use Rattle.roll_append.proofs.append.Reads as append-reads
-use Rattle.roll_append.proofs.judge_append.Reads as judge-append-reads
-use Rattle.roll_append.proofs.number_of_appended.Reads as number-of-appended-reads
 
 append-requires : tie.Need-append-requires
 append-requires c κs = search needs

@@ -1,15 +1,9 @@
 -- `capi_roll::gf_read_roll` meets its contract. Assumes nothing.
-use Rattle.roll.specs.Reading.{isRoll}
 use Rattle.roll.specs.Holding.{is-framed}
 use Rattle.capi_roll.specs.Told.{read-within, read-told}
 use borrow.Author.Needs.{needs}
 use Rattle.capi_roll.proofs.gf_read_roll.Statement.{statement}
 use Rattle.capi_roll.proofs.gf_read_roll.Tie as tie
-use Rattle.capi_roll.proofs.gf_read_roll.Reads as reads
-use Rattle.capi_roll.proofs.gf_read_roll.Lts as lts
-use Rattle.capi_roll.proofs.tell_in.Reads as tell-in-reads
-use Rattle.roll.proofs.roll_bytes.Reads as roll-bytes-reads
-use Rattle.roll_read.proofs.reading.read_at.Reads as read-at-reads
 
 tell-in-requires : tie.Need-tell-in-requires
 tell-in-requires c κs = read-within _ _ _ (is-framed _) (c .before .read-at .ensures)

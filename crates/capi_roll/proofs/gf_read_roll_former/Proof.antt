@@ -1,15 +1,9 @@
 -- `capi_roll::gf_read_roll_former` meets its contract. Assumes nothing.
-use Rattle.roll.specs.Reading.{isFormerRoll}
 use Rattle.roll.specs.Holding.{former-framed}
 use Rattle.capi_roll.specs.Told.{read-within, read-told-former}
 use borrow.Author.Needs.{needs}
 use Rattle.capi_roll.proofs.gf_read_roll_former.Statement.{statement}
 use Rattle.capi_roll.proofs.gf_read_roll_former.Tie as tie
-use Rattle.capi_roll.proofs.gf_read_roll_former.Reads as reads
-use Rattle.capi_roll.proofs.gf_read_roll_former.Lts as lts
-use Rattle.capi_roll.proofs.tell_in.Reads as tell-in-reads
-use Rattle.roll.proofs.roll_bytes.Reads as roll-bytes-reads
-use Rattle.roll_read.proofs.reading.read_at_former.Reads as read-at-former-reads
 
 tell-in-requires : tie.Need-tell-in-requires
 tell-in-requires c κs = read-within _ _ _ (former-framed _) (c .before .read-at-former .ensures)

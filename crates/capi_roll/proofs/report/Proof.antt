@@ -3,9 +3,6 @@ use Rattle.capi_roll.specs.Told.{reported-count, reported-refused}
 use borrow.Author.Needs.{needs}
 use Rattle.capi_roll.proofs.report.Statement.{statement}
 use Rattle.capi_roll.proofs.report.Tie as tie
-use Rattle.capi_roll.proofs.report.Reads as reads
-use Rattle.capi_roll.proofs.report.Lts as lts
-use Rattle.tables.proofs.refusal_number.Reads as refusal-number-reads
 
 enum-known-a : tie.Need-enum-known-a
 enum-known-a c = search needs

@@ -1,10 +1,7 @@
 -- `capi_roll::seven_or_two` meets its contract. Assumes nothing.
 use Rattle.capi_roll.specs.Told.{is-seven, is-two}
-use borrow.Author.Needs.{needs}
 use Rattle.capi_roll.proofs.seven_or_two.Statement.{statement}
 use Rattle.capi_roll.proofs.seven_or_two.Tie as tie
-use Rattle.capi_roll.proofs.seven_or_two.Reads as reads
-use Rattle.capi_roll.proofs.seven_or_two.Lts as lts
 
 returns : tie.Need-returns
 returns c = is-seven (c .if1 .taken)

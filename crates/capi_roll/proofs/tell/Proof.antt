@@ -4,11 +4,6 @@ use Rattle.capi_roll.specs.Told.{told-record, told-end, told-refused}
 use borrow.Author.Needs.{needs}
 use Rattle.capi_roll.proofs.tell.Statement.{statement}
 use Rattle.capi_roll.proofs.tell.Tie as tie
-use Rattle.capi_roll.proofs.tell.Reads as reads
-use Rattle.capi_roll.proofs.tell.Lts as lts
-use Rattle.capi_roll.proofs.fill.Reads as fill-reads
-use Rattle.roll.proofs.numbers.wide.Reads as wide-reads
-use Rattle.tables.proofs.refusal_number.Reads as refusal-number-reads
 
 add-wide : tie.Need-add-wide
 add-wide c =

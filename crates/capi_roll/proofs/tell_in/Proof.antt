@@ -3,11 +3,6 @@ use Rattle.capi_roll.specs.Told.{told-six, told-slots}
 use borrow.Author.Needs.{needs}
 use Rattle.capi_roll.proofs.tell_in.Statement.{statement}
 use Rattle.capi_roll.proofs.tell_in.Tie as tie
-use Rattle.capi_roll.proofs.tell_in.Reads as reads
-use Rattle.capi_roll.proofs.tell_in.Lts as lts
-use Rattle.capi_roll.proofs.seven_or_two.Reads as seven-or-two-reads
-use Rattle.capi_roll.proofs.tell.Reads as tell-reads
-use Rattle.roll_read.proofs.item_number.Reads as item-number-reads
 
 tell-requires : tie.Need-tell-requires
 tell-requires c κs = (c .before .if1 .taken, c .before .before .before .before .pre)

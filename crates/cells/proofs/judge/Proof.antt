@@ -7,8 +7,6 @@ use Rattle.cells.specs.Matching.{judged}
 use borrow.Author.Needs.{needs}
 use Rattle.cells.proofs.judge.Statement.{statement}
 use Rattle.cells.proofs.judge.Tie as tie
-use Rattle.cells.proofs.judge.Reads as reads
-use Rattle.cells.proofs.judge.Lts as lts
 
 -- the fact that an edit of the test for it breaks
 other-length : (lenSlots lenPos lenRot n : ℕ) → n ≤ 1024 → lenSlots ≡ n → lenPos ≡ 3 * n → (lenRot ≡ 3 * n → ⊥) → Refused WrongLength ≡ judged lenSlots lenPos lenRot n

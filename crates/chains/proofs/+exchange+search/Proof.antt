@@ -1,15 +1,15 @@
 -- `chains::search` and `exchange`, which call each other, meet their contracts. Assumes nothing.
 use borrow.Author.Needs.{needs}
-use mathlib.Core.Path.{_≡_, refl, sym, ap, _∙_, subst}
+use mathlib.Core.Path.{_≡_, refl, sym, ap, _∙_}
 use native.Mathlib.Omega.{arith}
-use lib.ListN.{length, set, length-set}
+use lib.ListN.{length, length-set}
 use lib.IntN.{pos}
 use Rattle.distances.specs.Near.{near}
 use borrow.Author.Tests.{eq-eqb, ne-eqb}
 use Rattle.matchings.specs.Groups.{held-below}
 use Rattle.chains.specs.Steps.{filled-pos, free-neg, tried-far, tried-free, tried-met, deeper, tried-found, tried-stuck, looked-none, trying, looked-more, searched-found, searched-stuck}
-use Rattle.chains.specs.Chains.{Ready, Trying, Searched, Tried, Looked}
-use Prim.Native.Nat.{ℕ, _+_, _-_, _*_, _≤_, _<_}
+use Rattle.chains.specs.Chains.{Looked}
+use Prim.Native.Nat.{ℕ, _+_, _-_, _≤_, _<_}
 use borrow.Fn.Kinds.{In}
 use borrow.Fn.PlainCycle.{Measures, is, falls, and}
 use Rattle.chains.proofs.exchange.Reads as exchange

@@ -1,7 +1,6 @@
 use mathlib.Core.Path.{_≡_, refl, sym, ap, ap₂, _∙_, subst}
 use Prim.Native.Nat.{ℕ, _+_, _*_, _%_, _<_, _≤_}
 use native.Mathlib.Omega.{arith}
-use lib.ListN.{length}
 use Rattle.blocks.specs.Block.{block}
 use Rattle.tables.specs.Conditions.{indexAt, Readable}
 use Rattle.rotations.specs.Rotation.{coefficients, rotated}

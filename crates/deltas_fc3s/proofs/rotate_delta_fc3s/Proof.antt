@@ -1,5 +1,4 @@
 use mathlib.Core.Path.{sym, _∙_}
-use Prim.Native.Nat.{_*_}
 use lib.Dec.{lit≤}
 use Rattle.tables.specs.Answers.{is-done}
 use Rattle.deltas.specs.Guard.{ready, refused, done-call}

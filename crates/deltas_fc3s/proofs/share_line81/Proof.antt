@@ -1,4 +1,4 @@
-use mathlib.Core.Path.{_≡_, refl, sym, ap, _∙_, subst}
+use mathlib.Core.Path.{_≡_, refl, _∙_}
 use mathlib.Core.List.{List}
 use Prim.Native.Nat.{ℕ, _+_, _-_, _*_, _<_, _≤_}
 use native.Mathlib.Omega.{arith}
@@ -8,8 +8,8 @@ use borrow.Author.Needs.{needs}
 use Rattle.lists.specs.Tab.{times, times-none, times-more}
 use Rattle.tables.specs.Conditions.{indexAt}
 use Rattle.rotations.specs.Rotation.{coefficients, rotated}
-use Rattle.slabs.specs.SlabLaws.{Inside, inside-atom, inside-block, inside-small}
-use Rattle.deltas.specs.Rows.{share, spread}
+use Rattle.slabs.specs.SlabLaws.{inside-atom, inside-block, inside-small}
+use Rattle.deltas.specs.Rows.{spread}
 use Rattle.deltas_fc3s.proofs.share_line81.Statement.{statement}
 use Rattle.deltas_fc3s.proofs.share_line81.Tie as tie
 

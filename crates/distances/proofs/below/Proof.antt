@@ -1,13 +1,10 @@
 use Rattle.distances.proofs.Numbers.{squares-far, root-far, root-none, told-near, told-none}
 use lib.Dec.{T}
 use lib.Ieee.{Float, lt}
-use mathlib.Core.Path.{_≡_, sym, ap, subst, _∙_}
+use mathlib.Core.Path.{sym, ap, subst, _∙_}
 use borrow.Author.Needs.{needs}
 use Rattle.distances.proofs.below.Statement.{statement}
 use Rattle.distances.proofs.below.Tie as tie
-use Rattle.distances.proofs.below.Reads as reads
-use Rattle.distances.proofs.below.Lts as lts
-use Rattle.common.proofs.sqrt.Reads as sqrt-reads
 
 returns : tie.Need-returns
 returns c =

@@ -1,6 +1,4 @@
 -- `distances::early_in` meets its contract. Assumes nothing.
-use lib.Ieee.{nan}
-use lib.ListN.{getD}
 use Rattle.distances.proofs.Numbers.{never-early, never-only}
 use borrow.Author.Needs.{needs}
 use Rattle.distances.proofs.early_in.Statement.{statement}

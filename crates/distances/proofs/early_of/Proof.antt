@@ -3,8 +3,6 @@ use lib.Dec.{T}
 use mathlib.Core.Path.{sym, subst}
 use Rattle.distances.proofs.early_of.Statement.{statement}
 use Rattle.distances.proofs.early_of.Tie as tie
-use Rattle.distances.proofs.early_of.Reads as reads
-use Rattle.distances.proofs.early_of.Lts as lts
 
 returns : tie.Need-returns
 returns c =

@@ -1,5 +1,5 @@
 -- `distances::root_below` meets its contract. Assumes nothing.
-use mathlib.Core.Path.{_≡_, sym, ap, subst}
+use mathlib.Core.Path.{sym, ap, subst}
 use lib.Dec.{T}
 use lib.Ieee.{Float, lt}
 use borrow.Author.Needs.{needs}

@@ -2,14 +2,10 @@ use Rattle.distances.proofs.Squares.{sum-plus}
 use Rattle.distances.proofs.Numbers.{first-far}
 use Rattle.distances.specs.Near.{squares}
 use lib.Dec.{T}
-use mathlib.Core.Path.{_≡_, sym, subst}
+use mathlib.Core.Path.{sym, subst}
 use borrow.Author.Needs.{needs}
 use Rattle.distances.proofs.short.Statement.{statement}
 use Rattle.distances.proofs.short.Tie as tie
-use Rattle.distances.proofs.short.Reads as reads
-use Rattle.distances.proofs.short.Lts as lts
-use Rattle.distances.proofs.below.Reads as below-reads
-use Rattle.distances.proofs.dot.Reads as dot-reads
 
 array-read-dot : tie.Need-array-read-dot
 array-read-dot c = search needs

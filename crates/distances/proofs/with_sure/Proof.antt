@@ -7,9 +7,6 @@ use mathlib.Core.Bool.{true}
 use borrow.Author.Needs.{needs}
 use Rattle.distances.proofs.with_sure.Statement.{statement}
 use Rattle.distances.proofs.with_sure.Tie as tie
-use Rattle.distances.proofs.with_sure.Reads as reads
-use Rattle.distances.proofs.with_sure.Lts as lts
-use Rattle.common.proofs.sqrt.Reads as sqrt-reads
 
 sqrt-requires : tie.Need-sqrt-requires
 sqrt-requires c κs = search needs

@@ -4,9 +4,6 @@ use lib.Ieee.{binary64, sub}
 use borrow.Author.Needs.{needs}
 use Rattle.distances.proofs.wrapped.Statement.{statement}
 use Rattle.distances.proofs.wrapped.Tie as tie
-use Rattle.distances.proofs.wrapped.Reads as reads
-use Rattle.distances.proofs.wrapped.Lts as lts
-use Rattle.common.proofs.round.Reads as round-reads
 
 returns : tie.Need-returns
 returns c =

@@ -1,6 +1,6 @@
-use mathlib.Core.Path.{_≡_, refl, sym, ap, _∙_, subst}
-use mathlib.Core.Bool.{true, false, not}
-use Prim.Native.Nat.{ℕ, _+_, _-_, _<_, _≤_}
+use mathlib.Core.Path.{_≡_, sym, ap, _∙_}
+use mathlib.Core.Bool.{false, not}
+use Prim.Native.Nat.{_-_, _≤_}
 use native.Mathlib.Omega.{arith}
 use lib.ListN.{length}
 use Rattle.lists.specs.Tests.{some, some-of}
@@ -9,9 +9,6 @@ use Rattle.distribute_fc2.specs.Fc2Laws.{none-yet, none-more}
 use borrow.Author.Needs.{needs}
 use Rattle.distribute_fc2.proofs.bad_representative.Statement.{statement}
 use Rattle.distribute_fc2.proofs.bad_representative.Tie as tie
-use Rattle.distribute_fc2.proofs.bad_representative.Reads as reads
-use Rattle.distribute_fc2.proofs.bad_representative.Lts as lts
-use Rattle.distribute_fc2.proofs.is_represented.Reads as is-represented-reads
 
 abbrev Inv-loop : tie.InvT-loop
 Inv-loop atom-list map-atoms i₀ i = (i ≤ length atom-list) × (some i (λ k. not (represented atom-list map-atoms k)) ≡ false)

@@ -1,16 +1,11 @@
-use mathlib.Core.Path.{_≡_, refl, sym, ap, _∙_}
+use mathlib.Core.Path.{_≡_, refl}
 use mathlib.Core.Bool.{true}
 use Prim.Native.Nat.{ℕ, _<_, _≤_}
-use native.Mathlib.Omega.{arith}
-use borrow.Author.Tests.{le-ltb, lt-ltb, eq-eqb, ne-eqb}
+use borrow.Author.Tests.{le-ltb, lt-ltb}
 use Rattle.distribute_fc2.specs.Fc2.{countsAbove}
-use Rattle.distribute_fc2.specs.Fc2Laws.{product-small}
 use Rattle.lists.specs.Tests.{or-last}
-use borrow.Author.Needs.{needs}
 use Rattle.distribute_fc2.proofs.counts_above.Statement.{statement}
 use Rattle.distribute_fc2.proofs.counts_above.Tie as tie
-use Rattle.distribute_fc2.proofs.counts_above.Reads as reads
-use Rattle.distribute_fc2.proofs.counts_above.Lts as lts
 
 -- the fact that an edit of the test for it breaks
 many-first : (numPos numFirst numRot lengthList : ℕ) → numPos ≤ 1024 → 1024 < numFirst → true ≡ countsAbove numPos numFirst numRot lengthList

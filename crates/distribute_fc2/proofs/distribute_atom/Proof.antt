@@ -1,15 +1,10 @@
-use mathlib.Core.Path.{_≡_, refl, sym, ap, _∙_, subst}
+use mathlib.Core.Path.{sym, ap, _∙_, subst}
 use Prim.Native.Nat.{ℕ}
 use Rattle.tables.specs.Conditions.{indexAt, Readable}
-use Rattle.distribute_fc2.specs.Fc2.{addRow}
 use Rattle.distribute_fc2.specs.Fc2Laws.{read-todo, read-done, read-sym, read-todo-first, read-last, read-done-first, rows, atom-stays, atom-filled}
 use borrow.Author.Needs.{needs}
 use Rattle.distribute_fc2.proofs.distribute_atom.Statement.{statement}
 use Rattle.distribute_fc2.proofs.distribute_atom.Tie as tie
-use Rattle.distribute_fc2.proofs.distribute_atom.Reads as reads
-use Rattle.distribute_fc2.proofs.distribute_atom.Lts as lts
-use Rattle.distribute_fc2.proofs.add_row.Reads as add-row-reads
-use Rattle.tables.proofs.index.entry.Reads as entry-reads
 
 entry-requires : tie.Need-entry-requires
 entry-requires c κs =

@@ -1,16 +1,13 @@
-use mathlib.Core.Path.{_≡_, refl, sym, ap, _∙_, subst}
-use Prim.Native.Nat.{ℕ, _+_, _-_, _<_, _≤_}
+use mathlib.Core.Path.{_≡_, refl, _∙_}
+use Prim.Native.Nat.{_-_, _≤_}
 use native.Mathlib.Omega.{arith}
 use lib.ListN.{length}
 use Rattle.lists.specs.Tab.{times, times-none, times-more}
-use Rattle.distribute_fc2.specs.Fc2.{Distribution, distributeAtom, distributed}
+use Rattle.distribute_fc2.specs.Fc2.{distributeAtom, distributed}
 use Rattle.distribute_fc2.specs.Fc2Laws.{ready-length}
 use borrow.Author.Needs.{needs}
 use Rattle.distribute_fc2.proofs.distribute_atoms.Statement.{statement}
 use Rattle.distribute_fc2.proofs.distribute_atoms.Tie as tie
-use Rattle.distribute_fc2.proofs.distribute_atoms.Reads as reads
-use Rattle.distribute_fc2.proofs.distribute_atoms.Lts as lts
-use Rattle.distribute_fc2.proofs.distribute_atom.Reads as distribute-atom-reads
 
 abbrev Inv-loop : tie.InvT-loop
 Inv-loop fc2₀ atom-list fc-indices-of-atom-list r-carts permutations map-atoms map-syms atom-list-reverse num-pos i₀ i-end fc2 i =

@@ -1,19 +1,11 @@
-use mathlib.Core.Path.{_≡_, refl, sym, ap, _∙_}
-use mathlib.Core.Bool.{false}
+use mathlib.Core.Path.{sym, ap, _∙_}
 use lib.IntN.{pos}
-use lib.ListN.{length, replicate}
+use lib.ListN.{replicate}
 use Rattle.tables.specs.Answers.{is-done}
-use Rattle.distribute_fc2.specs.Fc2Laws.{Ready, ready, placing, refused, done-call}
+use Rattle.distribute_fc2.specs.Fc2Laws.{ready, placing, refused, done-call}
 use borrow.Author.Needs.{needs}
 use Rattle.distribute_fc2.proofs.distribute_fc2.Statement.{statement}
 use Rattle.distribute_fc2.proofs.distribute_fc2.Tie as tie
-use Rattle.distribute_fc2.proofs.distribute_fc2.Reads as reads
-use Rattle.distribute_fc2.proofs.distribute_fc2.Lts as lts
-use Rattle.distribute_fc2.proofs.distribute_atoms.Reads as distribute-atoms-reads
-use Rattle.distribute_fc2.proofs.judge_distribute_fc2.Reads as judge-distribute-fc2-reads
-use Rattle.distribute_fc2.proofs.place_atoms.Reads as place-atoms-reads
-use Rattle.lists.proofs.clear_ints.Reads as clear-ints-reads
-use Rattle.tables.proofs.is_refusal.Reads as is-refusal-reads
 
 judge-distribute-fc2-requires : tie.Need-judge-distribute-fc2-requires
 judge-distribute-fc2-requires c κs = search needs

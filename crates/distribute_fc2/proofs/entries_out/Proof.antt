@@ -1,14 +1,10 @@
 use mathlib.Core.Bool.{true, false}
 use Rattle.tables.specs.Conditions.{outOfRange}
-use mathlib.Core.Path.{_≡_, refl, sym, ap, _∙_}
-use mathlib.Core.Bool.{not}
+use mathlib.Core.Path.{_≡_, sym, _∙_}
 use Rattle.lists.specs.Tests.{not-not}
 use borrow.Author.Needs.{needs}
 use Rattle.distribute_fc2.proofs.entries_out.Statement.{statement}
 use Rattle.distribute_fc2.proofs.entries_out.Tie as tie
-use Rattle.distribute_fc2.proofs.entries_out.Reads as reads
-use Rattle.distribute_fc2.proofs.entries_out.Lts as lts
-use Rattle.tables.proofs.index.all_below.Reads as all-below-reads
 
 all-below-requires : tie.Need-all-below-requires
 all-below-requires c κs = search needs

@@ -1,15 +1,10 @@
-use mathlib.Core.Path.{_≡_, refl, sym, ap, _∙_, subst}
+use mathlib.Core.Path.{sym, ap, _∙_, subst}
 use Prim.Native.Nat.{ℕ}
 use Rattle.tables.specs.Conditions.{indexAt, Readable, read}
 use Rattle.distribute_fc2.specs.Fc2.{listed}
 use Rattle.distribute_fc2.specs.Fc2Laws.{represented-yes, represented-no}
-use borrow.Author.Needs.{needs}
 use Rattle.distribute_fc2.proofs.is_represented.Statement.{statement}
 use Rattle.distribute_fc2.proofs.is_represented.Tie as tie
-use Rattle.distribute_fc2.proofs.is_represented.Reads as reads
-use Rattle.distribute_fc2.proofs.is_represented.Lts as lts
-use Rattle.distribute_fc2.proofs.listed.Reads as listed-reads
-use Rattle.tables.proofs.index.entry.Reads as entry-reads
 
 entry-requires : tie.Need-entry-requires
 entry-requires c κs = read (c .pre .0) (c .args .i) (c .pre .1 .1) .0

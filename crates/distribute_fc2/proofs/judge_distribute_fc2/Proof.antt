@@ -1,16 +1,10 @@
 use lib.ListN.{length}
 use Rattle.distribute_fc2.specs.Fc2.{Distribution}
-use mathlib.Core.Path.{_≡_, refl, sym, ap, _∙_}
+use mathlib.Core.Path.{refl, sym, _∙_}
 use Rattle.distribute_fc2.specs.Fc2Laws.{counts-small, tables-fit, judged-is}
 use borrow.Author.Needs.{needs}
 use Rattle.distribute_fc2.proofs.judge_distribute_fc2.Statement.{statement}
 use Rattle.distribute_fc2.proofs.judge_distribute_fc2.Tie as tie
-use Rattle.distribute_fc2.proofs.judge_distribute_fc2.Reads as reads
-use Rattle.distribute_fc2.proofs.judge_distribute_fc2.Lts as lts
-use Rattle.distribute_fc2.proofs.bad_representative.Reads as bad-representative-reads
-use Rattle.distribute_fc2.proofs.counts_above.Reads as counts-above-reads
-use Rattle.distribute_fc2.proofs.entries_out.Reads as entries-out-reads
-use Rattle.distribute_fc2.proofs.lengths_wrong.Reads as lengths-wrong-reads
 
 counts-above-requires : tie.Need-counts-above-requires
 counts-above-requires c κs = search needs

@@ -1,15 +1,13 @@
 use mathlib.Core.Bool.{not}
 use Rattle.lists.specs.Tests.{or-here, or-next, or-last}
-use mathlib.Core.Path.{_≡_, refl, sym, ap, _∙_}
+use mathlib.Core.Path.{refl, sym, ap, _∙_}
 use native.Mathlib.Omega.{arith}
-use borrow.Author.Tests.{le-ltb, lt-ltb, eq-eqb, ne-eqb}
+use borrow.Author.Tests.{eq-eqb, ne-eqb}
 use Rattle.tables.specs.Lengths.{set-length2}
 use Rattle.distribute_fc2.specs.Fc2Laws.{product-small}
 use borrow.Author.Needs.{needs}
 use Rattle.distribute_fc2.proofs.lengths_wrong.Statement.{statement}
 use Rattle.distribute_fc2.proofs.lengths_wrong.Tie as tie
-use Rattle.distribute_fc2.proofs.lengths_wrong.Reads as reads
-use Rattle.distribute_fc2.proofs.lengths_wrong.Lts as lts
 
 mul-if1 : tie.Need-mul-if1
 mul-if1 c = let a = c .args in omega (arith, product-small (a .num-first) (a .num-pos) (omega arith) (omega arith))

@@ -1,6 +1,6 @@
-use mathlib.Core.Path.{_≡_, refl, sym, ap, _∙_}
-use mathlib.Core.Bool.{true, false}
-use Prim.Native.Nat.{ℕ, _+_, _-_, _<_, _≤_}
+use mathlib.Core.Path.{_≡_, sym, _∙_}
+use mathlib.Core.Bool.{false}
+use Prim.Native.Nat.{_-_, _≤_}
 use native.Mathlib.Omega.{arith}
 use lib.Dec.{eqb}
 use lib.ListN.{length}
@@ -12,9 +12,6 @@ use Rattle.distribute_fc2.specs.Fc2Laws.{none-yet, none-more}
 use borrow.Author.Needs.{needs}
 use Rattle.distribute_fc2.proofs.listed.Statement.{statement}
 use Rattle.distribute_fc2.proofs.listed.Tie as tie
-use Rattle.distribute_fc2.proofs.listed.Reads as reads
-use Rattle.distribute_fc2.proofs.listed.Lts as lts
-use Rattle.tables.proofs.index.entry.Reads as entry-reads
 
 abbrev Inv-loop : tie.InvT-loop
 Inv-loop atom-list atom i₀ i = (i ≤ length atom-list) × (some i (λ k. eqb (indexAt atom-list k) atom) ≡ false)

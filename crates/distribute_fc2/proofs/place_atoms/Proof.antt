@@ -1,20 +1,17 @@
 use mir.Syntax.{w64}
 use mir.Val.{toZ, SFits}
 use mir.ValLaws.{toZ-ofZ}
-use mathlib.Core.Path.{_≡_, refl, sym, ap, _∙_, subst}
-use Prim.Native.Nat.{ℕ, _+_, _-_, _<_, _≤_}
+use mathlib.Core.Path.{_≡_, refl}
+use Prim.Native.Nat.{_-_, _<_, _≤_}
 use native.Mathlib.Omega.{arith}
-use lib.ListN.{length, set, length-set}
-use lib.IntN.{ℤ, pos}
+use lib.ListN.{length, length-set}
+use lib.IntN.{pos}
 use borrow.Author.Count.{below-none}
-use Rattle.tables.specs.Conditions.{indexAt, read}
+use Rattle.tables.specs.Conditions.{read}
 use Rattle.distribute_fc2.specs.Fc2Laws.{Placed, placed-more}
 use borrow.Author.Needs.{needs}
 use Rattle.distribute_fc2.proofs.place_atoms.Statement.{statement}
 use Rattle.distribute_fc2.proofs.place_atoms.Tie as tie
-use Rattle.distribute_fc2.proofs.place_atoms.Reads as reads
-use Rattle.distribute_fc2.proofs.place_atoms.Lts as lts
-use Rattle.tables.proofs.index.entry.Reads as entry-reads
 
 abbrev Inv-loop : tie.InvT-loop
 Inv-loop atom-list-reverse₀ atom-list i₀ i-end atom-list-reverse i = (i ≤ length atom-list) × (length atom-list-reverse ≡ length atom-list-reverse₀) × Placed atom-list i atom-list-reverse

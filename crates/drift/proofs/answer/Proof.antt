@@ -3,8 +3,6 @@ use Rattle.drift.specs.Drift.{answerOf}
 use borrow.Author.Needs.{needs}
 use Rattle.drift.proofs.answer.Statement.{statement}
 use Rattle.drift.proofs.answer.Tie as tie
-use Rattle.drift.proofs.answer.Reads as reads
-use Rattle.drift.proofs.answer.Lts as lts
 
 enum-told : tie.Need-enum-told
 enum-told c = search needs

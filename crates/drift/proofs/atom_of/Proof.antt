@@ -1,8 +1,6 @@
 use borrow.Author.Tests.{lt-ltb, le-ltb}
 use Rattle.drift.proofs.atom_of.Statement.{statement}
 use Rattle.drift.proofs.atom_of.Tie as tie
-use Rattle.drift.proofs.atom_of.Reads as reads
-use Rattle.drift.proofs.atom_of.Lts as lts
 
 returns : tie.Need-returns
 returns c = simp (lt-ltb _ _ (c .if1 .taken))

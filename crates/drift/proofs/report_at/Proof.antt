@@ -1,12 +1,6 @@
 use borrow.Author.Needs.{needs}
 use Rattle.drift.proofs.report_at.Statement.{statement}
 use Rattle.drift.proofs.report_at.Tie as tie
-use Rattle.drift.proofs.report_at.Reads as reads
-use Rattle.drift.proofs.report_at.Lts as lts
-use Rattle.drift.proofs.along_of.Reads as along-of-reads
-use Rattle.drift.proofs.atom_of.Reads as atom-of-reads
-use Rattle.places.proofs.last_leg.Reads as last-leg-reads
-use Rattle.places.proofs.legs_before.Reads as legs-before-reads
 
 legs-before-requires : tie.Need-legs-before-requires
 legs-before-requires c κs = search needs

@@ -1,12 +1,9 @@
 use Rattle.drift.specs.Drift.{valueOf}
 use mathlib.Core.Path.{sym, ap}
 use lib.Ieee.{div, ofBits}
-use mathlib.Core.Path.{refl}
 use borrow.Author.Needs.{needs}
 use Rattle.drift.proofs.value.Statement.{statement}
 use Rattle.drift.proofs.value.Tie as tie
-use Rattle.drift.proofs.value.Reads as reads
-use Rattle.drift.proofs.value.Lts as lts
 
 enum-told : tie.Need-enum-told
 enum-told c = search needs

@@ -12,11 +12,6 @@ use Rattle.drift_fc2.specs.Rows.{Adding, adding-none, adding-more, addin
 use borrow.Author.Needs.{needs}
 use Rattle.drift_fc2.proofs.add_row.Statement.{statement}
 use Rattle.drift_fc2.proofs.add_row.Tie as tie
-use Rattle.drift_fc2.proofs.add_row.Reads as reads
-use Rattle.drift_fc2.proofs.add_row.Lts as lts
-use Rattle.blocks.proofs.read9.Reads as read9-reads
-use Rattle.lines.proofs.nine.more.Reads as more-reads
-use Rattle.places.proofs.full2.Reads as full2-reads
 
 abbrev Inv-loop : tie.InvT-loop
 Inv-loop fc columns₀ n i sums₀ j₀ columns sums j = (j ≤ n) × (sums ≡ times j (λ k t. more t (block 9 (i * n + k * 1) fc)) sums₀) × Adding n (length columns₀) i 1 j fc columns

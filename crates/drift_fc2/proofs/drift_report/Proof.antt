@@ -1,6 +1,6 @@
 use Rattle.drift.specs.Laws.{sized, report-refused, report-done}
 use Rattle.drift.specs.declared.DriftAnswer.the-variants.{Report}
-use mathlib.Core.Path.{_≡_, sym, ap, _∙_}
+use mathlib.Core.Path.{sym, ap, _∙_}
 use borrow.Author.Needs.{needs}
 use Rattle.drift_fc2.proofs.drift_report.Statement.{statement}
 use Rattle.drift_fc2.proofs.drift_report.Tie as tie

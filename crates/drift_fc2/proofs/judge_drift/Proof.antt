@@ -2,11 +2,8 @@ use Rattle.tables.specs.Lengths.{set-length2}
 use Rattle.fc2.specs.FullLaws.{square}
 use borrow.Author.Tests.{eq-eqb, ne-eqb, lt-ltb, le-ltb}
 use native.Mathlib.Omega.{arith}
-use borrow.Author.Needs.{needs}
 use Rattle.drift_fc2.proofs.judge_drift.Statement.{statement}
 use Rattle.drift_fc2.proofs.judge_drift.Tie as tie
-use Rattle.drift_fc2.proofs.judge_drift.Reads as reads
-use Rattle.drift_fc2.proofs.judge_drift.Lts as lts
 
 returns : tie.Need-returns
 returns c = simp (lt-ltb 1024 (c .before .args .n) (omega arith))

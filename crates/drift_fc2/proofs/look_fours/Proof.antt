@@ -5,7 +5,6 @@ use lib.ListN.{length}
 use Rattle.lists.specs.Tab.{times, times-at}
 use Rattle.drift.specs.Loops.{lookRow, Summed}
 use Rattle.drift_fc2.specs.Rows.{summed-own, summed-back, four-left, four-more}
-use borrow.Author.Needs.{needs}
 use Rattle.drift_fc2.proofs.look_fours.Statement.{statement}
 use Rattle.drift_fc2.proofs.look_fours.Tie as tie
 

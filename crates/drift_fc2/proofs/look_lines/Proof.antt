@@ -1,9 +1,9 @@
-use Prim.Native.Nat.{ℕ, _+_, _*_, _-_, _≤_, _<_}
+use Prim.Native.Nat.{_+_, _*_, _-_, _≤_}
 use native.Mathlib.Omega.{arith}
-use mathlib.Core.Path.{_≡_, refl, sym, ap, ap₂, _∙_}
+use mathlib.Core.Path.{_≡_, sym, ap, _∙_}
 use Rattle.lists.specs.Tab.{times, times-none, times-more}
 use Rattle.lines.specs.Nine.{zeros}
-use Rattle.lines.specs.Lines.{lineSums, Line}
+use Rattle.lines.specs.Lines.{lineSums}
 use Rattle.drift.specs.Loops.{lookLine, lookLines}
 use mathlib.Core.Logic.{⊎-elim}
 use borrow.Author.Tests.{not-false}

@@ -1,15 +1,10 @@
-use Prim.Native.Nat.{ℕ}
 use native.Mathlib.Omega.{arith}
-use mathlib.Core.Path.{_≡_, sym, ap, _∙_}
+use mathlib.Core.Path.{ap, _∙_}
 use Rattle.drift.specs.Loops.{lookLines, scanned}
 use Rattle.drift_fc2.specs.Rows.{rows-stand, columns-stand}
 use borrow.Author.Needs.{needs}
 use Rattle.drift_fc2.proofs.scan_small.Statement.{statement}
 use Rattle.drift_fc2.proofs.scan_small.Tie as tie
-use Rattle.drift_fc2.proofs.scan_small.Reads as reads
-use Rattle.drift_fc2.proofs.scan_small.Lts as lts
-use Rattle.drift_fc2.proofs.look_lines.Reads as look-lines-reads
-use Rattle.drift.proofs.seen.start.Reads as start-reads
 
 start-requires : tie.Need-start-requires
 start-requires c κs = search needs

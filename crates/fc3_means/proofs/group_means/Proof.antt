@@ -3,16 +3,6 @@ use Rattle.fc3_means.specs.Mean.{six-sums, lnm-permuted, mln-permuted, m
 use borrow.Author.Needs.{needs}
 use Rattle.fc3_means.proofs.group_means.Statement.{statement}
 use Rattle.fc3_means.proofs.group_means.Tie as tie
-use Rattle.fc3_means.proofs.group_means.Reads as reads
-use Rattle.fc3_means.proofs.group_means.Lts as lts
-use Rattle.blocks.proofs.read27.Reads as read27-reads
-use Rattle.fc3_means.proofs.plus.Reads as plus-reads
-use Rattle.fc3_means.proofs.sixths.Reads as sixths-reads
-use Rattle.permute.proofs.permute_lnm.Reads as permute-lnm-reads
-use Rattle.permute.proofs.permute_mln.Reads as permute-mln-reads
-use Rattle.permute.proofs.permute_mnl.Reads as permute-mnl-reads
-use Rattle.permute.proofs.permute_nlm.Reads as permute-nlm-reads
-use Rattle.permute.proofs.permute_nml.Reads as permute-nml-reads
 
 -- src/mean.rt:51:9
 read27-requires : tie.Need-read27-requires

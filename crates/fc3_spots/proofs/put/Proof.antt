@@ -1,7 +1,6 @@
-use native.Mathlib.Omega.{arith}
 use mathlib.Core.Path.{ap, _∙_}
-use Prim.Native.Nat.{_+_, _*_, _<_}
-use lib.ListN.{set, getD}
+use Prim.Native.Nat.{_+_, _*_}
+use lib.ListN.{set}
 use Rattle.fc3_spots.specs.Spread.{dirs-are}
 use Rattle.fc3_spots.specs.Coinciding.{flat, six-set, flat-set}
 use borrow.Author.Needs.{needs}

@@ -2,7 +2,7 @@ use mathlib.Core.Path.{sym, ap, _∙_}
 use borrow.Author.Needs.{needs}
 use Rattle.orbits.specs.Spread.{setAll}
 use Rattle.fc3_spots.specs.Spread.{spots-at, six-stores}
-use Rattle.fc3_spots.specs.Coinciding.{flat, slot-below}
+use Rattle.fc3_spots.specs.Coinciding.{flat}
 use Rattle.fc3_spots.proofs.put_spots.Statement.{statement}
 use Rattle.fc3_spots.proofs.put_spots.Tie as tie
 

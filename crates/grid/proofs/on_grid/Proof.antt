@@ -1,9 +1,9 @@
 -- `grid::on_grid` meets its contract. Assumes nothing.
-use mathlib.Core.Path.{_≡_, refl, sym, ap, _∙_, subst}
+use mathlib.Core.Path.{sym, ap, _∙_, subst}
 use lib.Dec.{T}
 use lib.Ieee.{eq, binary64, mul, ofBits, neg}
 use borrow.Author.Needs.{needs}
-use Rattle.grid.specs.GridTest.{top, bottom, not-below, not-above, between}
+use Rattle.grid.specs.GridTest.{top, not-below, not-above, between}
 use Rattle.grid.proofs.on_grid.Statement.{statement}
 use Rattle.grid.proofs.on_grid.Tie as tie
 

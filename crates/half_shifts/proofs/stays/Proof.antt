@@ -1,5 +1,3 @@
-use mathlib.Core.Path.{_≡_}
-use mathlib.Core.Bool.{true}
 use borrow.Author.Tests.{not-true, not-false}
 use Rattle.half_shifts.specs.HalfShift.{rep-read, home-read, way-read, image-read, told-rep, told-apart, told, told-off, told-on}
 use Rattle.half_shifts.proofs.stays.Statement.{statement}

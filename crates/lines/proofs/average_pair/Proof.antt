@@ -2,12 +2,6 @@ use Rattle.lines.specs.Lines.{pairAt}
 use borrow.Author.Needs.{needs}
 use Rattle.lines.proofs.average_pair.Statement.{statement}
 use Rattle.lines.proofs.average_pair.Tie as tie
-use Rattle.lines.proofs.average_pair.Reads as reads
-use Rattle.lines.proofs.average_pair.Lts as lts
-use Rattle.blocks.proofs.read9.Reads as read9-reads
-use Rattle.blocks.proofs.write9.Reads as write9-reads
-use Rattle.lines.proofs.nine.averaged.Reads as averaged-reads
-use Rattle.blocks.proofs.transposed9.Reads as transposed9-reads
 
 read9-requires : tie.Need-read9-requires
 read9-requires c κs = search needs

@@ -2,11 +2,6 @@ use Rattle.lines.specs.Lines.{lineDrift}
 use borrow.Author.Needs.{needs}
 use Rattle.lines.proofs.line_drift.Statement.{statement}
 use Rattle.lines.proofs.line_drift.Tie as tie
-use Rattle.lines.proofs.line_drift.Reads as reads
-use Rattle.lines.proofs.line_drift.Lts as lts
-use Rattle.lines.proofs.line_sums.Reads as line-sums-reads
-use Rattle.lines.proofs.nine.scaled.Reads as scaled-reads
-use Rattle.lines.proofs.take_drift.Reads as take-drift-reads
 
 line-sums-requires : tie.Need-line-sums-requires
 line-sums-requires c κs = search needs

@@ -2,17 +2,12 @@ use Rattle.lines.specs.Lines.{lineSums, step-is, step-fits}
 use Rattle.lines.specs.Nine.{more}
 use Rattle.blocks.specs.Block.{block}
 use Rattle.lists.specs.Tab.{times, times-none, times-more}
-use mathlib.Core.Path.{_≡_, refl, ap, _∙_}
+use mathlib.Core.Path.{_≡_, ap, _∙_}
 use native.Mathlib.Omega.{arith}
-use Prim.Native.Nat.{ℕ, _≤_, _<_, _-_, _+_, _*_}
+use Prim.Native.Nat.{_≤_, _-_, _+_, _*_}
 use borrow.Author.Needs.{needs}
 use Rattle.lines.proofs.line_sums.Statement.{statement}
 use Rattle.lines.proofs.line_sums.Tie as tie
-use Rattle.lines.proofs.line_sums.Reads as reads
-use Rattle.lines.proofs.line_sums.Lts as lts
-use Rattle.blocks.proofs.read9.Reads as read9-reads
-use Rattle.lines.proofs.nine.more.Reads as more-reads
-use Rattle.places.proofs.with_leg.Reads as with-leg-reads
 
 abbrev Inv-loop : tie.InvT-loop
 Inv-loop fc first step count sums₀ k₀ sums k = (k ≤ count) × (sums ≡ times k (λ m t. more t (block 9 (first + m * step) fc)) sums₀)

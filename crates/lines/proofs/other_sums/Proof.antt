@@ -3,9 +3,6 @@ use native.Mathlib.Omega.{arith}
 use borrow.Author.Needs.{needs}
 use Rattle.lines.proofs.other_sums.Statement.{statement}
 use Rattle.lines.proofs.other_sums.Tie as tie
-use Rattle.lines.proofs.other_sums.Reads as reads
-use Rattle.lines.proofs.other_sums.Lts as lts
-use Rattle.lines.proofs.line_sums.Reads as line-sums-reads
 
 sub-line-sums : tie.Need-sub-line-sums
 sub-line-sums c = search needs

@@ -1,16 +1,12 @@
 use Rattle.lines.specs.Lines.{lineDrift, rowDrifts, row-start, run-line}
 use Rattle.lists.specs.Tab.{times, times-none, times-more}
-use mathlib.Core.Path.{_≡_, refl, ap, sym, _∙_, subst}
+use mathlib.Core.Path.{_≡_, refl, _∙_}
 use lib.ListN.{length}
 use native.Mathlib.Omega.{arith}
-use Prim.Native.Nat.{ℕ, _≤_, _<_, _-_, _+_, _*_}
+use Prim.Native.Nat.{_≤_, _-_, _*_}
 use borrow.Author.Needs.{needs}
 use Rattle.lines.proofs.row_drift.Statement.{statement}
 use Rattle.lines.proofs.row_drift.Tie as tie
-use Rattle.lines.proofs.row_drift.Reads as reads
-use Rattle.lines.proofs.row_drift.Lts as lts
-use Rattle.lines.proofs.line_drift.Reads as line-drift-reads
-use Rattle.places.proofs.with_leg.Reads as with-leg-reads
 
 abbrev Inv-loop : tie.InvT-loop
 Inv-loop fc₀ rows n inv-n i₀ fc i = (i ≤ rows) × (length fc ≡ length fc₀) × (fc ≡ times i (λ k. lineDrift (k * n) 1 n inv-n) fc₀)

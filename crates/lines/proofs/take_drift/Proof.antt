@@ -1,18 +1,12 @@
 use Rattle.lines.specs.Lines.{lessAt, lineLess, step-is, step-fits}
 use Rattle.lists.specs.Tab.{times, times-none, times-more}
-use mathlib.Core.Path.{_≡_, refl, ap, sym, _∙_}
+use mathlib.Core.Path.{_≡_, refl, _∙_}
 use lib.ListN.{length}
 use native.Mathlib.Omega.{arith}
-use Prim.Native.Nat.{ℕ, _≤_, _<_, _-_, _+_, _*_}
+use Prim.Native.Nat.{_≤_, _-_, _+_, _*_}
 use borrow.Author.Needs.{needs}
 use Rattle.lines.proofs.take_drift.Statement.{statement}
 use Rattle.lines.proofs.take_drift.Tie as tie
-use Rattle.lines.proofs.take_drift.Reads as reads
-use Rattle.lines.proofs.take_drift.Lts as lts
-use Rattle.blocks.proofs.read9.Reads as read9-reads
-use Rattle.blocks.proofs.write9.Reads as write9-reads
-use Rattle.lines.proofs.nine.less.Reads as less-reads
-use Rattle.places.proofs.with_leg.Reads as with-leg-reads
 
 abbrev Inv-loop : tie.InvT-loop
 Inv-loop fc₀ d first step count k₀ fc k = (k ≤ count) × (length fc ≡ length fc₀) × (fc ≡ times k (λ m. lessAt d (first + m * step)) fc₀)

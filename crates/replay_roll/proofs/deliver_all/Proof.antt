@@ -5,12 +5,6 @@ use lib.ListN.{length}
 use borrow.Author.Needs.{needs}
 use Rattle.replay_roll.proofs.deliver_all.Statement.{statement}
 use Rattle.replay_roll.proofs.deliver_all.Tie as tie
-use Rattle.replay_roll.proofs.deliver_all.Reads as reads
-use Rattle.replay_roll.proofs.deliver_all.Lts as lts
-use Rattle.records.proofs.steps.after.Reads as after-reads
-use Rattle.records.proofs.steps.plus.Reads as plus-reads
-use Rattle.replay_roll.proofs.deliver.Reads as deliver-reads
-use Rattle.replay_roll.proofs.set_number.Reads as set-number-reads
 
 abbrev Inv-loop : tie.InvT-loop
 Inv-loop lent₀ n label count₀ i₀ lent count i = (i ≤ n) × (length lent ≡ length lent₀)

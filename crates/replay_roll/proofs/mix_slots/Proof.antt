@@ -4,9 +4,6 @@ use lib.ListN.{length}
 use borrow.Author.Needs.{needs}
 use Rattle.replay_roll.proofs.mix_slots.Statement.{statement}
 use Rattle.replay_roll.proofs.mix_slots.Tie as tie
-use Rattle.replay_roll.proofs.mix_slots.Reads as reads
-use Rattle.replay_roll.proofs.mix_slots.Lts as lts
-use Rattle.records.proofs.mix.Reads as mix-reads
 
 abbrev Inv-loop : tie.InvT-loop
 Inv-loop slots g₀ i₀ g i = i ≤ length slots

@@ -1,7 +1,6 @@
 -- `replays::counted` meets its contract. Assumes nothing.
 use borrow.Author.Needs.{needs}
 use borrow.Author.Tests.{lt-ltb, le-ltb}
-use native.Mathlib.Omega.{arith}
 use Rattle.replays.specs.Tally.{countedAt}
 use Rattle.replays.proofs.counted.Statement.{statement}
 use Rattle.replays.proofs.counted.Tie as tie

@@ -1,5 +1,4 @@
 -- `retire::place_if` meets its contract. Assumes nothing.
-use mathlib.Core.Path.{_≡_, refl, sym, ap, _∙_}
 use native.Mathlib.Omega.{arith}
 use Rattle.retire.specs.Steps.{put-in, left-out}
 use borrow.Author.Needs.{needs}

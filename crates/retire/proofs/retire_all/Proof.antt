@@ -1,5 +1,4 @@
 -- `retire::retire_all` meets its contract. Assumes nothing.
-use mathlib.Core.Path.{_≡_, refl, sym, ap, _∙_}
 use native.Mathlib.Omega.{arith}
 use Rattle.retire.specs.Steps.{add-limits, press-add, press-not}
 use borrow.Author.Needs.{needs}

@@ -1,5 +1,5 @@
 -- `retire::waits` meets its contract. Assumes nothing.
-use mathlib.Core.Path.{_≡_, refl, sym, ap, _∙_}
+use mathlib.Core.Path.{_∙_}
 use native.Mathlib.Omega.{arith}
 use Rattle.retire.specs.Steps.{waits-retirement, waits-elsewhere, waits-open}
 use borrow.Author.Needs.{needs}

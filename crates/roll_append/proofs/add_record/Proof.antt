@@ -1,5 +1,5 @@
 -- `roll_append::add_record` meets its contract. Assumes nothing.
-use mathlib.Core.Path.{_≡_, _∙_}
+use mathlib.Core.Path.{_∙_}
 use native.Mathlib.Omega.{arith}
 use Rattle.roll.specs.Format.{entry}
 use Rattle.roll.specs.Numbers.{Bytes}

@@ -1,4 +1,4 @@
-use mathlib.Core.Path.{_≡_, refl, sym, _∙_}
+use mathlib.Core.Path.{sym, _∙_}
 use native.Mathlib.Omega.{arith}
 use Rattle.roll.specs.Format.{entry}
 use Rattle.roll.specs.Numbers.{Bytes}
@@ -6,10 +6,6 @@ use Rattle.roll_append.specs.Laws.{may-add, leaves-new, leaves-old}
 use borrow.Author.Needs.{needs}
 use Rattle.roll_append.proofs.append.Statement.{statement}
 use Rattle.roll_append.proofs.append.Tie as tie
-use Rattle.roll_append.proofs.append.Reads as reads
-use Rattle.roll_append.proofs.append.Lts as lts
-use Rattle.roll_append.proofs.add_record.Reads as add-record-reads
-use Rattle.roll_append.proofs.judge_append.Reads as judge-append-reads
 
 judge-append-requires : tie.Need-judge-append-requires
 judge-append-requires c κs = search needs

@@ -5,10 +5,6 @@ use Rattle.rotations.specs.Laws.{widens}
 use borrow.Author.Needs.{needs}
 use Rattle.rotations.proofs.coefficients3.Statement.{statement}
 use Rattle.rotations.proofs.coefficients3.Tie as tie
-use Rattle.rotations.proofs.coefficients3.Reads as reads
-use Rattle.rotations.proofs.coefficients3.Lts as lts
-use Rattle.rotations.proofs.coefficients2.Reads as coefficients2-reads
-use Rattle.rotations.proofs.widen.Reads as widen-reads
 
 -- src/lib.rt:95:13
 coefficients2-requires : tie.Need-coefficients2-requires

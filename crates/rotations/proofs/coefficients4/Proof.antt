@@ -5,10 +5,6 @@ use Rattle.rotations.specs.Laws.{widens}
 use borrow.Author.Needs.{needs}
 use Rattle.rotations.proofs.coefficients4.Statement.{statement}
 use Rattle.rotations.proofs.coefficients4.Tie as tie
-use Rattle.rotations.proofs.coefficients4.Reads as reads
-use Rattle.rotations.proofs.coefficients4.Lts as lts
-use Rattle.rotations.proofs.coefficients3.Reads as coefficients3-reads
-use Rattle.rotations.proofs.widen.Reads as widen-reads
 
 -- src/lib.rt:105:13
 coefficients3-requires : tie.Need-coefficients3-requires

@@ -1,5 +1,5 @@
 -- `row_sums::judge` meets its contract. Assumes nothing.
-use mathlib.Core.Path.{_≡_, refl, sym, ap, _∙_}
+use mathlib.Core.Path.{sym, _∙_}
 use lib.ListN.{length}
 use borrow.Author.Needs.{needs}
 use Rattle.row_sums.specs.RowSums.{judgedBlock, judgedReplace}

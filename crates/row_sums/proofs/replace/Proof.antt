@@ -1,9 +1,6 @@
 -- `row_sums::replace` meets its contract. Assumes nothing.
-use mathlib.Core.Path.{_≡_, refl, sym, ap, _∙_}
 use native.Mathlib.Omega.{arith}
-use lib.ListN.{length}
 use borrow.Author.Needs.{needs}
-use Rattle.blocks.specs.Block.{length-putBlock}
 use Rattle.row_sums.specs.Calls.{full-is, block-in, sums-in, replaced-by}
 use Rattle.row_sums.proofs.replace.Statement.{statement}
 use Rattle.row_sums.proofs.replace.Tie as tie

@@ -1,6 +1,5 @@
 -- `shifts::any_out` meets its contract. Assumes nothing.
-use mathlib.Core.Bool.{_||_, not}
-use mathlib.Core.Path.{ap, _∙_}
+use mathlib.Core.Bool.{_||_}
 use borrow.Author.Tests.{not-true, not-false}
 use borrow.Author.Needs.{needs}
 use Rattle.tables.specs.Conditions.{outOfRange}

@@ -1,5 +1,4 @@
 -- `standing::is_allowed` meets its contract. Assumes nothing.
-use mathlib.Core.Path.{_≡_}
 use native.Mathlib.Omega.{arith}
 use borrow.Author.Tests.{not-true, not-false}
 use Rattle.standing.specs.Walk.{inside, retires-known, delivered-twice, delivers-new, replaces-unknown, replaces-known}

@@ -1,7 +1,7 @@
 -- `standing::look_up` meets its contract. Assumes nothing.
 use mathlib.Core.Path.{_≡_, ap, _∙_, subst}
 use mathlib.Core.Bool.{Bool, _||_}
-use Prim.Native.Nat.{ℕ, _+_, _-_, _≤_}
+use Prim.Native.Nat.{ℕ, _-_, _≤_}
 use native.Mathlib.Omega.{arith}
 use Rattle.roll.specs.Reading.{start}
 use Rattle.roll.specs.Starts.{start-first, next-start}

@@ -1,5 +1,4 @@
 -- `standing::replacer` meets its contract. Assumes nothing.
-use native.Mathlib.Omega.{arith}
 use Rattle.standing.specs.Walk.{replaced-here, replaced-before}
 use borrow.Author.Needs.{needs}
 use Rattle.standing.proofs.replacer.Statement.{statement}

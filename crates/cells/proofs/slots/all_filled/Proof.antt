@@ -5,13 +5,9 @@ use borrow.Author.Count.{below-none}
 use lib.ListN.{length}
 use mathlib.Core.Logic.{⊎-elim}
 use native.Mathlib.Omega.{arith}
-use mathlib.Core.Path.{_≡_, sym, _∙_}
-use borrow.Author.Needs.{needs}
+use mathlib.Core.Path.{_≡_, sym}
 use Rattle.cells.proofs.slots.all_filled.Statement.{statement}
 use Rattle.cells.proofs.slots.all_filled.Tie as tie
-use Rattle.cells.proofs.slots.all_filled.Reads as reads
-use Rattle.cells.proofs.slots.all_filled.Lts as lts
-use Rattle.cells.proofs.slots.skip_filled.Reads as skip-filled-reads
 
 skip-filled-requires : tie.Need-skip-filled-requires
 skip-filled-requires c κs = record { there = omega arith; filled = below-none _ }

@@ -9,8 +9,6 @@ use Rattle.lists.specs.Tab.{fill-more}
 use borrow.Author.Needs.{needs}
 use Rattle.cells.proofs.slots.clear.Statement.{statement}
 use Rattle.cells.proofs.slots.clear.Tie as tie
-use Rattle.cells.proofs.slots.clear.Reads as reads
-use Rattle.cells.proofs.slots.clear.Lts as lts
 
 abbrev Inv-loop : tie.InvT-loop
 Inv-loop rot-atom₀ j₀ rot-atom j = (j ≤ length rot-atom₀) × (length rot-atom ≡ length rot-atom₀) × ((k : ℕ) → k < j → getD rot-atom k (pos 0) ≡ negsuc 0)

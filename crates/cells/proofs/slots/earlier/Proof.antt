@@ -1,8 +1,6 @@
 use borrow.Author.Tests.{lt-ltb, le-ltb}
 use Rattle.cells.proofs.slots.earlier.Statement.{statement}
 use Rattle.cells.proofs.slots.earlier.Tie as tie
-use Rattle.cells.proofs.slots.earlier.Reads as reads
-use Rattle.cells.proofs.slots.earlier.Lts as lts
 
 returns : tie.Need-returns
 returns c = simp (lt-ltb _ _ (c .if1 .taken))

@@ -12,9 +12,6 @@ use Prim.Native.Nat.{ℕ, _+_, _-_, _≤_, _<_}
 use borrow.Author.Needs.{needs}
 use Rattle.cells.proofs.slots.find.Statement.{statement}
 use Rattle.cells.proofs.slots.find.Tie as tie
-use Rattle.cells.proofs.slots.find.Reads as reads
-use Rattle.cells.proofs.slots.find.Lts as lts
-use Rattle.cells.proofs.slots.tried.Reads as tried-reads
 
 abbrev Inv-loop : tie.InvT-loop
 Inv-loop rot-atom cell reach pos rot-pos i start none₀ j₀ none j =

@@ -1,8 +1,6 @@
 use borrow.Author.Tests.{lt-ltb, le-ltb}
 use Rattle.cells.proofs.slots.first_pair.Statement.{statement}
 use Rattle.cells.proofs.slots.first_pair.Tie as tie
-use Rattle.cells.proofs.slots.first_pair.Reads as reads
-use Rattle.cells.proofs.slots.first_pair.Lts as lts
 
 returns : tie.Need-returns
 returns c = simp (lt-ltb _ _ (c .if1 .taken))

@@ -3,8 +3,6 @@ use mathlib.Core.Path.{sym, ap, _∙_}
 use borrow.Author.Needs.{needs}
 use Rattle.cells.proofs.slots.noted.Statement.{statement}
 use Rattle.cells.proofs.slots.noted.Tie as tie
-use Rattle.cells.proofs.slots.noted.Reads as reads
-use Rattle.cells.proofs.slots.noted.Lts as lts
 
 enum-told : tie.Need-enum-told
 enum-told c = search needs

@@ -9,9 +9,6 @@ use mathlib.Core.Path.{_≡_}
 use borrow.Author.Needs.{needs}
 use Rattle.cells.proofs.slots.place.Statement.{statement}
 use Rattle.cells.proofs.slots.place.Tie as tie
-use Rattle.cells.proofs.slots.place.Reads as reads
-use Rattle.cells.proofs.slots.place.Lts as lts
-use Rattle.cells.proofs.slots.find.Reads as find-reads
 
 find-requires : tie.Need-find-requires
 find-requires c κs = search needs

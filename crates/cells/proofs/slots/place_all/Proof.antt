@@ -1,4 +1,4 @@
-use Rattle.cells.specs.Slots.{Row, FilledBelow, still-filled, length-place}
+use Rattle.cells.specs.Slots.{FilledBelow, still-filled, length-place}
 use Rattle.cells.specs.Matching.{place}
 use Rattle.distances.specs.Near.{near, distance}
 use Rattle.cells.specs.Search.{pairAfter, pair-none, pair-more}
@@ -7,14 +7,10 @@ use borrow.Author.Count.{below-none}
 use lib.ListN.{length}
 use native.Mathlib.Omega.{arith}
 use Prim.Native.Nat.{_≤_, _-_}
-use mathlib.Core.Path.{_≡_, refl, sym, ap, _∙_}
+use mathlib.Core.Path.{_≡_, refl, ap, _∙_}
 use borrow.Author.Needs.{needs}
 use Rattle.cells.proofs.slots.place_all.Statement.{statement}
 use Rattle.cells.proofs.slots.place_all.Tie as tie
-use Rattle.cells.proofs.slots.place_all.Reads as reads
-use Rattle.cells.proofs.slots.place_all.Lts as lts
-use Rattle.cells.proofs.slots.place.Reads as place-reads
-use Rattle.cells.proofs.slots.skip_filled.Reads as skip-filled-reads
 
 abbrev Inv-loop : tie.InvT-loop
 Inv-loop rot-atom₀ cell pos rot-pos r first₀ start₀ i₀ rot-atom first start i =

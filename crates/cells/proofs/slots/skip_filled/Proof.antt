@@ -9,9 +9,6 @@ use Prim.Native.Nat.{_-_}
 use borrow.Author.Needs.{needs}
 use Rattle.cells.proofs.slots.skip_filled.Statement.{statement}
 use Rattle.cells.proofs.slots.skip_filled.Tie as tie
-use Rattle.cells.proofs.slots.skip_filled.Reads as reads
-use Rattle.cells.proofs.slots.skip_filled.Lts as lts
-use Rattle.cells.proofs.slots.is_filled.Reads as is-filled-reads
 
 abbrev Inv-loop : tie.InvT-loop
 Inv-loop rot-atom start k₀ k = FilledBelow rot-atom k

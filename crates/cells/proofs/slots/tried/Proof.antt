@@ -4,10 +4,6 @@ use mathlib.Core.Path.{_≡_, sym, _∙_}
 use borrow.Author.Needs.{needs}
 use Rattle.cells.proofs.slots.tried.Statement.{statement}
 use Rattle.cells.proofs.slots.tried.Tie as tie
-use Rattle.cells.proofs.slots.tried.Reads as reads
-use Rattle.cells.proofs.slots.tried.Lts as lts
-use Rattle.distances.proofs.distance_of.Reads as distance-of-reads
-use Rattle.cells.proofs.slots.is_filled.Reads as is-filled-reads
 
 is-filled-requires : tie.Need-is-filled-requires
 is-filled-requires c κs = search needs

@@ -1,5 +1,5 @@
 -- `common::root::lowered` meets its contract: it goes down to a number whose square is at most n. Assumes nothing.
-use Prim.Native.Nat.{_*_, _^_, _≤_, _<_}
+use Prim.Native.Nat.{_^_, _<_}
 use native.Mathlib.Omega.{arith}
 use Rattle.common.specs.Laws.Squares.{square-bound, square-pos}
 use Rattle.common.proofs.root.lowered.Statement.{statement}

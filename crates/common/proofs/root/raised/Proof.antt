@@ -1,5 +1,5 @@
 -- `common::root::raised` meets its contract: it goes up while the next number's square is at most n. Assumes nothing.
-use Prim.Native.Nat.{_-_, _*_, _^_, _≤_, _<_}
+use Prim.Native.Nat.{_-_, _*_, _≤_}
 use native.Mathlib.Omega.{arith}
 use Rattle.common.specs.Laws.Squares.{self-le-square}
 use Rattle.common.proofs.root.raised.Statement.{statement}

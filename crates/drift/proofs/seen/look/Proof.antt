@@ -2,9 +2,6 @@ use Rattle.drift.specs.Seen.{look-raised, look-kept}
 use borrow.Author.Needs.{needs}
 use Rattle.drift.proofs.seen.look.Statement.{statement}
 use Rattle.drift.proofs.seen.look.Tie as tie
-use Rattle.drift.proofs.seen.look.Reads as reads
-use Rattle.drift.proofs.seen.look.Lts as lts
-use Rattle.drift.proofs.seen.magnitude.Reads as magnitude-reads
 
 returns : tie.Need-returns
 returns c = simp (c .before .if1 .taken, c .if2 .taken)

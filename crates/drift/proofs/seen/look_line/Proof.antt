@@ -1,18 +1,12 @@
-use Prim.Native.Nat.{ℕ, _+_, _*_, _-_, _≤_, _<_}
+use Prim.Native.Nat.{_+_, _*_, _-_, _≤_}
 use native.Mathlib.Omega.{arith}
-use mathlib.Core.Path.{_≡_, refl, sym, ap, ap₂, _∙_}
-use Rattle.lists.specs.Tab.{times, times-none, times-more, fill-more, is-tab}
+use mathlib.Core.Path.{_≡_, _∙_}
+use Rattle.lists.specs.Tab.{times, times-none, times-more}
 use Rattle.lines.specs.Nine.{sumIn}
 use Rattle.drift.specs.Loops.{look, lookLine}
 use borrow.Author.Needs.{needs}
 use Rattle.drift.proofs.seen.look_line.Statement.{statement}
 use Rattle.drift.proofs.seen.look_line.Tie as tie
-use Rattle.drift.proofs.seen.look_line.Reads as reads
-use Rattle.drift.proofs.seen.look_line.Lts as lts
-use Rattle.drift.proofs.seen.look.Reads as look-reads
-use Rattle.places.proofs.last_leg.Reads as last-leg-reads
-use Rattle.places.proofs.legs_before.Reads as legs-before-reads
-use Rattle.places.proofs.with_leg.Reads as with-leg-reads
 
 abbrev Inv-loop : tie.InvT-loop
 Inv-loop i s seen₀ p₀ seen p = (p ≤ 9) × (seen ≡ times p (λ k. look (i * 9 + k) (sumIn s k)) seen₀)

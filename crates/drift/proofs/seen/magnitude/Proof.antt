@@ -1,11 +1,8 @@
 use Rattle.drift.specs.Floats.{magnitude-less, magnitude-zero, magnitude-more}
 use lib.Dec.{T}
 use mathlib.Core.Path.{sym, subst}
-use borrow.Author.Needs.{needs}
 use Rattle.drift.proofs.seen.magnitude.Statement.{statement}
 use Rattle.drift.proofs.seen.magnitude.Tie as tie
-use Rattle.drift.proofs.seen.magnitude.Reads as reads
-use Rattle.drift.proofs.seen.magnitude.Lts as lts
 
 returns : tie.Need-returns
 returns c = magnitude-less (c .before .args .x) (c .if1 .taken)

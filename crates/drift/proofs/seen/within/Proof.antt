@@ -1,7 +1,6 @@
 use mathlib.Core.Bool.{not, false≢true}
 use mathlib.Core.Path.{ap}
-use lib.Ieee.{eq, ne}
-use borrow.Author.Needs.{needs}
+use lib.Ieee.{ne}
 use Rattle.drift.proofs.seen.within.Statement.{statement}
 use Rattle.drift.proofs.seen.within.Tie as tie
 

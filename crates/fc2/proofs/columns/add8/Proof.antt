@@ -1,9 +1,9 @@
-use Prim.Native.Nat.{ℕ, _+_, _*_, _-_, _≤_, _<_}
+use Prim.Native.Nat.{ℕ, _+_, _-_, _≤_, _<_}
 use native.Mathlib.Omega.{arith}
-use mathlib.Core.Path.{_≡_, refl, sym, ap, ap₂, _∙_}
+use mathlib.Core.Path.{_≡_, refl}
 use lib.ListN.{length, getD}
 use mathlib.Core.List.{[]}
-use Rattle.lists.specs.Tab.{times, times-none, times-more, fill-more, is-tab}
+use Rattle.lists.specs.Tab.{fill-more, is-tab}
 use borrow.Author.Count.{below-none}
 use Rattle.blocks.specs.Block.{block}
 use Rattle.lines.specs.Nine.{more}
@@ -11,10 +11,6 @@ use Rattle.fc2.specs.FullLoops.{added8}
 use borrow.Author.Needs.{needs}
 use Rattle.fc2.proofs.columns.add8.Statement.{statement}
 use Rattle.fc2.proofs.columns.add8.Tie as tie
-use Rattle.fc2.proofs.columns.add8.Reads as reads
-use Rattle.fc2.proofs.columns.add8.Lts as lts
-use Rattle.blocks.proofs.read9.Reads as read9-reads
-use Rattle.lines.proofs.nine.more.Reads as more-reads
 
 abbrev Inv-loop : tie.InvT-loop
 Inv-loop fc b s r₀ c₀ r c = (c ≤ 8) × (length r ≡ 8) × ((k : ℕ) → k < c → getD r k [] ≡ more (getD s k []) (block 9 (b + k) fc))

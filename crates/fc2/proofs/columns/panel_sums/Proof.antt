@@ -1,6 +1,6 @@
-use Prim.Native.Nat.{ℕ, _+_, _*_, _-_, _≤_, _<_}
+use Prim.Native.Nat.{_+_, _*_, _-_, _≤_}
 use native.Mathlib.Omega.{arith}
-use mathlib.Core.Path.{_≡_, refl, sym, ap, ap₂, _∙_}
+use mathlib.Core.Path.{_≡_, ap, _∙_}
 use Rattle.lists.specs.Tab.{times, times-none, times-more}
 use Rattle.fc2.specs.FullLaws.{full-is}
 use Rattle.fc2.specs.FullLoops.{added8, panelSums}
@@ -8,10 +8,6 @@ use Rattle.fc2.specs.Columns.{panel-fits}
 use borrow.Author.Needs.{needs}
 use Rattle.fc2.proofs.columns.panel_sums.Statement.{statement}
 use Rattle.fc2.proofs.columns.panel_sums.Tie as tie
-use Rattle.fc2.proofs.columns.panel_sums.Reads as reads
-use Rattle.fc2.proofs.columns.panel_sums.Lts as lts
-use Rattle.fc2.proofs.columns.add8.Reads as add8-reads
-use Rattle.places.proofs.full2.Reads as full2-reads
 
 abbrev Inv-loop : tie.InvT-loop
 Inv-loop fc n j s₀ i₀ s i = (i ≤ n) × (s ≡ times i (λ a t. added8 t (a * n + j) fc) s₀)

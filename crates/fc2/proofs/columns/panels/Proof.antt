@@ -3,7 +3,6 @@ use mathlib.Core.List.{List}
 use lib.Ieee.{Float}
 use Prim.Native.Nat.{ℕ, _+_, _*_, _-_, _≤_}
 use native.Mathlib.Omega.{arith}
-use lib.ListN.{length}
 use Rattle.lines.specs.Lines.{Sized}
 use Rattle.fc2.specs.Columns.{Columns, columns-none, columns-panel, panel-drifted, Drifted}
 use borrow.Author.Needs.{needs}

@@ -1,18 +1,15 @@
-use Prim.Native.Nat.{ℕ, _+_, _*_, _-_, _≤_, _<_}
+use Prim.Native.Nat.{ℕ, _-_, _≤_, _<_}
 use native.Mathlib.Omega.{arith}
-use mathlib.Core.Path.{_≡_, refl, sym, ap, ap₂, _∙_}
+use mathlib.Core.Path.{_≡_, refl}
 use lib.ListN.{length, getD}
 use mathlib.Core.List.{[]}
-use Rattle.lists.specs.Tab.{times, times-none, times-more, fill-more, is-tab}
+use Rattle.lists.specs.Tab.{fill-more, is-tab}
 use borrow.Author.Count.{below-none}
 use Rattle.lines.specs.Nine.{scaled}
 use Rattle.fc2.specs.FullLoops.{scaled8}
 use borrow.Author.Needs.{needs}
 use Rattle.fc2.proofs.columns.scale8.Statement.{statement}
 use Rattle.fc2.proofs.columns.scale8.Tie as tie
-use Rattle.fc2.proofs.columns.scale8.Reads as reads
-use Rattle.fc2.proofs.columns.scale8.Lts as lts
-use Rattle.lines.proofs.nine.scaled.Reads as scaled-reads
 
 abbrev Inv-loop : tie.InvT-loop
 Inv-loop x s r₀ c₀ r c = (c ≤ 8) × (length r ≡ 8) × ((k : ℕ) → k < c → getD r k [] ≡ scaled (getD s k []) x)

@@ -1,19 +1,14 @@
-use Prim.Native.Nat.{ℕ, _+_, _*_, _-_, _≤_, _<_}
+use Prim.Native.Nat.{_+_, _-_, _≤_}
 use native.Mathlib.Omega.{arith}
-use mathlib.Core.Path.{_≡_, refl, sym, ap, ap₂, _∙_}
+use mathlib.Core.Path.{_≡_, refl, _∙_}
 use lib.ListN.{length, getD}
 use mathlib.Core.List.{[]}
-use Rattle.lists.specs.Tab.{times, times-none, times-more, fill-more, is-tab}
+use Rattle.lists.specs.Tab.{times, times-none, times-more}
 use Rattle.lines.specs.Lines.{lessAt}
 use Rattle.fc2.specs.FullLoops.{less8}
 use borrow.Author.Needs.{needs}
 use Rattle.fc2.proofs.columns.take8.Statement.{statement}
 use Rattle.fc2.proofs.columns.take8.Tie as tie
-use Rattle.fc2.proofs.columns.take8.Reads as reads
-use Rattle.fc2.proofs.columns.take8.Lts as lts
-use Rattle.blocks.proofs.read9.Reads as read9-reads
-use Rattle.blocks.proofs.write9.Reads as write9-reads
-use Rattle.lines.proofs.nine.less.Reads as less-reads
 
 abbrev Inv-loop : tie.InvT-loop
 Inv-loop fc₀ b d c₀ fc c = (c ≤ 8) × (length fc ≡ length fc₀) × (fc ≡ times c (λ k. lessAt (getD d k []) (b + k)) fc₀)

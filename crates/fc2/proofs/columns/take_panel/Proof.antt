@@ -1,6 +1,6 @@
-use Prim.Native.Nat.{ℕ, _+_, _*_, _-_, _≤_, _<_}
+use Prim.Native.Nat.{_+_, _*_, _-_, _≤_}
 use native.Mathlib.Omega.{arith}
-use mathlib.Core.Path.{_≡_, refl, sym, ap, ap₂, _∙_}
+use mathlib.Core.Path.{_≡_, refl, ap, _∙_}
 use lib.ListN.{length}
 use Rattle.lists.specs.Tab.{times, times-none, times-more}
 use Rattle.fc2.specs.FullLaws.{full-is}
@@ -9,10 +9,6 @@ use Rattle.fc2.specs.Columns.{panel-fits}
 use borrow.Author.Needs.{needs}
 use Rattle.fc2.proofs.columns.take_panel.Statement.{statement}
 use Rattle.fc2.proofs.columns.take_panel.Tie as tie
-use Rattle.fc2.proofs.columns.take_panel.Reads as reads
-use Rattle.fc2.proofs.columns.take_panel.Lts as lts
-use Rattle.fc2.proofs.columns.take8.Reads as take8-reads
-use Rattle.places.proofs.full2.Reads as full2-reads
 
 abbrev Inv-loop : tie.InvT-loop
 Inv-loop fc₀ d n j i₀ fc i = (i ≤ n) × (length fc ≡ length fc₀) × (fc ≡ times i (λ a. less8 d (a * n + j)) fc₀)

@@ -1,18 +1,14 @@
-use Prim.Native.Nat.{ℕ, _+_, _*_, _-_, _≤_, _<_}
+use Prim.Native.Nat.{_+_, _*_, _-_, _≤_}
 use native.Mathlib.Omega.{arith}
-use mathlib.Core.Path.{_≡_, refl, sym, ap, ap₂, _∙_}
-use lib.ListN.{length, getD}
-use Rattle.lists.specs.Tab.{times, times-none, times-more, fill-more, is-tab}
+use mathlib.Core.Path.{_≡_, refl, ap₂, _∙_}
+use lib.ListN.{length}
+use Rattle.lists.specs.Tab.{times, times-none, times-more}
 use Rattle.lines.specs.Lines.{pairAt}
 use Rattle.fc2.specs.FullLaws.{pair-inside, full-is}
 use Rattle.fc2.specs.FullLoops.{pairsBefore}
 use borrow.Author.Needs.{needs}
 use Rattle.fc2.proofs.full.average_before.Statement.{statement}
 use Rattle.fc2.proofs.full.average_before.Tie as tie
-use Rattle.fc2.proofs.full.average_before.Reads as reads
-use Rattle.fc2.proofs.full.average_before.Lts as lts
-use Rattle.lines.proofs.average_pair.Reads as average-pair-reads
-use Rattle.places.proofs.full2.Reads as full2-reads
 
 abbrev Inv-loop : tie.InvT-loop
 Inv-loop fc₀ n i j₀ fc j = (j ≤ i) × (length fc ≡ length fc₀) × (fc ≡ times j (λ k. pairAt (k * n + i) (i * n + k)) fc₀)

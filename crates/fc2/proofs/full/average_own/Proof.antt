@@ -2,11 +2,6 @@ use Rattle.fc2.specs.FullLoops.{ownAt}
 use borrow.Author.Needs.{needs}
 use Rattle.fc2.proofs.full.average_own.Statement.{statement}
 use Rattle.fc2.proofs.full.average_own.Tie as tie
-use Rattle.fc2.proofs.full.average_own.Reads as reads
-use Rattle.fc2.proofs.full.average_own.Lts as lts
-use Rattle.blocks.proofs.read9.Reads as read9-reads
-use Rattle.blocks.proofs.write9.Reads as write9-reads
-use Rattle.fc2.proofs.full.evened.Reads as evened-reads
 
 read9-requires : tie.Need-read9-requires
 read9-requires c κs = search needs

@@ -2,8 +2,6 @@ use Rattle.fc2.specs.FullLaws.{evened-once}
 use borrow.Author.Needs.{needs}
 use Rattle.fc2.proofs.full.evened.Statement.{statement}
 use Rattle.fc2.proofs.full.evened.Tie as tie
-use Rattle.fc2.proofs.full.evened.Reads as reads
-use Rattle.fc2.proofs.full.evened.Lts as lts
 
 array-read-x : tie.Need-array-read-x
 array-read-x c = search needs

@@ -6,13 +6,10 @@ use Rattle.tables.specs.Lengths.{set-length2}
 use Rattle.fc2.specs.Full.{judgedFull}
 use Rattle.fc2.specs.FullLaws.{square}
 use borrow.Author.Tests.{lt-ltb, le-ltb}
-use borrow.Author.Tests.{le-leb, lt-leb, eq-eqb, ne-eqb}
+use borrow.Author.Tests.{eq-eqb, ne-eqb}
 use native.Mathlib.Omega.{arith}
-use borrow.Author.Needs.{needs}
 use Rattle.fc2.proofs.full.judge_full.Statement.{statement}
 use Rattle.fc2.proofs.full.judge_full.Tie as tie
-use Rattle.fc2.proofs.full.judge_full.Reads as reads
-use Rattle.fc2.proofs.full.judge_full.Lts as lts
 
 -- the fact that an edit of the test for it breaks
 many-levels : (len n level : ℕ) → n ≤ 1024 → 1000 < level → Refused CountAboveLimit ≡ judgedFull len n level

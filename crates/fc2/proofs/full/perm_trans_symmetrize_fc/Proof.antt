@@ -3,11 +3,6 @@ use mathlib.Core.Path.{sym, ap, _∙_}
 use borrow.Author.Needs.{needs}
 use Rattle.fc2.proofs.full.perm_trans_symmetrize_fc.Statement.{statement}
 use Rattle.fc2.proofs.full.perm_trans_symmetrize_fc.Tie as tie
-use Rattle.fc2.proofs.full.perm_trans_symmetrize_fc.Reads as reads
-use Rattle.fc2.proofs.full.perm_trans_symmetrize_fc.Lts as lts
-use Rattle.fc2.proofs.full.judge_full.Reads as judge-full-reads
-use Rattle.fc2.proofs.full.symmetrize.Reads as symmetrize-reads
-use Rattle.tables.proofs.is_refusal.Reads as is-refusal-reads
 
 judge-full-requires : tie.Need-judge-full-requires
 judge-full-requires c κs = search needs

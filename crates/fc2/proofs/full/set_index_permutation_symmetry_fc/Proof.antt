@@ -1,6 +1,6 @@
-use Prim.Native.Nat.{ℕ, _+_, _*_, _-_, _≤_, _<_}
+use Prim.Native.Nat.{_+_, _*_, _-_, _≤_}
 use native.Mathlib.Omega.{arith}
-use mathlib.Core.Path.{_≡_, refl, sym, ap, ap₂, _∙_}
+use mathlib.Core.Path.{_≡_, refl, _∙_}
 use lib.ListN.{length}
 use Rattle.lists.specs.Tab.{times, times-none, times-more}
 use Rattle.fc2.specs.FullLaws.{pair-inside, full-is}
@@ -8,11 +8,6 @@ use Rattle.fc2.specs.FullLoops.{ownAt, pairsBefore, pairs}
 use borrow.Author.Needs.{needs}
 use Rattle.fc2.proofs.full.set_index_permutation_symmetry_fc.Statement.{statement}
 use Rattle.fc2.proofs.full.set_index_permutation_symmetry_fc.Tie as tie
-use Rattle.fc2.proofs.full.set_index_permutation_symmetry_fc.Reads as reads
-use Rattle.fc2.proofs.full.set_index_permutation_symmetry_fc.Lts as lts
-use Rattle.fc2.proofs.full.average_before.Reads as average-before-reads
-use Rattle.fc2.proofs.full.average_own.Reads as average-own-reads
-use Rattle.places.proofs.full2.Reads as full2-reads
 
 abbrev Inv-loop : tie.InvT-loop
 Inv-loop fc₀ n i₀ fc i = (i ≤ n) × (length fc ≡ length fc₀) × (fc ≡ times i (λ k xs. ownAt (k * n + k) (pairsBefore n k xs)) fc₀)

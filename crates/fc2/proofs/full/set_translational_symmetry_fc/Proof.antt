@@ -1,8 +1,8 @@
-use Prim.Native.Nat.{ℕ, _+_, _*_, _-_, _≤_, _<_}
+use Prim.Native.Nat.{_-_, _≤_}
 use native.Mathlib.Omega.{arith}
-use mathlib.Core.Path.{_≡_, refl, sym, ap, ap₂, _∙_}
-use lib.ListN.{length, getD}
-use Rattle.lists.specs.Tab.{times, times-none, times-more, fill-more, is-tab}
+use mathlib.Core.Path.{_≡_, refl, ap, _∙_}
+use lib.ListN.{length}
+use Rattle.lists.specs.Tab.{times, times-none, times-more}
 use Rattle.blocks.specs.Block.{putBlock}
 use Rattle.lines.specs.Nine.{balance}
 use Rattle.lines.specs.Lines.{others, row-of, own-fits, balanceAt, balances}
@@ -11,12 +11,6 @@ use Rattle.fc2.specs.FullLoops.{diagonals}
 use borrow.Author.Needs.{needs}
 use Rattle.fc2.proofs.full.set_translational_symmetry_fc.Statement.{statement}
 use Rattle.fc2.proofs.full.set_translational_symmetry_fc.Tie as tie
-use Rattle.fc2.proofs.full.set_translational_symmetry_fc.Reads as reads
-use Rattle.fc2.proofs.full.set_translational_symmetry_fc.Lts as lts
-use Rattle.blocks.proofs.write9.Reads as write9-reads
-use Rattle.nines.proofs.balance.Reads as balance-reads
-use Rattle.lines.proofs.other_sums.Reads as other-sums-reads
-use Rattle.places.proofs.full2.Reads as full2-reads
 
 abbrev Inv-loop : tie.InvT-loop
 Inv-loop fc₀ n i₀ fc i = (i ≤ n) × (length fc ≡ length fc₀) × (fc ≡ times i (balanceAt n (λ k. k)) fc₀)

@@ -4,17 +4,13 @@ use Rattle.fc2.specs.FullWork.{work-makes}
 use Rattle.fc2.specs.FullLoops.{swept, diagonals, worked}
 use Rattle.lines.specs.Nine.{inverse}
 use Rattle.lists.specs.Tab.{times, times-none, times-more}
-use mathlib.Core.Path.{_≡_, refl, ap, sym, _∙_, subst}
+use mathlib.Core.Path.{_≡_, refl, ap, _∙_}
 use lib.ListN.{length}
 use native.Mathlib.Omega.{arith}
-use Prim.Native.Nat.{ℕ, _≤_, _<_, _-_, _+_, _*_, _^_}
+use Prim.Native.Nat.{_≤_, _-_, _^_}
 use borrow.Author.Needs.{needs}
 use Rattle.fc2.proofs.full.symmetrize.Statement.{statement}
 use Rattle.fc2.proofs.full.symmetrize.Tie as tie
-use Rattle.fc2.proofs.full.symmetrize.Reads as reads
-use Rattle.fc2.proofs.full.symmetrize.Lts as lts
-use Rattle.fc2.proofs.full.one_level.Reads as one-level-reads
-use Rattle.fc2.proofs.full.set_translational_symmetry_fc.Reads as set-translational-symmetry-fc-reads
 
 abbrev Inv-loop : tie.InvT-loop
 Inv-loop fc₀ n level inv-n t₀ fc t = (t ≤ level) × (length fc ≡ length fc₀) × (fc ≡ times t (λ _. swept n inv-n) fc₀)

@@ -5,8 +5,6 @@ use borrow.Author.Needs.{needs}
 use Rattle.orbits.specs.Spread.{setAll}
 use Rattle.fc3.proofs.compact.mark.Statement.{statement}
 use Rattle.fc3.proofs.compact.mark.Tie as tie
-use Rattle.fc3.proofs.compact.mark.Reads as reads
-use Rattle.fc3.proofs.compact.mark.Lts as lts
 
 -- src/compact.rt:27:5
 slice-write-done : tie.Need-slice-write-done

@@ -10,9 +10,6 @@ use Rattle.orbits.specs.GroupLoop.{State}
 use Rattle.fc3.specs.Loops.{at3, visitAt, row3}
 use Rattle.fc3.proofs.compact.row.Statement.{statement}
 use Rattle.fc3.proofs.compact.row.Tie as tie
-use Rattle.fc3.proofs.compact.row.Reads as reads
-use Rattle.fc3.proofs.compact.row.Lts as lts
-use Rattle.fc3.proofs.compact.visit.Reads as visit-reads
 
 abbrev Inv-loop : tie.InvT-loop
 Inv-loop fc3₀ p2s s2pp nsym-list perms done₀ n-satom n-patom num-trans p j k₀ fc3 done k =

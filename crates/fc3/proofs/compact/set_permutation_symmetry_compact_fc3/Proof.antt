@@ -3,12 +3,6 @@ use borrow.Author.Needs.{needs}
 use Rattle.fc3.specs.Loops.{symmetrize-refused, symmetrize-ready, symmetrize-done}
 use Rattle.fc3.proofs.compact.set_permutation_symmetry_compact_fc3.Statement.{statement}
 use Rattle.fc3.proofs.compact.set_permutation_symmetry_compact_fc3.Tie as tie
-use Rattle.fc3.proofs.compact.set_permutation_symmetry_compact_fc3.Reads as reads
-use Rattle.fc3.proofs.compact.set_permutation_symmetry_compact_fc3.Lts as lts
-use Rattle.fc3.proofs.compact.slabs.Reads as slabs-reads
-use Rattle.lists.proofs.clear_bytes.Reads as clear-bytes-reads
-use Rattle.shifts.proofs.judge_compact.Reads as judge-compact-reads
-use Rattle.tables.proofs.is_refusal.Reads as is-refusal-reads
 
 -- src/compact.rt:176:9
 judge-compact-requires : tie.Need-judge-compact-requires

@@ -10,9 +10,6 @@ use Rattle.orbits.specs.GroupLoop.{State}
 use Rattle.fc3.specs.Loops.{row3, slab3}
 use Rattle.fc3.proofs.compact.slab.Statement.{statement}
 use Rattle.fc3.proofs.compact.slab.Tie as tie
-use Rattle.fc3.proofs.compact.slab.Reads as reads
-use Rattle.fc3.proofs.compact.slab.Lts as lts
-use Rattle.fc3.proofs.compact.row.Reads as row-reads
 
 abbrev Inv-loop : tie.InvT-loop
 Inv-loop fc3₀ p2s s2pp nsym-list perms done₀ n-satom n-patom num-trans p j₀ fc3 done j =

@@ -10,9 +10,6 @@ use Rattle.orbits.specs.GroupLoop.{State}
 use Rattle.fc3.specs.Loops.{slab3, all3}
 use Rattle.fc3.proofs.compact.slabs.Statement.{statement}
 use Rattle.fc3.proofs.compact.slabs.Tie as tie
-use Rattle.fc3.proofs.compact.slabs.Reads as reads
-use Rattle.fc3.proofs.compact.slabs.Lts as lts
-use Rattle.fc3.proofs.compact.slab.Reads as slab-reads
 
 abbrev Inv-loop : tie.InvT-loop
 Inv-loop fc3₀ p2s s2pp nsym-list perms done₀ n-satom n-patom num-trans p₀ fc3 done p =

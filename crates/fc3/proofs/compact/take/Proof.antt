@@ -3,13 +3,6 @@ use borrow.Author.Needs.{needs}
 use Rattle.fc3.specs.Loops.{p2s-read, read-tables, Found, all-in, marks-in, took}
 use Rattle.fc3.proofs.compact.take.Statement.{statement}
 use Rattle.fc3.proofs.compact.take.Tie as tie
-use Rattle.fc3.proofs.compact.take.Reads as reads
-use Rattle.fc3.proofs.compact.take.Lts as lts
-use Rattle.fc3.proofs.compact.mark.Reads as mark-reads
-use Rattle.fc3_groups.proofs.spread.work_group.Reads as work-group-reads
-use Rattle.places.proofs.block3.Reads as block3-reads
-use Rattle.places.proofs.read_out3.Reads as read-out3-reads
-use Rattle.tables.proofs.atoms.p2s_at.Reads as p2s-at-reads
 
 -- src/compact.rt:49:9
 p2s-at-requires : tie.Need-p2s-at-requires

@@ -4,10 +4,6 @@ use borrow.Author.Needs.{needs}
 use Rattle.fc3.specs.Loops.{at-below, plain3, visit-free, visit-met}
 use Rattle.fc3.proofs.compact.visit.Statement.{statement}
 use Rattle.fc3.proofs.compact.visit.Tie as tie
-use Rattle.fc3.proofs.compact.visit.Reads as reads
-use Rattle.fc3.proofs.compact.visit.Lts as lts
-use Rattle.fc3.proofs.compact.take.Reads as take-reads
-use Rattle.places.proofs.block3.Reads as block3-reads
 
 -- src/compact.rt:85:9
 block3-requires : tie.Need-block3-requires

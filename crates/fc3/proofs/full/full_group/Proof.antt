@@ -1,6 +1,4 @@
-use Prim.Native.Nat.{_≤_, _<_}
 use native.Mathlib.Omega.{arith}
-use mathlib.Core.Path.{refl}
 use Rattle.fc3.specs.FullLoops.{Found, found-in, found-distinct, found-first, found-last, found-is}
 use borrow.Author.Needs.{needs}
 use Rattle.fc3.proofs.full.full_group.Statement.{statement}

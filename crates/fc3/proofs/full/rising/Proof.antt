@@ -2,8 +2,6 @@ use mathlib.Core.Bool.{false≢true}
 use borrow.Author.Tests.{ltb-true}
 use Rattle.fc3.proofs.full.rising.Statement.{statement}
 use Rattle.fc3.proofs.full.rising.Tie as tie
-use Rattle.fc3.proofs.full.rising.Reads as reads
-use Rattle.fc3.proofs.full.rising.Lts as lts
 
 -- src/full.rt:21:9
 returns : tie.Need-returns

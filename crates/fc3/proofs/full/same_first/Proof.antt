@@ -2,8 +2,6 @@ use mathlib.Core.Bool.{false≢true}
 use borrow.Author.Tests.{ltb-true}
 use Rattle.fc3.proofs.full.same_first.Statement.{statement}
 use Rattle.fc3.proofs.full.same_first.Tie as tie
-use Rattle.fc3.proofs.full.same_first.Reads as reads
-use Rattle.fc3.proofs.full.same_first.Lts as lts
 
 returns : tie.Need-returns
 returns c = λ e. (c .before .before .if1 .taken, ltb-true _ _ e)

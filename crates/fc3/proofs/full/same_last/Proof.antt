@@ -2,8 +2,6 @@ use mathlib.Core.Bool.{false≢true}
 use borrow.Author.Tests.{ltb-true}
 use Rattle.fc3.proofs.full.same_last.Statement.{statement}
 use Rattle.fc3.proofs.full.same_last.Tie as tie
-use Rattle.fc3.proofs.full.same_last.Reads as reads
-use Rattle.fc3.proofs.full.same_last.Lts as lts
 
 returns : tie.Need-returns
 returns c = λ e. (c .before .before .if1 .taken, ltb-true _ _ e)

@@ -3,8 +3,6 @@ use mathlib.Core.Bool.{false≢true}
 use borrow.Author.Tests.{eqb-false, not-true}
 use Rattle.fc3_groups.proofs.spread.apart.Statement.{statement}
 use Rattle.fc3_groups.proofs.spread.apart.Tie as tie
-use Rattle.fc3_groups.proofs.spread.apart.Reads as reads
-use Rattle.fc3_groups.proofs.spread.apart.Lts as lts
 
 -- src/spread.rt:71:9
 returns : tie.Need-returns

@@ -4,9 +4,6 @@ use borrow.Author.Tests.{eqb-false, not-true}
 use borrow.Author.Needs.{needs}
 use Rattle.fc3_groups.proofs.spread.distinct.Statement.{statement}
 use Rattle.fc3_groups.proofs.spread.distinct.Tie as tie
-use Rattle.fc3_groups.proofs.spread.distinct.Reads as reads
-use Rattle.fc3_groups.proofs.spread.distinct.Lts as lts
-use Rattle.fc3_groups.proofs.spread.apart.Reads as apart-reads
 
 -- src/spread.rt:89:8
 apart-requires : tie.Need-apart-requires

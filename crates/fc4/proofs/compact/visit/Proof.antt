@@ -1,5 +1,3 @@
-use Prim.Native.Nat.{_<_}
-use mathlib.Core.Path.{_≡_}
 use Rattle.tables.specs.Compact.{shiftTables, shiftsOf}
 use Rattle.fc4.specs.Loops.{takes, sized, visit-free, visit-met}
 use borrow.Author.Needs.{needs}

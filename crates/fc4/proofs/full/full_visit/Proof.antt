@@ -1,6 +1,3 @@
-use Prim.Native.Nat.{_<_}
-use mathlib.Core.Path.{_≡_}
-use Rattle.places.specs.Whole.{whole, whole-laws}
 use Rattle.fc4.specs.Loops.{full-takes, visit-free, visit-met}
 use borrow.Author.Needs.{needs}
 use Rattle.fc4.proofs.full.full_visit.Statement.{statement}

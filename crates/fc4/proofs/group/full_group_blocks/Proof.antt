@@ -1,6 +1,5 @@
 use Prim.Native.Nat.{_<_}
-use native.Mathlib.Omega.{arith}
-use mathlib.Core.Path.{_≡_, _∙_}
+use mathlib.Core.Path.{_∙_}
 use Rattle.lists.specs.Digits.{horner}
 use Rattle.fc4.specs.Blocks.{whole-below, whole-pos, whole-are, joined-are, legs-are, same-atoms}
 use borrow.Author.Needs.{needs}

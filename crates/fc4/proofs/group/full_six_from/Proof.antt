@@ -1,4 +1,3 @@
-use mathlib.Core.Path.{_≡_}
 use native.Mathlib.Omega.{arith}
 use Rattle.fc4.proofs.group.full_six_from.Statement.{statement}
 use Rattle.fc4.proofs.group.full_six_from.Tie as tie

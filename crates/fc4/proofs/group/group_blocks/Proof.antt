@@ -1,5 +1,4 @@
 use Prim.Native.Nat.{_<_}
-use native.Mathlib.Omega.{arith}
 use mathlib.Core.Path.{_≡_, refl, ap, _∙_}
 use Rattle.tables.specs.Conditions.{indexAt}
 use Rattle.places.specs.ReadOuts.{storedIn}

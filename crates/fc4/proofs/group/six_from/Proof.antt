@@ -1,4 +1,3 @@
-use mathlib.Core.Path.{_≡_}
 use Rattle.fc4.proofs.group.six_from.Statement.{statement}
 use Rattle.fc4.proofs.group.six_from.Tie as tie
 

@@ -1,6 +1,5 @@
 -- One after the other, up to the first that no earlier one is like. Assumes nothing.
 use Prim.Native.Nat.{_-_}
-use native.Mathlib.Omega.{arith}
 use borrow.Author.Needs.{needs}
 use Rattle.fc4_groups.specs.Spread.{NextBlock, none-passed, one-more-passed}
 use Rattle.fc4_groups.proofs.spread.next_block.Statement.{statement}

@@ -1,6 +1,5 @@
 -- `finding::rest::holds_at` meets its contract. Assumes nothing.
-use mathlib.Core.Path.{_≡_, refl, sym, ap, _∙_}
-use borrow.Author.Tests.{eqb-true, eqb-false}
+use mathlib.Core.Path.{sym, ap, _∙_}
 use lib.IntN.{pos}
 use borrow.Author.Needs.{needs}
 use Rattle.chains.specs.Steps.{filled-pos}

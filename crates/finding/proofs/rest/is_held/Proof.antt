@@ -1,13 +1,8 @@
 -- `finding::rest::is_held` meets its contract. Assumes nothing.
-use mathlib.Core.Path.{_≡_, refl}
-use mathlib.Core.Bool.{true, false, true≢false, false≢true}
-use Prim.Native.Nat.{ℕ, _≤_, _<_, _-_}
+use Prim.Native.Nat.{_≤_, _-_}
 use native.Mathlib.Omega.{arith}
 use lib.ListN.{length}
-use borrow.Author.Count.{below-none, below-more}
 use borrow.Author.Needs.{needs}
-use lib.IntN.{ℤ}
-use Rattle.cells.specs.Slots.{slotAt}
 use Rattle.finding.specs.Housing.{NotBelow, not-none, not-more, held-at, held-nowhere}
 use Rattle.finding.proofs.rest.is_held.Statement.{statement}
 use Rattle.finding.proofs.rest.is_held.Tie as tie

@@ -2,7 +2,7 @@
 use mathlib.Core.Path.{refl}
 use native.Mathlib.Omega.{arith}
 use borrow.Author.Needs.{needs}
-use Rattle.records.specs.Values.{classes, classOf}
+use Rattle.records.specs.Values.{classes}
 use Rattle.records.proofs.values.class.Statement.{statement}
 use Rattle.records.proofs.values.class.Tie as tie
 

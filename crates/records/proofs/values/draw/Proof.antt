@@ -1,9 +1,7 @@
 -- `records::values::draw` meets its contract. Assumes nothing.
-use mathlib.Core.Path.{_≡_, ap, _∙_}
-use Prim.Native.Nat.{ℕ}
-use native.Mathlib.Omega.{arith}
+use mathlib.Core.Path.{ap, _∙_}
 use borrow.Author.Needs.{needs}
-use Rattle.records.specs.Values.{stirred, drawn}
+use Rattle.records.specs.Values.{stirred}
 use Rattle.records.proofs.values.draw.Statement.{statement}
 use Rattle.records.proofs.values.draw.Tie as tie
 

@@ -1,12 +1,10 @@
 -- `records::values::entry` meets its contract. Assumes nothing.
-use mathlib.Core.Path.{_≡_, ap, _∙_}
-use Prim.Native.Nat.{ℕ}
+use mathlib.Core.Path.{ap, _∙_}
 use borrow.Author.Needs.{needs}
 use mir.Syntax.{w64}
 use mir.Val.{toZ}
 use mir.ValLaws.{toZ-ofZ}
 use Rattle.records.specs.Words.{wordOf}
-use Rattle.records.specs.Values.{entryAt}
 use Rattle.records.proofs.values.entry.Statement.{statement}
 use Rattle.records.proofs.values.entry.Tie as tie
 

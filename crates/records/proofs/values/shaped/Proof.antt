@@ -1,7 +1,7 @@
 -- `records::values::shaped` meets its contract. Assumes nothing.
 use mathlib.Core.Path.{refl}
 use borrow.Author.Needs.{needs}
-use Rattle.records.specs.Values.{keptBits, setBits, shapedBits}
+use Rattle.records.specs.Values.{keptBits, setBits}
 use Rattle.records.proofs.values.shaped.Statement.{statement}
 use Rattle.records.proofs.values.shaped.Tie as tie
 

@@ -1,7 +1,6 @@
 -- `records::values::value` meets its contract. Assumes nothing.
-use mathlib.Core.Path.{_≡_, refl, sym, ap, _∙_}
+use mathlib.Core.Path.{_≡_, ap, _∙_}
 use Prim.Native.Nat.{ℕ, _+_, _*_}
-use native.Mathlib.Omega.{arith}
 use borrow.Author.Needs.{needs}
 use lib.Ieee.{Float, binary64, ofBits}
 use Rattle.records.specs.Values.{stirred, drawn, classOf, shapedBits, patternOf, valueAt}

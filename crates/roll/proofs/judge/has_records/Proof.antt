@@ -2,12 +2,10 @@
 use mathlib.Core.Path.{refl}
 use native.Mathlib.Omega.{arith}
 use borrow.Author.Tests.{not-false}
-use lib.ListN.{length}
 use Rattle.lists.specs.Tests.{every}
 use Rattle.roll.specs.Reading.{follow, listedOnce}
 use Rattle.roll.specs.Starts.{told-no, told-yes, follow-ends}
 use Rattle.roll.specs.Holding.{no-and, yes-and}
-use borrow.Author.Needs.{needs}
 use Rattle.roll.proofs.judge.has_records.Statement.{statement}
 use Rattle.roll.proofs.judge.has_records.Tie as tie
 

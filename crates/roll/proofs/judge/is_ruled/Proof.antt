@@ -3,7 +3,6 @@ use mathlib.Core.Path.{refl}
 use native.Mathlib.Omega.{arith}
 use borrow.Author.Tests.{le-leb, lt-leb, eq-eqb, ne-eqb}
 use Rattle.roll.specs.Format.{ruled}
-use borrow.Author.Needs.{needs}
 use Rattle.roll.proofs.judge.is_ruled.Statement.{statement}
 use Rattle.roll.proofs.judge.is_ruled.Tie as tie
 

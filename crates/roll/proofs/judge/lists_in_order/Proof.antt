@@ -7,8 +7,7 @@ use native.Mathlib.Omega.{arith}
 use borrow.Author.Count.{below-none, below-more}
 use borrow.Author.Tests.{eq-eqb, ne-eqb}
 use lib.Dec.{eqb, leb}
-use lib.ListN.{length}
-use Rattle.lists.specs.Tests.{every, and-false, every-of}
+use Rattle.lists.specs.Tests.{every, every-of}
 use Rattle.roll.specs.Reading.{start, sizeAt, ruledAt, follow, listed}
 use Rattle.roll.specs.Starts.{told-no, told-yes, start-first, next-start, fit-says, not-fitting, following, listed-is, one-failed}
 use Rattle.roll.specs.Holding.{no-and, and-no, and-yes}

@@ -4,7 +4,7 @@ use mathlib.Core.Bool.{true}
 use Prim.Native.Nat.{ℕ, _+_, _-_, _≤_, _<_}
 use native.Mathlib.Omega.{arith}
 use borrow.Author.Count.{below-none, below-more}
-use lib.ListN.{length, getD, set}
+use lib.ListN.{getD, set}
 use Rattle.roll.specs.Reading.{start, listedOnce}
 use Rattle.roll.specs.Roll.{Marked}
 use Rattle.roll.specs.Starts.{Open, all-open, one-shut, is-shut, is-open, listed-is, not-listed, all-passed, one-failed}

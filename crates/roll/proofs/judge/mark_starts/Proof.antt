@@ -1,13 +1,13 @@
 -- `roll::judge::mark_starts` meets its contract. The loop: the records passed keep the rules and are marked, and `at` is where the next starts.
 -- Assumes nothing.
-use mathlib.Core.Path.{_≡_, refl, sym, ap, _∙_, subst}
+use mathlib.Core.Path.{_≡_, sym, ap, _∙_, subst}
 use mathlib.Core.Bool.{true, false, _&&_, true≢false}
 use Prim.Native.Nat.{ℕ, _+_, _-_, _≤_, _<_}
 use native.Mathlib.Omega.{arith}
 use borrow.Author.Count.{below-none, below-more}
 use lib.Dec.{eqb, leb}
-use lib.ListN.{length, set}
-use Rattle.roll.specs.Reading.{start, sizeAt, ruledAt, follow}
+use lib.ListN.{set}
+use Rattle.roll.specs.Reading.{start, sizeAt, ruledAt}
 use Rattle.roll.specs.Roll.{Marked}
 use Rattle.roll.specs.Starts.{told-no, told-yes, start-first, next-start, fit-says, not-fitting, following, none-marked, one-marked}
 use borrow.Author.Needs.{needs}

@@ -1,11 +1,7 @@
 use borrow.Author.Tests.{not-true, not-false}
 use Rattle.roll_read.specs.Steps.{not-held, held-by}
-use borrow.Author.Needs.{needs}
 use Rattle.roll_read.proofs.reading.holds_record.Statement.{statement}
 use Rattle.roll_read.proofs.reading.holds_record.Tie as tie
-use Rattle.roll_read.proofs.reading.holds_record.Reads as reads
-use Rattle.roll_read.proofs.reading.holds_record.Lts as lts
-use Rattle.roll_read.proofs.reading.starts_at.Reads as starts-at-reads
 
 returns : tie.Need-returns
 returns c =

@@ -1,5 +1,5 @@
-use mathlib.Core.Path.{_≡_, sym, ap, _∙_}
-use Prim.Native.Nat.{ℕ, _+_, _-_}
+use mathlib.Core.Path.{_≡_, ap, _∙_}
+use Prim.Native.Nat.{_+_, _-_}
 use native.Mathlib.Omega.{arith}
 use lib.ListN.{take, drop, getD}
 use Rattle.roll.specs.Starts.{told-no, told-yes}
@@ -7,10 +7,6 @@ use Rattle.roll_read.specs.Steps.{no-label, record-label, record-room}
 use borrow.Author.Needs.{needs}
 use Rattle.roll_read.proofs.reading.label_by.Statement.{statement}
 use Rattle.roll_read.proofs.reading.label_by.Tie as tie
-use Rattle.roll_read.proofs.reading.label_by.Reads as reads
-use Rattle.roll_read.proofs.reading.label_by.Lts as lts
-use Rattle.roll.proofs.numbers.wide.Reads as wide-reads
-use Rattle.roll_read.proofs.reading.holds_record.Reads as holds-record-reads
 
 returns : tie.Need-returns
 returns c =

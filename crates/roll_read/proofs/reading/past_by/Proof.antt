@@ -1,14 +1,9 @@
-use mathlib.Core.Path.{_≡_, sym, _∙_}
 use native.Mathlib.Omega.{arith}
 use Rattle.roll.specs.Starts.{told-no, told-yes}
 use Rattle.roll_read.specs.Steps.{stays, goes-on, record-room}
 use borrow.Author.Needs.{needs}
 use Rattle.roll_read.proofs.reading.past_by.Statement.{statement}
 use Rattle.roll_read.proofs.reading.past_by.Tie as tie
-use Rattle.roll_read.proofs.reading.past_by.Reads as reads
-use Rattle.roll_read.proofs.reading.past_by.Lts as lts
-use Rattle.roll.proofs.numbers.wide.Reads as wide-reads
-use Rattle.roll_read.proofs.reading.holds_record.Reads as holds-record-reads
 
 returns : tie.Need-returns
 returns c =

@@ -1,16 +1,10 @@
-use mathlib.Core.Path.{_≡_, sym, _∙_}
+use mathlib.Core.Path.{sym, _∙_}
 use native.Mathlib.Omega.{arith}
 use borrow.Author.Tests.{not-true, not-false}
 use Rattle.roll.specs.Holding.{framed-sized}
 use Rattle.roll_read.specs.Steps.{ends-in, read-not, read-record, read-end, read-none, its-trailer}
-use borrow.Author.Needs.{needs}
 use Rattle.roll_read.proofs.reading.read_by.Statement.{statement}
 use Rattle.roll_read.proofs.reading.read_by.Tie as tie
-use Rattle.roll_read.proofs.reading.read_by.Reads as reads
-use Rattle.roll_read.proofs.reading.read_by.Lts as lts
-use Rattle.roll.proofs.numbers.four.Reads as four-reads
-use Rattle.roll_read.proofs.reading.record_at.Reads as record-at-reads
-use Rattle.roll_read.proofs.reading.starts_at.Reads as starts-at-reads
 
 returns : tie.Need-returns
 returns c =

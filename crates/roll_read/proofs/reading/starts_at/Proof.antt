@@ -1,16 +1,15 @@
 -- `roll_read::reading::starts_at` meets its contract. The loop: p is where record i starts, and no earlier record starts at the position asked for.
 -- Assumes nothing.
-use mathlib.Core.Path.{_≡_, sym, ap, _∙_, subst}
+use mathlib.Core.Path.{_≡_, _∙_, subst}
 use mathlib.Core.Bool.{false}
-use Prim.Native.Nat.{ℕ, _+_, _-_, _≤_, _<_}
+use Prim.Native.Nat.{ℕ, _-_, _≤_, _<_}
 use native.Mathlib.Omega.{arith}
 use lib.Dec.{eqb}
 use borrow.Author.Tests.{eq-eqb, ne-eqb}
 use borrow.Author.Count.{below-none, below-more}
 use Rattle.roll.specs.Reading.{start, isStart, countOf}
-use Rattle.roll.specs.Starts.{start-first, next-start, ends-before, head-before, one-passed, all-failed}
+use Rattle.roll.specs.Starts.{start-first, next-start, one-passed, all-failed}
 use Rattle.roll.specs.Holding.{count-is, framed-eight}
-use Rattle.roll.specs.Roll.{Sized}
 use Rattle.roll_read.specs.Steps.{inside}
 use borrow.Author.Needs.{needs}
 use Rattle.roll_read.proofs.reading.starts_at.Statement.{statement}

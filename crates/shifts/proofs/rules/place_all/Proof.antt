@@ -6,7 +6,7 @@ use native.Mathlib.Omega.{arith}
 use borrow.Author.Needs.{needs}
 use Rattle.lists.specs.Tests.{not-both}
 use Rattle.tables.specs.Conditions.{read}
-use Rattle.shifts.specs.Placing.{Placing, Placed, Spread}
+use Rattle.shifts.specs.Placing.{Placed, Spread}
 use Rattle.shifts.proofs.Placing.{none-placed, placed-fresh, placed-more}
 use Rattle.shifts.proofs.rules.place_all.Statement.{statement}
 use Rattle.shifts.proofs.rules.place_all.Tie as tie

@@ -1,0 +1,1 @@
+// Results about the audits; see specs/.

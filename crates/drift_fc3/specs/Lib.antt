@@ -1,0 +1,4 @@
+pub mod Report
+pub mod Lines
+pub mod Laws
+pub mod Values
