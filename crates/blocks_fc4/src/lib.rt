@@ -13,7 +13,7 @@ ghost use Rattle.blocks_fc4.specs.Pairs.{Inside54, fromPairs, FirstTwo};
 use places::with_leg;
 
 // Blocks a and b change places whole.
-fn swap_blocks(fc4: &mut [f64], a: usize, b: usize)
+pub fn swap_blocks(fc4: &mut [f64], a: usize, b: usize)
     requires { ⌜ (a * 81 + 81 ≤ length (now fc4)) × (b * 81 + 81 ≤ length (now fc4)) ⌝ }
     ensures { λ _. ⌜ now (fc4 .exit) ≡ putBlock 81 b (block 81 a (now (fc4 .entry))) (putBlock 81 a (block 81 b (now (fc4 .entry))) (now (fc4 .entry))) ⌝ }
 {
@@ -61,7 +61,7 @@ fn exchange_nines(fc4: &mut [f64], a: usize, b: usize)
 }
 
 // Block b where it stands, with 27 pairs of its numbers exchanged: those at positions m[n] and m[n + 27].
-fn permute_pairs(fc4: &mut [f64], b: usize, m: &[u8; 54])
+pub fn permute_pairs(fc4: &mut [f64], b: usize, m: &[u8; 54])
     requires { ⌜ Inside54 (now m) × (b * 81 + 81 ≤ length (now fc4)) ⌝ }
     ensures { λ _. ⌜ now (fc4 .exit) ≡ putBlock 81 b (permutedBlock 81 (fromPairs (now (m .entry)) 27) (block 81 b (now (fc4 .entry)))) (now (fc4 .entry)) ⌝ }
 {

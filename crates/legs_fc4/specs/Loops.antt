@@ -1,34 +1,36 @@
 -- The loops over the blocks of a compact set of fourth order, for any order of four legs that undoes itself: pairs of first two atoms, then the other
 -- two atoms; where half shifts stay (h) or not. And that they leave the moved set where none stays. Assumes nothing.
 use mathlib.Core.Path.{_≡_, refl, sym, ap, ap₂, _∙_}
-use mathlib.Core.Bool.{Bool, true, false, _&&_, _||_, cond}
+use mathlib.Core.Bool.{Bool, true, false, _&&_}
 use Prim.Native.Nat.{ℕ, zero, suc, _+_, _*_, _/_, _%_, _≤_, _<_}
 use native.Mathlib.Nat.{mul-le-mul, div-add-mod', mod-lt, div-lt-iff-lt-mul, suc-inj, suc-ne-zero}
 use native.Mathlib.Omega.{arith}
 use mathlib.Core.List.{List, [], _∷_}
 use lib.ListN.{length, getD}
+use lib.IntN.{ℤ}
 use lib.Ieee.{Float, nan}
 use lib.Dec.{eqb}
 use borrow.Author.Tests.{eqb-true, lt-ltb, le-ltb, ne-eqb}
 use Rattle.lists.specs.Tab.{times, times-nest, times-same}
 use Rattle.lists.specs.Elements.{Below, all-at, pick}
 use Rattle.lists.specs.Digits.{horner, room, rest, digits, quotient, remainder}
-use Rattle.tables.specs.Shifts.{Shifts, Laws, p2sAt}
+use Rattle.tables.specs.Shifts.{Laws, p2sAt}
+use Rattle.tables.specs.Conditions.{indexAt}
 use Rattle.tables.specs.Compact.{ShiftTables, shiftsOf, p2s-is}
 use Rattle.places.specs.Places.{Leg, size}
 use Rattle.places.specs.Permutations.{taken, Permutation}
-use Rattle.places.specs.Moves.{order4, moved, stays}
-use Rattle.places.specs.Addresses.{storedBlock, block-below}
+use Rattle.places.specs.Moves.{order4, stays}
+use Rattle.places.specs.Addresses.{block-below}
 use Rattle.places.specs.ReadOuts.{storedIn, stored-in}
 use Rattle.orbits.specs.Blockwise.{inBlock}
-use Rattle.orbits.specs.Counterparts.{Blocks, Paired, visit, workedOver}
+use Rattle.orbits.specs.Counterparts.{visit, workedOver}
 use Rattle.orbits.specs.BlockPairs.{joinedPair, pair-is}
 use Rattle.orbits.specs.Transposed.{counterpart, blocksBy, counterpart-below, paired}
 use Rattle.orbits.specs.AtBlocks.{counterpart-at}
 use Rattle.orbits.specs.Trading.{theOther, never, staysAt, moves}
 use Rattle.blocks.specs.Permuted.{permuted}
 use Rattle.half_shifts.specs.Exchanging.{exchanging, exchanging-permutes, exchanging-twice}
-use Rattle.half_shifts.specs.HalfShift.{Sound, Trading, block-in, PairAt}
+use Rattle.half_shifts.specs.HalfShift.{Sound, block-in, PairAt}
 use Rattle.half_shifts.specs.TrueTransposes.{swapped}
 use Rattle.half_shifts.specs.Moved.{stayIf, stay-if}
 use Rattle.blocks_fc4.specs.Pairs.{fromPairs, Inside54, FirstTwo, same-positions}
@@ -50,7 +52,15 @@ Atoms T p j k l = (p < T .nPatom) × (j < T .nSatom) × (k < T .nSatom) × (l < 
 abbrev pub at4 : ShiftTables → ℕ → ℕ → ℕ → ℕ → ℕ
 at4 T p j k l = ((p * T .nSatom + j) * T .nSatom + k) * T .nSatom + l
 
-in81 : inBlock 3 ≡ 81
+-- the atom that the order o names at leg k, of the atoms ks
+abbrev pub named : List ℕ → List ℕ → ℕ → ℕ
+named o ks k = getD ks (getD o k 0) 0
+
+-- the stored block of the read-out entry of four atoms in the order o
+abbrev pub readOutIn : ℕ → List ℤ → List ℤ → List ℤ → List ℕ → List ℕ → ℕ
+readOutIn n s2pp nsymList perms o ks = storedIn n s2pp nsymList perms (named o ks 0) (named o ks 1 ∷ named o ks 2 ∷ named o ks 3 ∷ [])
+
+pub in81 : inBlock 3 ≡ 81
 unfolding inBlock room
 in81 = refl
 
@@ -97,8 +107,7 @@ swaps a b T ha hb n L old l =
 -- ---- one visit
 
 -- four elements picked, one by one
-pick-four : (o ks : List ℕ) → length o ≡ 4
-    → pick 0 o ks ≡ getD ks (getD o 0 0) 0 ∷ getD ks (getD o 1 0) 0 ∷ getD ks (getD o 2 0) 0 ∷ getD ks (getD o 3 0) 0 ∷ []
+pub pick-four : (o ks : List ℕ) → length o ≡ 4 → pick 0 o ks ≡ named o ks 0 ∷ named o ks 1 ∷ named o ks 2 ∷ named o ks 3 ∷ []
 unfolding pick
 pick-four [] ks e = absurd (suc-ne-zero _ (sym e))
 pick-four (i ∷ []) ks e = absurd (suc-ne-zero _ (sym (suc-inj e)))
@@ -107,63 +116,69 @@ pick-four (i ∷ j ∷ k ∷ []) ks e = absurd (suc-ne-zero _ (sym (suc-inj (suc
 pick-four (i ∷ j ∷ k ∷ l ∷ []) ks e = refl
 pick-four (i ∷ j ∷ k ∷ l ∷ m ∷ o) ks e = absurd (suc-ne-zero _ (suc-inj (suc-inj (suc-inj (suc-inj e)))))
 
--- entries of the order, and the atoms that they name
-module _ (o m : List ℕ) (W : Swap o m) where
-  pub leg-below : (k : ℕ) → k < 4 → getD o k 0 < 4
-  leg-below k h = all-at (λ k. k < 4) o k 0 (W .isOrder .1) (rw (W .isOrder .0) h)
+-- the read-out of atoms that the program has named one by one
+pub read-in-order : (n : ℕ) (s2pp nsymList perms : List ℤ) (o ks : List ℕ) {x0 x1 x2 x3 r : ℕ} → x0 ≡ named o ks 0 → x1 ≡ named o ks 1 → x2 ≡ named o ks 2 → x3 ≡ named o ks 3
+    → r ≡ storedIn n s2pp nsymList perms x0 (x1 ∷ x2 ∷ x3 ∷ []) → r ≡ readOutIn n s2pp nsymList perms o ks
+read-in-order n s2pp nsymList perms o ks e0 e1 e2 e3 e = e ∙ rw (e0, e1, e2, e3) refl
 
-  pub named-below : (n : ℕ) (ks : List ℕ) → length ks ≡ 4 → Below n ks → (k : ℕ) → k < 4 → getD ks (getD o k 0) 0 < n
+-- entries of the order, and the atoms that they name
+module _ (o : List ℕ) (W : Permutation 3 o) where
+  pub leg-below : (k : ℕ) → k < 4 → getD o k 0 < 4
+  leg-below k h = all-at (λ k. k < 4) o k 0 (W .1) (rw (W .0) h)
+
+  pub named-below : (n : ℕ) (ks : List ℕ) → length ks ≡ 4 → Below n ks → (k : ℕ) → k < 4 → named o ks k < n
   named-below n ks l b k h = all-at (λ k. k < n) ks (getD o k 0) 0 b (rw l (leg-below k h))
 
+  -- the block that the program finds is the counterpart
+  pub found : (T : ShiftTables) (p i j k l : ℕ) → i ≡ indexAt (T .p2s) p → Below (T .nSatom) (j ∷ k ∷ l ∷ [])
+      → readOutIn (T .nSatom) (T .s2pp) (T .nsymList) (T .perms) o (i ∷ j ∷ k ∷ l ∷ []) ≡ counterpart (shiftsOf T) 3 o (at4 T p j k l)
+  unfolding horner
+  found T p i j k l e b =
+      let ks = i ∷ j ∷ k ∷ l ∷ [] in
+      let in-order : pick 0 o (p2sAt (shiftsOf T) p ∷ j ∷ k ∷ l ∷ []) ≡ named o ks 0 ∷ named o ks 1 ∷ named o ks 2 ∷ named o ks 3 ∷ [] =
+      ap (λ i. pick 0 o (i ∷ j ∷ k ∷ l ∷ [])) (sym (e ∙ p2s-is T p)) ∙ pick-four o ks (W .0) in
+      stored-in T (named o ks 0) (named o ks 1 ∷ named o ks 2 ∷ named o ks 3 ∷ [])
+      ∙ sym (counterpart-at (shiftsOf T) p (j ∷ k ∷ l ∷ []) b o (named o ks 0) (named o ks 1 ∷ named o ks 2 ∷ named o ks 3 ∷ []) in-order)
+
+-- the number of a block as the program makes it, and that it is below the number of blocks
+pub horner-at : (T : ShiftTables) (p j k l : ℕ) → horner (T .nSatom) p (j ∷ k ∷ l ∷ []) ≡ at4 T p j k l
+unfolding horner
+horner-at T p j k l = refl
+
+pub at-below : (T : ShiftTables) {p j k l : ℕ} → Atoms T p j k l → at4 T p j k l < room (T .nSatom) 3 (T .nPatom)
+unfolding horner
+at-below T {p} {j} {k} {l} a = block-below (T .nSatom) (T .nPatom) p (j ∷ k ∷ l ∷ []) (a .0) (a .1, (a .2, (a .3, tt)))
+
 -- a visit as the program finds its two blocks
-module _ (lenSet : ℕ) (T : ShiftTables) (o m : List ℕ) (W : Swap o m) (p i j k l : ℕ) (M : PairAt 3 lenSet T p i j) (hk : k < T .nSatom) (hl : l < T .nSatom)
-    (b c x0 x1 x2 x3 : ℕ) (eb : b ≡ horner (T .nSatom) p (j ∷ k ∷ l ∷ []))
-    (e0 : x0 ≡ getD (i ∷ j ∷ k ∷ l ∷ []) (getD o 0 0) 0) (e1 : x1 ≡ getD (i ∷ j ∷ k ∷ l ∷ []) (getD o 1 0) 0)
-    (e2 : x2 ≡ getD (i ∷ j ∷ k ∷ l ∷ []) (getD o 2 0) 0) (e3 : x3 ≡ getD (i ∷ j ∷ k ∷ l ∷ []) (getD o 3 0) 0)
-    (ec : c ≡ storedIn (T .nSatom) (T .s2pp) (T .nsymList) (T .perms) x0 (x1 ∷ x2 ∷ x3 ∷ [])) where
-  abbrev S : Shifts
-  S = shiftsOf T
+module _ (lenSet : ℕ) (T : ShiftTables) (o : List ℕ) (W : Permutation 3 o) (p i j k l : ℕ) (M : PairAt 3 lenSet T p i j) (hk : k < T .nSatom) (hl : l < T .nSatom)
+    (b c : ℕ) (eb : b ≡ horner (T .nSatom) p (j ∷ k ∷ l ∷ [])) (ec : c ≡ readOutIn (T .nSatom) (T .s2pp) (T .nsymList) (T .perms) o (i ∷ j ∷ k ∷ l ∷ [])) where
+  pub own : b ≡ at4 T p j k l
+  own = eb ∙ horner-at T p j k l
 
-  abbrev n : ℕ
-  n = T .nSatom
+  pub other-is : c ≡ counterpart (shiftsOf T) 3 o (at4 T p j k l)
+  other-is = ec ∙ found o W T p i j k l (M .rep) (M .second, (hk, (hl, tt)))
 
-  abbrev L : Laws S
-  L = M .trading .sound .rules
-
-  own : b ≡ at4 T p j k l
-  unfolding horner
-  own = eb
-
-  at-below : at4 T p j k l < room n 3 (T .nPatom)
-  unfolding horner
-  at-below = block-below n (T .nPatom) p (j ∷ k ∷ l ∷ []) (M .first) (M .second, (hk, (hl, tt)))
-
-  in-order : pick 0 o (p2sAt S p ∷ j ∷ k ∷ l ∷ []) ≡ x0 ∷ x1 ∷ x2 ∷ x3 ∷ []
-  in-order = ap (λ i. pick 0 o (i ∷ j ∷ k ∷ l ∷ [])) (sym (M .rep ∙ p2s-is T p)) ∙ pick-four o (i ∷ j ∷ k ∷ l ∷ []) (W .isOrder .0) ∙ sym (rw (e0, e1, e2, e3) refl)
-
-  found : c ≡ counterpart S 3 o (at4 T p j k l)
-  unfolding horner
-  found =
-      ec ∙ stored-in T x0 (x1 ∷ x2 ∷ x3 ∷ [])
-      ∙ sym (counterpart-at S p (j ∷ k ∷ l ∷ []) (M .second, (hk, (hl, tt))) o x0 (x1 ∷ x2 ∷ x3 ∷ []) in-order)
+  at-in : at4 T p j k l < room (T .nSatom) 3 (T .nPatom)
+  at-in = at-below T (M .first, M .second, hk, hl)
 
   pub found-in : (b * 81 + 81 ≤ lenSet) × (c * 81 + 81 ≤ lenSet)
   found-in =
-      let g : c < room n 3 (T .nPatom) = rw found (counterpart-below S L 3 o (W .isOrder) (at4 T p j k l) at-below) in
-      (block-in T (M .trading) 81 in81 b (rw own at-below), block-in T (M .trading) 81 in81 c g)
-
-  pub found-now : b ≤ c → (xs : List Float) {new : List Float} → new ≡ joinedPair theOther 81 (fromPairs m 27) b c xs → new ≡ tradeAt false o T (at4 T p j k l) xs
-  unfolding tradeAt visit stayIf
-  found-now h xs e =
-      let a = at4 T p j k l in
-      e ∙ same-positions (fromPairs m 27) (permuted 3 o) (W .exchanges) b c xs ∙ ap₂ (λ b c. joinedPair theOther 81 (permuted 3 o) b c xs) own found
-      ∙ ap (λ w. joinedPair theOther w (permuted 3 o) a (counterpart S 3 o a) xs) (sym in81)
-      ∙ pair-is theOther (blocksBy S 3 o never) (paired S L 3 o (W .isOrder) (W .twice) nan theOther never (λ b g. refl)) xs a at-below
-      ∙ sym (rw (le-ltb (counterpart S 3 o a) a (rw (← found, ← own) h)) refl)
+      let g : c < room (T .nSatom) 3 (T .nPatom) = rw other-is (counterpart-below (shiftsOf T) (M .trading .sound .rules) 3 o W (at4 T p j k l) at-in) in
+      (block-in T (M .trading) 81 in81 b (rw own at-in), block-in T (M .trading) 81 in81 c g)
 
   pub found-met : c < b → (xs : List Float) → xs ≡ tradeAt false o T (at4 T p j k l) xs
   unfolding tradeAt visit stayIf
-  found-met h xs = sym (rw (lt-ltb (counterpart S 3 o (at4 T p j k l)) (at4 T p j k l) (rw (← found, ← own) h)) refl)
+  found-met h xs = sym (rw (lt-ltb (counterpart (shiftsOf T) 3 o (at4 T p j k l)) (at4 T p j k l) (rw (← other-is, ← own) h)) refl)
+
+  pub found-now : (m : List ℕ) → Swap o m → b ≤ c → (xs : List Float) {new : List Float} → new ≡ joinedPair theOther 81 (fromPairs m 27) b c xs → new ≡ tradeAt false o T (at4 T p j k l) xs
+  unfolding tradeAt visit stayIf
+  found-now m X h xs e =
+      let S = shiftsOf T in
+      let a = at4 T p j k l in
+      e ∙ same-positions (fromPairs m 27) (permuted 3 o) (X .exchanges) b c xs ∙ ap₂ (λ b c. joinedPair theOther 81 (permuted 3 o) b c xs) own other-is
+      ∙ ap (λ w. joinedPair theOther w (permuted 3 o) a (counterpart S 3 o a) xs) (sym in81)
+      ∙ pair-is theOther (blocksBy S 3 o never) (paired S (M .trading .sound .rules) 3 o W (X .twice) nan theOther never (λ b g. refl)) xs a at-in
+      ∙ sym (rw (le-ltb (counterpart S 3 o a) a (rw (← other-is, ← own) h)) refl)
 
 -- ---- where half shifts stay
 

@@ -5,13 +5,17 @@
 ghost use mathlib.Core.Path.{_≡_};
 ghost use mathlib.Core.Bool.{false};
 ghost use Prim.Native.Nat.{_+_, _*_, _<_};
+ghost use mathlib.Core.List.{[], _∷_};
 ghost use lib.ListN.{length, getD};
+ghost use Rattle.lists.specs.Elements.{Below};
 ghost use Rattle.tables.specs.Compact.{shiftTables};
+ghost use Rattle.places.specs.Permutations.{Permutation};
+ghost use Rattle.places.specs.ReadOuts.{Tables};
 ghost use Rattle.half_shifts.specs.Exchanging.{partner as partnerOf, exchanging};
 ghost use Rattle.half_shifts.specs.HalfShift.{Trading, PairAt};
 ghost use Rattle.positions.specs.Positions.{addressTable};
 ghost use Rattle.legs_fc4.specs.Rows.{firstPairs, pairRows, pairRow, takenTo};
-ghost use Rattle.legs_fc4.specs.Loops.{Swap, at4, tradeAt, line4, plane4, pairs4};
+ghost use Rattle.legs_fc4.specs.Loops.{Swap, at4, readOutIn, tradeAt, line4, plane4, pairs4};
 use blocks_fc4::exchange;
 use half_shifts::stays;
 use places::block4;
@@ -121,7 +125,7 @@ fn partner(leg_a: usize, leg_b: usize, k: usize) -> usize
 }
 
 // The order of the four legs with two of them exchanged.
-fn order_of(leg_a: usize, leg_b: usize) -> [usize; 4]
+pub fn order_of(leg_a: usize, leg_b: usize) -> [usize; 4]
     ensures { λ r. ⌜ r ≡ exchanging 3 «leg_a» «leg_b» ⌝ }
 {
     [
@@ -148,16 +152,53 @@ fn pairs_by(t: &[u8; 1944], s: usize) -> [u8; 54]
     m
 }
 
+// Those of two different legs.
+pub fn pairs_of(leg_a: usize, leg_b: usize) -> [u8; 54]
+    requires { ⌜ («leg_a» < 4) × («leg_b» < 4) × («leg_a» ≡ «leg_b» → ⊥) ⌝ }
+    ensures { λ r. ⌜ r ≡ takenTo (pairRow «leg_a» «leg_b») ⌝ }
+{
+    let t = addresses();
+    pairs_by(&t, pair_row(leg_a, leg_b))
+}
+
 // The atom that comes to stand at leg k, of the atoms w in the order o.
-fn atom_at(w: [usize; 4], o: &[usize; 4], k: usize) -> SuperAtom
+fn atom_at(w: &[usize; 4], o: &[usize; 4], k: usize) -> SuperAtom
     requires { ⌜ (k < 4) × (getD (now o) k 0 < 4) ⌝ }
-    ensures { λ r. ⌜ r .0 ≡ getD w (getD (now (o .entry)) k 0) 0 ⌝ }
+    ensures { λ r. ⌜ r .0 ≡ getD (now (w .entry)) (getD (now (o .entry)) k 0) 0 ⌝ }
 {
     let q = o[k];
     SuperAtom(w[q])
 }
 
-// Block (p, j, k, l) and its counterpart, the read-out block of the atoms in the order o: i is p's representative.
+// The counterpart of block (p, j, k, l): the read-out block of its atoms in the order o. i is p's representative.
+pub fn counterpart_of(
+    s2pp: &[i64],
+    nsym_list: &[i64],
+    perms: &[i64],
+    n_satom: usize,
+    o: &[usize; 4],
+    i: SuperAtom,
+    j: SuperAtom,
+    k: SuperAtom,
+    l: SuperAtom,
+) -> usize
+    requires { ⌜ Tables «n_satom» (now s2pp) (now «nsym_list») (now perms) × Permutation 3 (now o) × Below «n_satom» (i .0 ∷ (j .0 ∷ (k .0 ∷ (l .0 ∷ [])))) ⌝ }
+    ensures { λ r. ⌜ r ≡ readOutIn «n_satom» (now (s2pp .entry)) (now («nsym_list» .entry)) (now (perms .entry)) (now (o .entry)) (i .0 ∷ (j .0 ∷ (k .0 ∷ (l .0 ∷ [])))) ⌝ }
+{
+    let w = [i.0, j.0, k.0, l.0];
+    read_out4(
+        s2pp,
+        nsym_list,
+        perms,
+        atom_at(&w, o, 0),
+        atom_at(&w, o, 1),
+        atom_at(&w, o, 2),
+        atom_at(&w, o, 3),
+        n_satom,
+    )
+}
+
+// Block (p, j, k, l) and its counterpart: i is p's representative.
 fn trade(
     fc4: &mut [f64],
     p2s: &[i64],
@@ -180,17 +221,7 @@ fn trade(
     ensures { λ _. ⌜ now (fc4 .exit) ≡ tradeAt false (now (o .entry)) (shiftTables (now (p2s .entry)) (now (s2pp .entry)) (now («nsym_list» .entry)) (now (perms .entry)) «n_satom» «n_patom» «num_trans») (at4 (shiftTables (now (p2s .entry)) (now (s2pp .entry)) (now («nsym_list» .entry)) (now (perms .entry)) «n_satom» «n_patom» «num_trans») (p .0) (j .0) (k .0) (l .0)) (now (fc4 .entry)) ⌝ }
 {
     let b = block4(p, j, k, l, n_satom);
-    let w = [i.0, j.0, k.0, l.0];
-    let c = read_out4(
-        s2pp,
-        nsym_list,
-        perms,
-        atom_at(w, o, 0),
-        atom_at(w, o, 1),
-        atom_at(w, o, 2),
-        atom_at(w, o, 3),
-        n_satom,
-    );
+    let c = counterpart_of(s2pp, nsym_list, perms, n_satom, o, i, j, k, l);
     if b <= c {
         exchange(fc4, o[0] == 1, m, b, c);
     }
@@ -391,8 +422,7 @@ pub fn exchange_legs(
     ensures { λ _. ⌜ now (fc4 .exit) ≡ pairs4 «half_shifts_stay» (exchanging 3 «leg_a» «leg_b») (shiftTables (now (p2s .entry)) (now (s2pp .entry)) (now («nsym_list» .entry)) (now (perms .entry)) «n_satom» «n_patom» «num_trans») (now (fc4 .entry)) ⌝ }
 {
     let o = order_of(leg_a, leg_b);
-    let t = addresses();
-    let m = pairs_by(&t, pair_row(leg_a, leg_b));
+    let m = pairs_of(leg_a, leg_b);
     pairs(
         fc4,
         p2s,

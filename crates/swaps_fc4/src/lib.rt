@@ -9,8 +9,8 @@ ghost use Rattle.half_shifts.specs.HalfShift.{Trading};
 ghost use Rattle.half_shifts.specs.TrueTransposes.{swapped};
 ghost use Rattle.swaps_fc4.specs.Swaps.{swapPairsCompactFc4};
 ghost use Rattle.swaps_fc4.specs.Guard.{withBadLeg, withLegs};
-use legs_fc4::exchange_legs;
 use lists::clear_bytes;
+use orbits_fc4::swap_legs;
 use shifts::judge_compact;
 use tables::Answer;
 use tables::Refusal;
@@ -74,7 +74,7 @@ fn swap(
     if leg_a == leg_b {
         return;
     }
-    exchange_legs(
+    swap_legs(
         fc4,
         p2s,
         s2pp,
@@ -83,7 +83,6 @@ fn swap(
         n_satom,
         n_patom,
         num_trans,
-        false,
         leg_a,
         leg_b,
     );

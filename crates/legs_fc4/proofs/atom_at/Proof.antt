@@ -9,14 +9,14 @@ mul-q c = search needs
 element-copy-out-q : tie.Need-element-copy-out-q
 element-copy-out-q c = search needs
 
-mul-t6 : tie.Need-mul-t6
-mul-t6 c = search needs
+mul-t5 : tie.Need-mul-t5
+mul-t5 c = search needs
 
-array-read-t9 : tie.Need-array-read-t9
-array-read-t9 c = search needs
+element-copy-out-t8 : tie.Need-element-copy-out-t8
+element-copy-out-t8 c = search needs
 
 returns : tie.Need-returns
 returns c = search needs
 
 pub atom-at-spec : {M : Type 1} → statement M
-atom-at-spec = tie.close (tie.spec mul-q element-copy-out-q mul-t6 array-read-t9 returns)
+atom-at-spec = tie.close (tie.spec mul-q element-copy-out-q mul-t5 element-copy-out-t8 returns)

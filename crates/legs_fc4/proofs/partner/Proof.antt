@@ -1,7 +1,6 @@
 -- `legs_fc4::partner` meets its contract. Assumes nothing.
 use mathlib.Core.Path.{sym}
 use Rattle.half_shifts.specs.Exchanging.{partner-one, partner-two, partner-else}
-use borrow.Author.Needs.{needs}
 use Rattle.legs_fc4.proofs.partner.Statement.{statement}
 use Rattle.legs_fc4.proofs.partner.Tie as tie
 

@@ -2,7 +2,6 @@
 use Prim.Native.Nat.{_≤_, _<_}
 use native.Mathlib.Omega.{arith}
 use Rattle.swaps_fc4.specs.Guard.{above-first, above-second, above-none}
-use borrow.Author.Needs.{needs}
 use Rattle.swaps_fc4.proofs.any_leg_above.Statement.{statement}
 use Rattle.swaps_fc4.proofs.any_leg_above.Tie as tie
 

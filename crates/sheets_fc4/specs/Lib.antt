@@ -1,0 +1,4 @@
+pub mod Visits
+pub mod Halves
+pub mod BySheets
+pub mod Steps
