@@ -147,5 +147,5 @@ pub fn replay() -> Replay {
     let records: Vec<Record> = calls.iter().map(record).collect();
     let so_many = |k: u8| records.iter().filter(|r| r[1] == k as u64).count();
     let stdout = report("audits", &records, 1) + &format!("alike: {}\nunlike: {}\n", so_many(ALIKE), so_many(UNLIKE));
-    Replay::new(records, stdout, 4)
+    Replay::new(records, stdout, 3)
 }

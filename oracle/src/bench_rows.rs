@@ -1,7 +1,7 @@
 //! The rows of the benchmark. A size a × b is n_patom × n_satom.
 use crate::bench::Bench;
 use crate::call::{fit, Call};
-use crate::call_audit::{whole, Audit, Name as Audited, ALIKE};
+use crate::call_audit::{whole, Audit, Name as Audited, ALIKE, UNLIKE};
 use crate::call_compact::{Compact, Name};
 use crate::call_deltas::Deltas;
 use crate::call_distribute::Distribute;
@@ -318,18 +318,30 @@ pub fn drifts(b: &Bench) {
 
 /// Least times of two calls, in turns, so that both meet the same load.
 fn in_turns(b: &Bench, mut one: impl FnMut(), mut other: impl FnMut()) -> [f64; 2] {
-    let mut least = [f64::MAX; 2];
+    turns(b, [&mut one, &mut other])
+}
+
+fn turns<const N: usize>(b: &Bench, mut sides: [&mut dyn FnMut(); N]) -> [f64; N] {
+    let mut least = [f64::MAX; N];
     for _ in 0..4 {
-        least = [least[0].min(b.least(&mut one)), least[1].min(b.least(&mut other))];
+        least.iter_mut().zip(&mut sides).for_each(|(t, side)| *t = t.min(b.least(side)));
     }
     least
 }
 
-/// An audit of a set that is alike, which looks at every number, beside the symmetrizer of the same size, on a set that it left: nothing is restored
-/// between its runs, and neither side copies a set.
-fn audit_line(b: &Bench, what: &str, size: &str, mut audit: Audit, mut symmetrize: impl FnMut()) {
-    let [one, other] = in_turns(b, || assert_eq!(std::hint::black_box(&mut audit).port(), ALIKE), &mut symmetrize);
-    println!("| {what} | {size} | {:.1} | {:.1} | {:.2} |", one * 1e6, other * 1e6, one / other);
+/// The audit of three sets beside the symmetrizer of the same size: a set that the symmetrizer left, of which every number is looked at; the same but for
+/// one number, in the group that is looked at last; and one full of NaN of many patterns, which are alike. The symmetrizer is given what it left: nothing
+/// is restored between its runs, and no side copies a set.
+fn audit_line(b: &Bench, what: &str, size: &str, mut alike: Audit, mut symmetrize: impl FnMut()) {
+    let (mut unlike, mut nan) = (alike.clone(), alike.clone());
+    let q = alike.last_group() + 1;
+    unlike.set[q] = f64::from_bits(alike.set[q].to_bits() ^ 1);
+    nan.set.iter_mut().zip(0..).for_each(|(x, k)| *x = f64::from_bits(0x7ff8_0000_0000_0000 + k));
+    let mut audit_of = [(&mut alike, ALIKE), (&mut unlike, UNLIKE), (&mut nan, ALIKE)].map(|(set, answer)| move || assert_eq!(std::hint::black_box(&mut *set).port(), answer));
+    let [one, two, three] = &mut audit_of;
+    let times = turns(b, [one, two, three, &mut symmetrize]);
+    let cells: Vec<String> = times.iter().map(|t| format!("{:.1}", t * 1e6)).chain(times[..3].iter().map(|t| format!("{:.2}", t / times[3]))).collect();
+    println!("| {what} | {size} | {} |", cells.join(" | "));
 }
 
 fn audited(name: Audited, set: Vec<f64>, tables: Tables, atoms: usize) -> Audit {
@@ -375,7 +387,8 @@ fn drift_rows(b: &Bench) {
 
 /// The audits beside the symmetrizers; at second order, compact, beside the average of exchanged pairs.
 pub fn audits(b: &Bench) {
-    println!("| audit of a set that is alike | size | audit, us | symmetrizer, us | ratio |\n|---|---|---|---|---|");
+    println!("| audit of a set | size | alike, us | unlike in its last group, us | full of NaN, us | symmetrizer, us | ratio, alike | ratio, unlike | ratio, NaN |");
+    println!("|---|---|---|---|---|---|---|---|---|");
     for (order, sizes) in [(2, vec![[4, 512], [64, 256]]), (3, vec![[1, 64], [2, 64], [4, 64]]), (4, vec![[1, 16], [2, 16]])] {
         sizes.into_iter().for_each(|size| audit_compact(b, order, size));
     }

@@ -61,11 +61,15 @@ fn orders(n: usize) -> Vec<Vec<usize>> {
     all
 }
 
-/// The number that is read out for the legs, each an atom and a direction.
-fn read_out(t: &Tables, set: &[f64], legs: &[(usize, usize)]) -> f64 {
+/// The place of the number that is read out for the legs, each an atom and a direction.
+fn stored(t: &Tables, legs: &[(usize, usize)]) -> usize {
     let row = t.nsym_list[legs[0].0] as usize;
     let block = legs[1..].iter().fold(t.s2pp[legs[0].0] as usize, |b, leg| b * t.n_satom + t.row(row, leg.0));
-    set[legs.iter().fold(block, |place, leg| place * 3 + leg.1)]
+    legs.iter().fold(block, |place, leg| place * 3 + leg.1)
+}
+
+fn read_out(t: &Tables, set: &[f64], legs: &[(usize, usize)]) -> f64 {
+    set[stored(t, legs)]
 }
 
 /// The legs whose number stands at a place: the first atom is the one that stands for the primitive cell's.
@@ -92,9 +96,8 @@ pub fn whole(n: usize) -> Tables {
 
 /// The places of the numbers that are to be the same as that at a place.
 pub fn images(t: &Tables, order: usize, place: usize) -> Vec<usize> {
-    let numbers: Vec<f64> = (0..t.n_patom * t.n_satom.pow(order as u32 - 1) * 3usize.pow(order as u32)).map(|k| k as f64).collect();
     let legs = legs_at(t, order, place);
-    let mut places: Vec<usize> = orders(order).iter().map(|o| read_out(t, &numbers, &o.iter().map(|l| legs[*l]).collect::<Vec<_>>()) as usize).collect();
+    let mut places: Vec<usize> = orders(order).iter().map(|o| stored(t, &o.iter().map(|l| legs[*l]).collect::<Vec<_>>())).collect();
     places.sort();
     places.dedup();
     places
@@ -125,6 +128,22 @@ impl Audit {
                 .map(|k| (k, 0, self.set[k], self.other[k])),
             Name::DriftCompact | Name::DriftLegs => None,
         }
+    }
+
+    /// The first place of the group of blocks that begins last. A group begins no later than at any of its blocks, so what is before `last` needs no look.
+    pub fn last_group(&self) -> usize {
+        let (t, order) = match self.name {
+            Name::Full(order) => (whole(self.atoms), order),
+            Name::Compact(order) => (self.tables.clone(), order),
+            _ => unreachable!("an audit"),
+        };
+        let width = 3usize.pow(order as u32);
+        let (mut last, mut next) = (0, self.set.len());
+        while next > last {
+            next -= width;
+            last = last.max(images(&t, order, next)[0]);
+        }
+        last
     }
 
     /// The rows of the set read out, over the second atom, then its columns, over the first; by atom and directions.
@@ -299,10 +318,9 @@ impl Call for Audit {
 fn alike(t: &Tables, order: usize, set: &mut [f64]) {
     let old = set.to_vec();
     let orders = orders(order);
-    let places: Vec<f64> = (0..old.len()).map(|k| k as f64).collect();
     for place in 0..set.len() {
         let legs = legs_at(t, order, place);
-        let least = orders.iter().map(|o| read_out(t, &places, &o.iter().map(|l| legs[*l]).collect::<Vec<_>>()) as usize).min();
+        let least = orders.iter().map(|o| stored(t, &o.iter().map(|l| legs[*l]).collect::<Vec<_>>())).min();
         set[place] = old[least.unwrap_or(place)];
     }
 }

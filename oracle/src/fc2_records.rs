@@ -375,7 +375,7 @@ pub fn compact_second() -> Replay {
     compact_sets(&mut all, Name::Symmetrize2);
     compact_sets(&mut all, Name::Exchange2);
     let stdout = report("second order, compact sets", &all.records, 2);
-    Replay::new(all.records, stdout, 4)
+    Replay::new(all.records, stdout, 3)
 }
 
 #[cfg(test)]

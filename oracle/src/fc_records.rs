@@ -427,14 +427,14 @@ pub fn true_replay() -> Replay {
     calls.iter_mut().enumerate().for_each(|(k, call)| call.seed = 7000 + k as u64);
     let records: Vec<Record> = calls.into_iter().map(|call| call.record(&mut memory)).collect();
     let stdout = report("true transposes", &records, 1);
-    Replay::new(records, stdout, 4)
+    Replay::new(records, stdout, 3)
 }
 
 /// The words of a record: see README.md. All sets are lent from one memory.
 pub fn replay(order: u32) -> Replay {
     let mut memory = vec![0.0; room(order)];
     let records: Vec<Record> = calls(order).into_iter().map(|call| call.record(&mut memory)).collect();
-    let (title, pages) = if order == 3 { ("third order", 4) } else { ("fourth order", 2) };
+    let (title, pages) = if order == 3 { ("third order", 3) } else { ("fourth order", 2) };
     let stdout = report(title, &records, 1);
     Replay::new(records, stdout, pages)
 }

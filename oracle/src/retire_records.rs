@@ -37,5 +37,5 @@ pub fn replay() -> Replay {
     calls.extend((0..4000).map(|_| make(&mut r, Name::RetireAll)).filter(small).take(400));
     let records: Vec<Record> = calls.iter().map(record).collect();
     let stdout = report("sets retired everywhere", &records, 1);
-    Replay::new(records, stdout, 4)
+    Replay::new(records, stdout, 3)
 }

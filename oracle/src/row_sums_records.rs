@@ -26,5 +26,5 @@ pub fn replay() -> Replay {
     let off_grid = records.iter().filter(|r| r[1] == 10).count();
     let stdout = report("row sums", &records, 1) + &format!("refused, 10: {off_grid}\n");
     assert!(stdout.contains(&checksum(&records).to_string()));
-    Replay::new(records, stdout, 4)
+    Replay::new(records, stdout, 3)
 }

@@ -251,7 +251,7 @@ pub fn replay() -> Replay {
     calls.extend(broken_rules(&mut r));
     let records: Vec<Record> = calls.iter().map(Call::record).collect();
     let stdout = report("shift tables", &records, 1);
-    Replay::new(records, stdout, 4)
+    Replay::new(records, stdout, 3)
 }
 
 #[cfg(test)]

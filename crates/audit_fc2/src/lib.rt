@@ -10,24 +10,24 @@ ghost use Rattle.places.specs.Permutations.{two};
 ghost use Rattle.blocks.specs.Permuted.{permuted};
 ghost use Rattle.orbits.specs.Groups.{groupBlocks};
 ghost use Rattle.audits.specs.Audit.{audited, auditCompact, auditFull};
-ghost use Rattle.audits.specs.Blocks.{positionTable};
+ghost use Rattle.audits.specs.Blocks.{positionTable, AlikeTo};
 ghost use Rattle.audits.specs.Guard.{Ready, wholeTables};
-ghost use Rattle.audits.specs.Swaps.{SameBlock, SameLater, SameRow};
-ghost use Rattle.audits.specs.declared.Audit.the-variants.{Alike};
-ghost use Rattle.audit_fc2.specs.Swaps.{swap};
+ghost use Rattle.audits.specs.Passes.{SameBlock, Passes};
+ghost use Rattle.audit_fc2.specs.Rows.{swap};
 use audits::Audit;
+use audits::bits::differing_bits;
 use audits::guard::counted;
 use audits::guard::judge_set;
 use audits::guard::judge_whole;
 use audits::kernel::difference;
 use audits::kernel::look;
-use audits::quick::differing_bits;
 use blocks::read9;
 use blocks::transposed9;
 use places::block2;
 use places::last_leg;
 use places::legs_before;
 use places::read_out2;
+use places::with_leg;
 use tables::Answer;
 use tables::atoms::PrimAtom;
 use tables::atoms::SuperAtom;
@@ -87,7 +87,7 @@ fn group_blocks(
     [ij, ji]
 }
 
-// Block after block, up to the first place at which some permutation reads another number.
+// Block after block from block `from` on, up to the first place at which some permutation reads another number.
 fn scan(
     fc: &[f64],
     p2s: &[i64],
@@ -97,13 +97,14 @@ fn scan(
     n_satom: usize,
     n_patom: usize,
     num_trans: usize,
+    from: usize,
 ) -> Audit
-    requires { ⌜ Ready limit2 1 (length (now fc)) (shiftTables (now p2s) (now s2pp) (now «nsym_list») (now perms) «n_satom» «n_patom» «num_trans») ⌝ }
+    requires { ⌜ Ready limit2 1 (length (now fc)) (shiftTables (now p2s) (now s2pp) (now «nsym_list») (now perms) «n_satom» «n_patom» «num_trans») × AlikeTo (shiftsOf (shiftTables (now p2s) (now s2pp) (now «nsym_list») (now perms) «n_satom» «n_patom» «num_trans»)) 1 two (now fc) from ⌝ }
     ensures { λ r. ⌜ r ≡ audited (shiftsOf (shiftTables (now (p2s .entry)) (now (s2pp .entry)) (now («nsym_list» .entry)) (now (perms .entry)) «n_satom» «n_patom» «num_trans»)) 1 two (now (fc .entry)) ⌝ }
 {
     let t = positions();
     let count = legs_before(fc.len(), 9);
-    let mut b = 0;
+    let mut b = from;
     while b < count {
         let bs = group_blocks(p2s, s2pp, nsym_list, perms, n_satom, n_patom, num_trans, b);
         let k = look(fc, &bs, &t, 9, b);
@@ -144,7 +145,7 @@ fn differ_at(
     found: u64,
 ) -> u64
     requires { ⌜ Ready limit2 1 (length (now fc)) (shiftTables (now p2s) (now s2pp) (now «nsym_list») (now perms) «n_satom» «n_patom» «num_trans») × (p .0 < «n_patom») × (j .0 < «n_satom») ⌝ }
-    ensures { λ r. ⌜ (r ≡ 0 → (found ≡ 0) × SameLater (shiftsOf (shiftTables (now (p2s .entry)) (now (s2pp .entry)) (now («nsym_list» .entry)) (now (perms .entry)) «n_satom» «n_patom» «num_trans»)) 1 9 (now (fc .entry)) swap (p .0 * «n_satom» + j .0)) ⌝ }
+    ensures { λ r. ⌜ (r ≡ 0 → (found ≡ 0) × Passes (shiftsOf (shiftTables (now (p2s .entry)) (now (s2pp .entry)) (now («nsym_list» .entry)) (now (perms .entry)) «n_satom» «n_patom» «num_trans»)) 1 two (now (fc .entry)) (p .0 * «n_satom» + j .0)) ⌝ }
 {
     let i = p2s_at(p2s, p);
     let q = s2pp_at(s2pp, j);
@@ -156,8 +157,8 @@ fn differ_at(
     differ_later(fc, b, o, found)
 }
 
-// Whether the blocks (p, 0), (p, 1), .. are like their counterparts.
-fn row(
+// Whether the blocks (p, from), .., (p, to - 1) are alike if those before are.
+fn stretch(
     fc: &[f64],
     p2s: &[i64],
     s2pp: &[i64],
@@ -167,13 +168,15 @@ fn row(
     n_patom: usize,
     num_trans: usize,
     p: PrimAtom,
+    from: usize,
+    to: usize,
 ) -> bool
-    requires { ⌜ Ready limit2 1 (length (now fc)) (shiftTables (now p2s) (now s2pp) (now «nsym_list») (now perms) «n_satom» «n_patom» «num_trans») × (p .0 < «n_patom») ⌝ }
-    ensures { λ r. ⌜ (r ≡ true → SameRow (shiftsOf (shiftTables (now (p2s .entry)) (now (s2pp .entry)) (now («nsym_list» .entry)) (now (perms .entry)) «n_satom» «n_patom» «num_trans»)) 1 9 (now (fc .entry)) swap (p .0)) ⌝ }
+    requires { ⌜ Ready limit2 1 (length (now fc)) (shiftTables (now p2s) (now s2pp) (now «nsym_list») (now perms) «n_satom» «n_patom» «num_trans») × (p .0 < «n_patom») × (from ≤ to) × (to ≤ «n_satom») ⌝ }
+    ensures { λ r. ⌜ (r ≡ true → AlikeTo (shiftsOf (shiftTables (now (p2s .entry)) (now (s2pp .entry)) (now («nsym_list» .entry)) (now (perms .entry)) «n_satom» «n_patom» «num_trans»)) 1 two (now (fc .entry)) (p .0 * «n_satom» + from) → AlikeTo (shiftsOf (shiftTables (now (p2s .entry)) (now (s2pp .entry)) (now («nsym_list» .entry)) (now (perms .entry)) «n_satom» «n_patom» «num_trans»)) 1 two (now (fc .entry)) (p .0 * «n_satom» + to)) ⌝ }
 {
     let mut found = 0;
-    let mut j = 0;
-    while j < n_satom {
+    let mut j = from;
+    while j < to {
         let atom = SuperAtom(j);
         found = differ_at(
             fc,
@@ -193,8 +196,9 @@ fn row(
     found == 0
 }
 
-// Whether every block is like its counterpart. A set with a NaN is not found to be alike here.
-fn quick(
+// So many blocks of row p are alike if those before are: those of the stretches before the first in which bits differ. A stretch has 32 blocks: a shorter
+// one asks more often whether bits were found, of a longer one more is looked at a second time.
+fn row(
     fc: &[f64],
     p2s: &[i64],
     s2pp: &[i64],
@@ -203,14 +207,54 @@ fn quick(
     n_satom: usize,
     n_patom: usize,
     num_trans: usize,
-) -> bool
+    p: PrimAtom,
+) -> usize
+    requires { ⌜ Ready limit2 1 (length (now fc)) (shiftTables (now p2s) (now s2pp) (now «nsym_list») (now perms) «n_satom» «n_patom» «num_trans») × (p .0 < «n_patom») ⌝ }
+    ensures { λ r. ⌜ (r ≤ «n_satom») × (AlikeTo (shiftsOf (shiftTables (now (p2s .entry)) (now (s2pp .entry)) (now («nsym_list» .entry)) (now (perms .entry)) «n_satom» «n_patom» «num_trans»)) 1 two (now (fc .entry)) (p .0 * «n_satom») → AlikeTo (shiftsOf (shiftTables (now (p2s .entry)) (now (s2pp .entry)) (now («nsym_list» .entry)) (now (perms .entry)) «n_satom» «n_patom» «num_trans»)) 1 two (now (fc .entry)) (p .0 * «n_satom» + r)) ⌝ }
+{
+    let mut from = 0;
+    while from < n_satom {
+        let next = from + 32;
+        let to = if next < n_satom { next } else { n_satom };
+        if stretch(
+            fc,
+            p2s,
+            s2pp,
+            nsym_list,
+            perms,
+            n_satom,
+            n_patom,
+            num_trans,
+            p,
+            from,
+            to,
+        ) {
+            from = to;
+        } else {
+            return from;
+        }
+    }
+    from
+}
+
+// So many blocks from the first on are alike.
+fn alike_blocks(
+    fc: &[f64],
+    p2s: &[i64],
+    s2pp: &[i64],
+    nsym_list: &[i64],
+    perms: &[i64],
+    n_satom: usize,
+    n_patom: usize,
+    num_trans: usize,
+) -> usize
     requires { ⌜ Ready limit2 1 (length (now fc)) (shiftTables (now p2s) (now s2pp) (now «nsym_list») (now perms) «n_satom» «n_patom» «num_trans») ⌝ }
-    ensures { λ r. ⌜ (r ≡ true → audited (shiftsOf (shiftTables (now (p2s .entry)) (now (s2pp .entry)) (now («nsym_list» .entry)) (now (perms .entry)) «n_satom» «n_patom» «num_trans»)) 1 two (now (fc .entry)) ≡ Alike) ⌝ }
+    ensures { λ r. ⌜ AlikeTo (shiftsOf (shiftTables (now (p2s .entry)) (now (s2pp .entry)) (now («nsym_list» .entry)) (now (perms .entry)) «n_satom» «n_patom» «num_trans»)) 1 two (now (fc .entry)) r ⌝ }
 {
     let mut p = 0;
     while p < n_patom {
         let first = PrimAtom(p);
-        if row(
+        let j = row(
             fc,
             p2s,
             s2pp,
@@ -220,16 +264,16 @@ fn quick(
             n_patom,
             num_trans,
             first,
-        ) {
-            p += 1;
-        } else {
-            return false;
+        );
+        if j < n_satom {
+            return with_leg(p, n_satom, j);
         }
+        p += 1;
     }
-    true
+    with_leg(p, n_satom, 0)
 }
 
-// A set that is not alike is looked at again, block after block, for the first place.
+// The bits of a stretch of blocks are joined and asked for once; what then differs is looked for block after block.
 fn settle(
     fc: &[f64],
     p2s: &[i64],
@@ -243,10 +287,18 @@ fn settle(
     requires { ⌜ Ready limit2 1 (length (now fc)) (shiftTables (now p2s) (now s2pp) (now «nsym_list») (now perms) «n_satom» «n_patom» «num_trans») ⌝ }
     ensures { λ r. ⌜ r ≡ audited (shiftsOf (shiftTables (now (p2s .entry)) (now (s2pp .entry)) (now («nsym_list» .entry)) (now (perms .entry)) «n_satom» «n_patom» «num_trans»)) 1 two (now (fc .entry)) ⌝ }
 {
-    if quick(fc, p2s, s2pp, nsym_list, perms, n_satom, n_patom, num_trans) {
-        return Audit::Alike;
-    }
-    scan(fc, p2s, s2pp, nsym_list, perms, n_satom, n_patom, num_trans)
+    let from = alike_blocks(fc, p2s, s2pp, nsym_list, perms, n_satom, n_patom, num_trans);
+    scan(
+        fc,
+        p2s,
+        s2pp,
+        nsym_list,
+        perms,
+        n_satom,
+        n_patom,
+        num_trans,
+        from,
+    )
 }
 
 // The audit of a compact set, which is read only.

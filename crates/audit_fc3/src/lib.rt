@@ -1,31 +1,31 @@
 // The audits of third order: whether all 6 permutations of any three legs read out the same bits.
 ghost use mathlib.Core.Path.{_≡_};
 ghost use mathlib.Core.Bool.{true};
-ghost use Prim.Native.Nat.{ℕ, _+_, _*_, _<_, _≤_};
+ghost use Prim.Native.Nat.{_+_, _*_, _<_, _≤_};
 ghost use lib.ListN.{length};
 ghost use Rattle.lists.specs.Digits.{room};
 ghost use Rattle.tables.specs.Limits.{limit3};
-ghost use Rattle.tables.specs.Conditions.{indexAt, Readable};
 ghost use Rattle.tables.specs.Compact.{shiftTables, shiftsOf, Fit};
 ghost use Rattle.places.specs.Permutations.{six};
-ghost use Rattle.blocks.specs.Permuted.{permuted};
 ghost use Rattle.orbits.specs.Groups.{groupBlocks};
 ghost use Rattle.audits.specs.Audit.{audited, auditCompact, auditFull};
-ghost use Rattle.audits.specs.Blocks.{positionTable};
+ghost use Rattle.audits.specs.Blocks.{positionTable, AlikeTo};
 ghost use Rattle.audits.specs.Guard.{Ready, wholeTables};
-ghost use Rattle.audits.specs.declared.Audit.the-variants.{Alike};
-ghost use Rattle.audits.specs.Swaps.{SameBlock};
-ghost use Rattle.audit_fc3.specs.Swaps.{last, front, SameUnderBoth};
+ghost use Rattle.audits.specs.Passes.{Passes};
+ghost use Rattle.audit_fc3.specs.Rows.{Inside6, SameSix, RowPasses};
 use audits::Audit;
+use audits::bits::differing_bits;
 use audits::guard::counted;
 use audits::guard::judge_set;
 use audits::guard::judge_whole;
 use audits::kernel::difference;
 use audits::kernel::look;
-use audits::quick::differing_bits;
 use blocks::read27;
 use permute::permute_lnm;
 use permute::permute_mln;
+use permute::permute_mnl;
+use permute::permute_nlm;
+use permute::permute_nml;
 use places::block2;
 use places::block3;
 use places::last_leg;
@@ -36,9 +36,7 @@ use places::with_leg;
 use tables::Answer;
 use tables::atoms::PrimAtom;
 use tables::atoms::SuperAtom;
-use tables::atoms::nsym_at;
 use tables::atoms::p2s_at;
-use tables::atoms::perms_at;
 use tables::limits::LIMIT3;
 
 // The position that each permutation gives to each position of a block, a row for each.
@@ -247,7 +245,7 @@ fn group_blocks(
     [ijk, ikj, jik, jki, kij, kji]
 }
 
-// Block after block, up to the first place at which some permutation reads another number.
+// Block after block from block `from` on, up to the first place at which some permutation reads another number.
 fn scan(
     fc: &[f64],
     p2s: &[i64],
@@ -257,13 +255,14 @@ fn scan(
     n_satom: usize,
     n_patom: usize,
     num_trans: usize,
+    from: usize,
 ) -> Audit
-    requires { ⌜ Ready limit3 2 (length (now fc)) (shiftTables (now p2s) (now s2pp) (now «nsym_list») (now perms) «n_satom» «n_patom» «num_trans») ⌝ }
+    requires { ⌜ Ready limit3 2 (length (now fc)) (shiftTables (now p2s) (now s2pp) (now «nsym_list») (now perms) «n_satom» «n_patom» «num_trans») × AlikeTo (shiftsOf (shiftTables (now p2s) (now s2pp) (now «nsym_list») (now perms) «n_satom» «n_patom» «num_trans»)) 2 six (now fc) from ⌝ }
     ensures { λ r. ⌜ r ≡ audited (shiftsOf (shiftTables (now (p2s .entry)) (now (s2pp .entry)) (now («nsym_list» .entry)) (now (perms .entry)) «n_satom» «n_patom» «num_trans»)) 2 six (now (fc .entry)) ⌝ }
 {
     let t = positions();
     let count = legs_before(fc.len(), 27);
-    let mut b = 0;
+    let mut b = from;
     while b < count {
         let bs = group_blocks(p2s, s2pp, nsym_list, perms, n_satom, n_patom, num_trans, b);
         let k = look(fc, &bs, &t, 27, b);
@@ -275,64 +274,110 @@ fn scan(
     Audit::Alike
 }
 
-// Whether block o holds the numbers of block b with the last two directions exchanged.
-fn like_last(fc: &[f64], b: usize, o: usize) -> bool
-    requires { ⌜ (b * 27 + 27 ≤ length (now fc)) × (o * 27 + 27 ≤ length (now fc)) ⌝ }
-    ensures { λ r. ⌜ (r ≡ true → SameBlock 27 (permuted 2 last) (now (fc .entry)) b o) ⌝ }
+// The bits in which the other blocks of a group, each with its directions permuted, differ from the first, joined to those found before.
+fn differ_group(
+    fc: &[f64],
+    ijk: usize,
+    ikj: usize,
+    jik: usize,
+    jki: usize,
+    kij: usize,
+    kji: usize,
+    found: u64,
+) -> u64
+    requires { ⌜ Inside6 (length (now fc)) ijk ikj jik jki kij kji ⌝ }
+    ensures { λ r. ⌜ (r ≡ 0 → (found ≡ 0) × SameSix (now (fc .entry)) ijk ikj jik jki kij kji) ⌝ }
 {
-    let x = read27(fc, b);
-    let y = permute_lnm(read27(fc, o));
-    differing_bits(&x, &y, 0) == 0
+    let x = read27(fc, ijk);
+    let y = permute_lnm(read27(fc, ikj));
+    let a = differing_bits(&x, &y, found);
+    let z = permute_mln(read27(fc, jik));
+    let b = differing_bits(&x, &z, a);
+    let u = permute_mnl(read27(fc, jki));
+    let c = differing_bits(&x, &u, b);
+    let v = permute_nlm(read27(fc, kij));
+    let d = differing_bits(&x, &v, c);
+    let w = permute_nml(read27(fc, kji));
+    differing_bits(&x, &w, d)
 }
 
-// The same with the first two exchanged.
-fn like_front(fc: &[f64], b: usize, o: usize) -> bool
-    requires { ⌜ (b * 27 + 27 ≤ length (now fc)) × (o * 27 + 27 ≤ length (now fc)) ⌝ }
-    ensures { λ r. ⌜ (r ≡ true → SameBlock 27 (permuted 2 front) (now (fc .entry)) b o) ⌝ }
+// The same of block (p, j, k), unless its group has an earlier block, at which all of them were compared.
+fn differ_at(
+    fc: &[f64],
+    p2s: &[i64],
+    s2pp: &[i64],
+    nsym_list: &[i64],
+    perms: &[i64],
+    n_satom: usize,
+    n_patom: usize,
+    num_trans: usize,
+    p: PrimAtom,
+    j: SuperAtom,
+    k: SuperAtom,
+    found: u64,
+) -> u64
+    requires { ⌜ Ready limit3 2 (length (now fc)) (shiftTables (now p2s) (now s2pp) (now «nsym_list») (now perms) «n_satom» «n_patom» «num_trans») × (p .0 < «n_patom») × (j .0 < «n_satom») × (k .0 < «n_satom») ⌝ }
+    ensures { λ r. ⌜ (r ≡ 0 → (found ≡ 0) × Passes (shiftsOf (shiftTables (now (p2s .entry)) (now (s2pp .entry)) (now («nsym_list» .entry)) (now (perms .entry)) «n_satom» «n_patom» «num_trans»)) 2 six (now (fc .entry)) ((p .0 * «n_satom» + j .0) * «n_satom» + k .0)) ⌝ }
 {
-    let x = read27(fc, b);
-    let y = permute_mln(read27(fc, o));
-    differing_bits(&x, &y, 0) == 0
+    let i = p2s_at(p2s, p);
+    let ijk = block3(p, j, k, n_satom);
+    let kij = read_out3(s2pp, nsym_list, perms, k, i, j, n_satom);
+    if kij < ijk {
+        return found;
+    }
+    let jki = read_out3(s2pp, nsym_list, perms, j, k, i, n_satom);
+    if jki < ijk {
+        return found;
+    }
+    let kji = read_out3(s2pp, nsym_list, perms, k, j, i, n_satom);
+    if kji < ijk {
+        return found;
+    }
+    let ikj = block3(p, k, j, n_satom);
+    let jik = read_out3(s2pp, nsym_list, perms, j, i, k, n_satom);
+    differ_group(fc, ijk, ikj, jik, jki, kij, kji, found)
 }
 
-// The blocks (p, j, k) beside (p, k, j). For a k below j they were compared the other way round.
-fn last_row(fc: &[f64], p: PrimAtom, j: SuperAtom, n_satom: usize) -> bool
-    requires { ⌜ («n_satom» ≤ 256) × (p .0 < 256) × (j .0 < «n_satom») × ((p .0 + 1) * «n_satom» * «n_satom» * 27 ≤ length (now fc)) ⌝ }
-    ensures { λ r. ⌜ (r ≡ true → (k : ℕ) → k < «n_satom» → j .0 ≤ k → SameBlock 27 (permuted 2 last) (now (fc .entry)) ((p .0 * «n_satom» + j .0) * «n_satom» + k) ((p .0 * «n_satom» + k) * «n_satom» + j .0)) ⌝ }
+// The same of row (p, j). Its blocks (p, j, k) with a k below j were compared at (p, k, j).
+fn differ_row(
+    fc: &[f64],
+    p2s: &[i64],
+    s2pp: &[i64],
+    nsym_list: &[i64],
+    perms: &[i64],
+    n_satom: usize,
+    n_patom: usize,
+    num_trans: usize,
+    p: PrimAtom,
+    j: SuperAtom,
+) -> u64
+    requires { ⌜ Ready limit3 2 (length (now fc)) (shiftTables (now p2s) (now s2pp) (now «nsym_list») (now perms) «n_satom» «n_patom» «num_trans») × (p .0 < «n_patom») × (j .0 < «n_satom») ⌝ }
+    ensures { λ r. ⌜ (r ≡ 0 → RowPasses (shiftsOf (shiftTables (now (p2s .entry)) (now (s2pp .entry)) (now («nsym_list» .entry)) (now (perms .entry)) «n_satom» «n_patom» «num_trans»)) (now (fc .entry)) (p .0 * «n_satom» + j .0)) ⌝ }
 {
+    let mut found = 0;
     let mut k = j.0;
     while k < n_satom {
-        let b = block3(p, j, SuperAtom(k), n_satom);
-        let o = block3(p, SuperAtom(k), j, n_satom);
-        if like_last(fc, b, o) {
-            k += 1;
-        } else {
-            return false;
-        }
+        found = differ_at(
+            fc,
+            p2s,
+            s2pp,
+            nsym_list,
+            perms,
+            n_satom,
+            n_patom,
+            num_trans,
+            p,
+            j,
+            SuperAtom(k),
+            found,
+        );
+        k += 1;
     }
-    true
+    found
 }
 
-// The blocks of row r beside those of row s in which the first two atoms are exchanged: row t of perms says which.
-fn front_row(fc: &[f64], perms: &[i64], n_satom: usize, t: usize, r: usize, s: usize) -> bool
-    requires { ⌜ ((r + 1) * «n_satom» * 27 ≤ length (now fc)) × ((s + 1) * «n_satom» * 27 ≤ length (now fc)) × ((k : ℕ) → k < «n_satom» → Readable (now perms) (t * «n_satom» + k) × (indexAt (now perms) (t * «n_satom» + k) < «n_satom»)) ⌝ }
-    ensures { λ z. ⌜ (z ≡ true → (k : ℕ) → k < «n_satom» → SameBlock 27 (permuted 2 front) (now (fc .entry)) (r * «n_satom» + k) (s * «n_satom» + indexAt (now (perms .entry)) (t * «n_satom» + k))) ⌝ }
-{
-    let mut k = 0;
-    while k < n_satom {
-        let image = perms_at(perms, n_satom, t, SuperAtom(k));
-        let b = with_leg(r, n_satom, k);
-        let o = with_leg(s, n_satom, image.0);
-        if like_front(fc, b, o) {
-            k += 1;
-        } else {
-            return false;
-        }
-    }
-    true
-}
-
-// Row (p, j) under both swaps. Where the first two legs are exchanged, its blocks stand in one row too; if that is an earlier row, they were compared there.
+// Whether row (p, j) is alike if all before it is. Where the first two legs are exchanged, its blocks stand in one row too; if that is an earlier row,
+// they were compared there.
 fn row(
     fc: &[f64],
     p2s: &[i64],
@@ -346,22 +391,31 @@ fn row(
     j: SuperAtom,
 ) -> bool
     requires { ⌜ Ready limit3 2 (length (now fc)) (shiftTables (now p2s) (now s2pp) (now «nsym_list») (now perms) «n_satom» «n_patom» «num_trans») × (p .0 < «n_patom») × (j .0 < «n_satom») ⌝ }
-    ensures { λ r. ⌜ (r ≡ true → SameUnderBoth (shiftsOf (shiftTables (now (p2s .entry)) (now (s2pp .entry)) (now («nsym_list» .entry)) (now (perms .entry)) «n_satom» «n_patom» «num_trans»)) (now (fc .entry)) (p .0 * «n_satom» + j .0)) ⌝ }
+    ensures { λ r. ⌜ (r ≡ true → RowPasses (shiftsOf (shiftTables (now (p2s .entry)) (now (s2pp .entry)) (now («nsym_list» .entry)) (now (perms .entry)) «n_satom» «n_patom» «num_trans»)) (now (fc .entry)) (p .0 * «n_satom» + j .0)) ⌝ }
 {
-    if last_row(fc, p, j, n_satom) {
-        let i = p2s_at(p2s, p);
-        let r = block2(p, j, n_satom);
-        let s = read_out2(s2pp, nsym_list, perms, j, i, n_satom);
-        if s < r {
-            return true;
-        }
-        return front_row(fc, perms, n_satom, nsym_at(nsym_list, j), r, s);
+    let i = p2s_at(p2s, p);
+    let r = block2(p, j, n_satom);
+    let s = read_out2(s2pp, nsym_list, perms, j, i, n_satom);
+    if s < r {
+        return true;
     }
-    false
+    let found = differ_row(
+        fc,
+        p2s,
+        s2pp,
+        nsym_list,
+        perms,
+        n_satom,
+        n_patom,
+        num_trans,
+        p,
+        j,
+    );
+    found == 0
 }
 
-// The rows of p.
-fn slab(
+// So many blocks from the first on are alike: those of the rows before the first in which bits differ.
+fn alike_blocks(
     fc: &[f64],
     p2s: &[i64],
     s2pp: &[i64],
@@ -370,14 +424,15 @@ fn slab(
     n_satom: usize,
     n_patom: usize,
     num_trans: usize,
-    p: PrimAtom,
-) -> bool
-    requires { ⌜ Ready limit3 2 (length (now fc)) (shiftTables (now p2s) (now s2pp) (now «nsym_list») (now perms) «n_satom» «n_patom» «num_trans») × (p .0 < «n_patom») ⌝ }
-    ensures { λ r. ⌜ (r ≡ true → (j : ℕ) → j < «n_satom» → SameUnderBoth (shiftsOf (shiftTables (now (p2s .entry)) (now (s2pp .entry)) (now («nsym_list» .entry)) (now (perms .entry)) «n_satom» «n_patom» «num_trans»)) (now (fc .entry)) (p .0 * «n_satom» + j)) ⌝ }
+) -> usize
+    requires { ⌜ Ready limit3 2 (length (now fc)) (shiftTables (now p2s) (now s2pp) (now «nsym_list») (now perms) «n_satom» «n_patom» «num_trans») ⌝ }
+    ensures { λ r. ⌜ AlikeTo (shiftsOf (shiftTables (now (p2s .entry)) (now (s2pp .entry)) (now («nsym_list» .entry)) (now (perms .entry)) «n_satom» «n_patom» «num_trans»)) 2 six (now (fc .entry)) r ⌝ }
 {
-    let mut j = 0;
-    while j < n_satom {
-        let atom = SuperAtom(j);
+    let count = with_leg(n_patom, n_satom, 0);
+    let mut r = 0;
+    while r < count {
+        let p = PrimAtom(legs_before(r, n_satom));
+        let j = SuperAtom(last_leg(r, n_satom));
         if row(
             fc,
             p2s,
@@ -388,54 +443,17 @@ fn slab(
             n_patom,
             num_trans,
             p,
-            atom,
+            j,
         ) {
-            j += 1;
+            r += 1;
         } else {
-            return false;
+            return with_leg(r, n_satom, 0);
         }
     }
-    true
+    with_leg(r, n_satom, 0)
 }
 
-// Whether every block is like its counterparts under the swaps of neighbouring legs, which make all six permutations. These counterparts stand near, where
-// the six blocks of a group stand all over the set. A set with a NaN is not found to be alike here.
-fn quick(
-    fc: &[f64],
-    p2s: &[i64],
-    s2pp: &[i64],
-    nsym_list: &[i64],
-    perms: &[i64],
-    n_satom: usize,
-    n_patom: usize,
-    num_trans: usize,
-) -> bool
-    requires { ⌜ Ready limit3 2 (length (now fc)) (shiftTables (now p2s) (now s2pp) (now «nsym_list») (now perms) «n_satom» «n_patom» «num_trans») ⌝ }
-    ensures { λ r. ⌜ (r ≡ true → audited (shiftsOf (shiftTables (now (p2s .entry)) (now (s2pp .entry)) (now («nsym_list» .entry)) (now (perms .entry)) «n_satom» «n_patom» «num_trans»)) 2 six (now (fc .entry)) ≡ Alike) ⌝ }
-{
-    let mut p = 0;
-    while p < n_patom {
-        let first = PrimAtom(p);
-        if slab(
-            fc,
-            p2s,
-            s2pp,
-            nsym_list,
-            perms,
-            n_satom,
-            n_patom,
-            num_trans,
-            first,
-        ) {
-            p += 1;
-        } else {
-            return false;
-        }
-    }
-    true
-}
-
-// A set that is not alike is looked at again, block after block, for the first place.
+// Row after row, and then the row in which some bits differ block after block, for the first place.
 fn settle(
     fc: &[f64],
     p2s: &[i64],
@@ -449,10 +467,18 @@ fn settle(
     requires { ⌜ Ready limit3 2 (length (now fc)) (shiftTables (now p2s) (now s2pp) (now «nsym_list») (now perms) «n_satom» «n_patom» «num_trans») ⌝ }
     ensures { λ r. ⌜ r ≡ audited (shiftsOf (shiftTables (now (p2s .entry)) (now (s2pp .entry)) (now («nsym_list» .entry)) (now (perms .entry)) «n_satom» «n_patom» «num_trans»)) 2 six (now (fc .entry)) ⌝ }
 {
-    if quick(fc, p2s, s2pp, nsym_list, perms, n_satom, n_patom, num_trans) {
-        return Audit::Alike;
-    }
-    scan(fc, p2s, s2pp, nsym_list, perms, n_satom, n_patom, num_trans)
+    let from = alike_blocks(fc, p2s, s2pp, nsym_list, perms, n_satom, n_patom, num_trans);
+    scan(
+        fc,
+        p2s,
+        s2pp,
+        nsym_list,
+        perms,
+        n_satom,
+        n_patom,
+        num_trans,
+        from,
+    )
 }
 
 // The audit of a compact set, which is read only.

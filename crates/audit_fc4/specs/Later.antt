@@ -4,7 +4,7 @@ use mathlib.Core.Path.{_≡_, refl, sym, ap, ap₂, _∙_, subst}
 use mathlib.Core.Bool.{Bool, true, false, _||_}
 use mathlib.Core.Logic.{_⊎_, inl, inr}
 use mathlib.Core.List.{List, [], _∷_}
-use Prim.Native.Nat.{ℕ, zero, suc, _+_, _*_, _-_, _/_, _%_, _≤_, _<_}
+use Prim.Native.Nat.{ℕ, _+_, _*_, _-_, _/_, _%_, _≤_, _<_}
 use native.Mathlib.Nat.{mul-le-mul, mul-le-mul-right, le-refl}
 use native.Mathlib.Decide.{ℕ-discrete}
 use native.Mathlib.Omega.{arith}
@@ -17,12 +17,11 @@ use Rattle.lists.specs.Members.{In}
 use Rattle.lists.specs.Elements.{Below, pick}
 use Rattle.lists.specs.Digits.{horner, room, rest, digits, rest-below, digits-below, horner-digits}
 use Rattle.tables.specs.Shifts.{Shifts, Laws, p2sAt}
-use Rattle.places.specs.Places.{size}
-use Rattle.places.specs.Permutations.{twentyFour}
+use Rattle.places.specs.Permutations.{twentyFour, twentyFour-group}
 use Rattle.orbits.specs.Transposed.{counterpart}
 use Rattle.orbits.specs.AtBlocks.{counterpart-at, stored-own}
-use Rattle.orbits.specs.Groups.{groupBlocks}
-use Rattle.audits.specs.Blocks.{Orders, AlikeTo, block-later}
+use Rattle.audits.specs.Blocks.{AlikeTo}
+use Rattle.audits.specs.Passes.{walk, pass-later}
 
 -- of the last three atoms of block b one is below the one before it
 unfoldable pub falling : ℕ → ℕ → Bool
@@ -134,20 +133,14 @@ module _ (S : Shifts) (L : Laws S) (b : ℕ) (h : b < room (S .nSatom) 3 (S .nPa
 
 -- ---- so the blocks that were passed are alike if those before them are
 
-module _ (S : Shifts) (L : Laws S) (t : List ℕ) (O : Orders 3 twentyFour t) (set : List Float) (ls : length set ≡ size S 3) where
-  walk : (b d : ℕ) → b + d ≤ room (S .nSatom) 3 (S .nPatom) → ((x : ℕ) → b ≤ x → x < b + d → falling (S .nSatom) x ≡ true)
-      → AlikeTo S 3 twentyFour set b → AlikeTo S 3 twentyFour set (b + d)
-  walk b zero h f A = let e : b ≡ b + 0 = omega arith in subst (λ (x : ℕ). AlikeTo S 3 twentyFour set x) e A
-  walk b (suc d) h f A =
-      let e : b + d + 1 ≡ b + suc d = omega arith in
-      let hb : b + d < room (S .nSatom) 3 (S .nPatom) = omega arith in
-      let (σ, s, q) = falls-later S L (b + d) hb (f (b + d) (omega arith) (omega arith)) in
-      subst (λ (x : ℕ). AlikeTo S 3 twentyFour set x) e
-      (block-later S L 3 twentyFour t O set ls (b + d) hb (groupBlocks S 3 twentyFour (b + d)) refl σ s q (walk b d (omega arith) (λ x l g. f x l (omega arith)) A))
-
-  pub walked : {b count r : ℕ} → Next (S .nSatom) b count r → count ≡ room (S .nSatom) 3 (S .nPatom) → AlikeTo S 3 twentyFour set b → AlikeTo S 3 twentyFour set r
-  walked {b} {count} {r} p e A =
-      let f = p .from in
-      let g = p .to in
-      let z : b + (r - b) ≡ r = omega arith in
-      subst (λ (x : ℕ). AlikeTo S 3 twentyFour set x) z (walk b (r - b) (omega (arith, e)) (λ x l h. p .passed x l (omega arith)) A)
+pub walked : (S : Shifts) (L : Laws S) (set : List Float) {b count r : ℕ} → Next (S .nSatom) b count r → count ≡ room (S .nSatom) 3 (S .nPatom)
+    → AlikeTo S 3 twentyFour set b → AlikeTo S 3 twentyFour set r
+walked S L set {b} {count} {r} p e A =
+    let f = p .from in
+    let g = p .to in
+    let z : b + (r - b) ≡ r = omega arith in
+    subst (λ (x : ℕ). AlikeTo S 3 twentyFour set x) z
+    (walk S 3 twentyFour set b (r - b) (λ k h.
+    let hb : b + k < room (S .nSatom) 3 (S .nPatom) = omega (arith, e) in
+    let (σ, s, q) = falls-later S L (b + k) hb (p .passed (b + k) (omega arith) (omega arith)) in
+    pass-later S L 3 twentyFour twentyFour-group set (b + k) hb σ s q) A)

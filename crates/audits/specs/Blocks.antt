@@ -11,7 +11,6 @@ use lib.ListN.{length, getD, length-map}
 use lib.Ieee.{Float, nan}
 use borrow.Author.Tests.{ltb-true, lt-ltb}
 use Rattle.lists.specs.Tests.{some, some-at, refuted, split}
-use Rattle.lists.specs.Members.{In}
 use Rattle.lists.specs.Elements.{straight, getD-map}
 use Rattle.lists.specs.Cases.{lt-or-le}
 use Rattle.lists.specs.Tab.{tab, length-tab, getD-tab}
@@ -67,6 +66,23 @@ AlikeTo S m os set b = (q : ℕ) → q < b * inBlock m → unlike S m os set q �
 
 pub alike-none : (S : Shifts) (m : ℕ) (os : List (List ℕ)) (set : List Float) → AlikeTo S m os set 0
 alike-none S m os set q h = absurd (omega arith)
+
+-- a place before the end of block b is one of it, or one before it
+place-split : (c b q : ℕ) → q < (b + 1) * c → (q < b * c) ⊎ ((k : ℕ) × (k < c) × (q ≡ b * c + k))
+place-split c b q h = go (lt-or-le q (b * c))
+  where
+    go : (q < b * c) ⊎ (b * c ≤ q) → (q < b * c) ⊎ ((k : ℕ) × (k < c) × (q ≡ b * c + k))
+    go (inl l) = inl l
+    go (inr l) = inr (q - b * c, omega arith, omega arith)
+
+-- one block more
+pub alike-more : (S : Shifts) (m : ℕ) (os : List (List ℕ)) (set : List Float) (b : ℕ) → ((k : ℕ) → k < inBlock m → unlike S m os set (b * inBlock m + k) ≡ false)
+    → AlikeTo S m os set b → AlikeTo S m os set (b + 1)
+alike-more S m os set b f A q l = by (place-split (inBlock m) b q l)
+  where
+    by : (q < b * inBlock m) ⊎ ((k : ℕ) × (k < inBlock m) × (q ≡ b * inBlock m + k)) → unlike S m os set q ≡ false
+    by (inl g) = A q g
+    by (inr (k, hk, g)) = ap (unlike S m os set) g ∙ f k hk
 
 pub some-same : (n : ℕ) (f g : ℕ → Bool) → ((i : ℕ) → i < n → f i ≡ g i) → some n f ≡ some n g
 unfolding some
@@ -130,45 +146,22 @@ module _ (S : Shifts) (L : Laws S) (m : ℕ) (os : List (List ℕ)) (t : List �
             let e : getD t r 0 ≡ permuted m (getD os (r / c) []) (r % c) = ap (λ r. getD t r 0) (sym (div-add-mod' r c)) ∙ O .entry (r / c) (r % c) i k in
             rw e (permuted-is-below m (getD os (r / c) []) (r % c) (each (r / c) i) k)
 
-    -- a place of the block, or one before it
-    place-split : (q : ℕ) → q < (b + 1) * c → (q < b * c) ⊎ ((k : ℕ) × (k < c) × (q ≡ b * c + k))
-    place-split q h = go (lt-or-le q (b * c))
-      where
-        go : (q < b * c) ⊎ (b * c ≤ q) → (q < b * c) ⊎ ((k : ℕ) × (k < c) × (q ≡ b * c + k))
-        go (inl l) = inl l
-        go (inr l) = inr (q - b * c, omega arith, omega arith)
-
     -- nothing was found in the block
     pub block-passed : (k : ℕ) → k ≡ looked c bs t set b → c ≤ k → AlikeTo S m os set b → AlikeTo S m os set (b + 1)
     unfolding looked
-    block-passed k e h A q l = by (split (seenBefore bs b)) (place-split q l)
+    block-passed k e h A = alike-more S m os set b (λ j hj. by j hj (split (seenBefore bs b))) A
       where
-        none : seenBefore bs b ≡ false → (j : ℕ) → j < c → unlike S m os set (b * c + j) ≡ false
-        none s j hj =
-            let f = positionTo c bs t set b (length bs) in
-            let p = search-is c f in
-            let n : k ≡ search c f = e ∙ ap (λ x. cond x c (search c f)) s in
-            sym (unlike-is j hj) ∙ p .before j (omega (arith, n))
-
-        before : seenBefore bs b ≡ true → (j : ℕ) → j < c → unlike S m os set (b * c + j) ≡ false
-        before s j hj =
+        by : (j : ℕ) → j < c → (seenBefore bs b ≡ true) ⊎ (seenBefore bs b ≡ false) → unlike S m os set (b * c + j) ≡ false
+        by j hj (inl s) =
             let (i, hi, lt) = some-at (length bs) (λ i. ltb (getD bs i 0) b) s in
             let hi′ : i < length os = subst (λ (n : ℕ). i < n) count-bs hi in
             let d : counterpart S m (getD os i []) b < b = rw (← at-bs i hi′) (ltb-true (getD bs i 0) b lt) in
             earlier-tells S L m os (O .group) set b j hb hj (getD os i []) (index-in [] os i hi′) d A
-
-        by : (seenBefore bs b ≡ true) ⊎ (seenBefore bs b ≡ false) → (q < b * c) ⊎ ((k : ℕ) × (k < c) × (q ≡ b * c + k)) → unlike S m os set q ≡ false
-        by s (inl g) = A q g
-        by (inl s) (inr (j, hj, g)) = ap (unlike S m os set) g ∙ before s j hj
-        by (inr s) (inr (j, hj, g)) = ap (unlike S m os set) g ∙ none s j hj
-
-    -- a block that is known to have an earlier one in its group is not looked at
-    pub block-later : (σ : List ℕ) → In σ os → counterpart S m σ b < b → AlikeTo S m os set b → AlikeTo S m os set (b + 1)
-    block-later σ s d A q l = by (place-split q l)
-      where
-        by : (q < b * c) ⊎ ((k : ℕ) × (k < c) × (q ≡ b * c + k)) → unlike S m os set q ≡ false
-        by (inl g) = A q g
-        by (inr (j, hj, g)) = ap (unlike S m os set) g ∙ earlier-tells S L m os (O .group) set b j hb hj σ s d A
+        by j hj (inr s) =
+            let f = positionTo c bs t set b (length bs) in
+            let p = search-is c f in
+            let n : k ≡ search c f = e ∙ ap (λ x. cond x c (search c f)) s in
+            sym (unlike-is j hj) ∙ p .before j (omega (arith, n))
 
     -- something was found at position k
     module _ (k : ℕ) (e : k ≡ looked c bs t set b) (h : k < c) where
@@ -193,7 +186,7 @@ module _ (S : Shifts) (L : Laws S) (m : ℕ) (os : List (List ℕ)) (t : List �
             (record {
               within = let l = in-size in omega arith;
               passes = λ l. sym (unlike-is k h) ∙ found-some;
-              before = λ q l. by q l (place-split q (omega arith));
+              before = λ q l. by q l (place-split c b q (omega arith));
             })
           where
             in-size : b * c + k < size S m

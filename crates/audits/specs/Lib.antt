@@ -5,4 +5,5 @@ pub mod Places
 pub mod Kernel
 pub mod Blocks
 pub mod Guard
-pub mod Swaps
+pub mod Bits
+pub mod Passes

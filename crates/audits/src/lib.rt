@@ -1,7 +1,7 @@
 // What an audit says of a set, the comparison of two sets, and the parts that the audits of every order share.
+pub mod bits;
 pub mod guard;
 pub mod kernel;
-pub mod quick;
 
 use records::float_word;
 use tables::Refusal;

@@ -67,13 +67,13 @@ unfolding readBy
 read-within ok b at F p k s e q = record-room ok b at (pick (holdsRecord ok b at) (ok && eqb at (trailerAt b)) (readEntry (entryAt b at)) (sym p ∙ q)) F
 
 module _ (b : List ℕ) (at : ℕ) (slots : List ℕ) {a : Item} where
-  pub told-record : {k s e n : ℕ} {z : List ℕ} → Within b at a → a ≡ Record k s e → n ≡ getD b (at + 9) 0 → z ≡ (k ∷ s ∷ e ∷ (at + 10) ∷ n ∷ (at + (10 + n)) ∷ [])
+  pub told-record : {k s e n p : ℕ} {z : List ℕ} → Within b at a → a ≡ Record k s e → n ≡ getD b (at + 9) 0 → p ≡ at + sizeAt b at → z ≡ (k ∷ s ∷ e ∷ (at + 10) ∷ n ∷ p ∷ [])
       → (0, z) ≡ told b at a slots
   unfolding told slotsOf entryAt sizeAt
-  told-record {k} {s} {e} {n} W q l h =
+  told-record {k} {s} {e} {n} W q l m h =
       let L = getD b (at + 9) 0 in
       let long : length (take L (drop (at + 10) b)) ≡ L = length-take-le L (drop (at + 10) b) (omega (arith, W k s e q .0, length-drop (at + 10) b)) in
-      ap (λ (x : List ℕ). (0, x)) (h ∙ ap (λ (x : ℕ). k ∷ s ∷ e ∷ (at + 10) ∷ x ∷ (at + (10 + x)) ∷ []) l ∙ ap (λ (x : ℕ). k ∷ s ∷ e ∷ (at + 10) ∷ x ∷ (at + (10 + L)) ∷ []) (sym long))
+      ap (λ (x : List ℕ). (0, x)) (h ∙ ap (λ (x : ℕ). k ∷ s ∷ e ∷ (at + 10) ∷ n ∷ x ∷ []) m ∙ ap (λ (x : ℕ). k ∷ s ∷ e ∷ (at + 10) ∷ x ∷ (at + (10 + L)) ∷ []) (l ∙ sym long))
       ∙ ap (λ (x : Item). told b at x slots) (sym q)
 
   pub told-end : a ≡ End → (68, slots) ≡ told b at a slots

@@ -7,6 +7,7 @@ ghost use Rattle.roll.specs.Format.{entry};
 ghost use Rattle.roll.specs.Reading.{holdsRoll, holdsFormerRoll};
 ghost use Rattle.capi_roll.specs.Roll.{sevenOrTwo, told, toldIn, reported, named, readRoll, readRollFormer, appendRoll, setNow, retireAll};
 ghost use Rattle.capi_roll.specs.Told.{Within};
+use roll::layout::record_end;
 use roll::numbers::wide;
 use roll_append::Appended;
 use roll_read::Item;
@@ -67,15 +68,14 @@ fn tell(b: &[u8], at: usize, a: Item, slots: &mut [usize]) -> u8
 {
     match a {
         Item::Record { kind, set, earlier } => {
-            let n = wide(b[at + 9]);
             fill(
                 slots,
                 kind as usize,
                 set as usize,
                 earlier as usize,
                 at + 10,
-                n,
-                at + (10 + n),
+                wide(b[at + 9]),
+                record_end(b, at),
             );
             0
         }

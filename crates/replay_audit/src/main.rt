@@ -2,15 +2,6 @@
 // sentences that the calls are asked for in; oracle/README.md says what the words of a record are. It writes how many calls were compared,
 // how many differ in the answer, in a place or in a number, how many there are of each answer, and a checksum of the inputs and of all
 // that was worked out from them.
-use capi_audit::gf_audit_compact_fc2;
-use capi_audit::gf_audit_compact_fc3;
-use capi_audit::gf_audit_compact_fc4;
-use capi_audit::gf_audit_fc2;
-use capi_audit::gf_audit_fc3;
-use capi_audit::gf_audit_fc4;
-use capi_audit::gf_same_set;
-use capi_drifts::gf_drift_report_compact_fc2;
-use capi_drifts::gf_drift_report_fc3;
 use records::steps::after;
 use records::steps::count_of;
 use records::steps::first;
@@ -19,9 +10,7 @@ use records::steps::plus;
 use records::steps::size;
 use records::steps::table_ends;
 use records::values::fill;
-use records::values::integers;
 use records::values::mix_floats;
-use records::wide;
 use records::word_of;
 use replays::Tally;
 
@@ -41,70 +30,17 @@ fn put(r: &[u8], k: usize, set: &mut [f64]) {
     }
 }
 
-// The set of the record: made from its seed, and then single numbers, whose places and words stand from word number `from` on.
-fn made(r: &[u8], from: usize, set: &mut [f64]) {
+// The set of the record: made from its seed, and then single numbers, whose places and words stand after the tables, of which a full set has none.
+fn made(r: &[u8], set: &mut [f64]) {
     fill(set, word_of(r, 8), word_of(r, 9));
+    let e = table_ends(r, 88);
+    let from = after(19, e.nsym);
     let n = size(word_of(r, 10), 100);
     let mut i = 0;
     while i < n {
         put(r, after(from, 2 * i), set);
         i += 1;
     }
-}
-
-// The audit of a compact set of the order that the record names, or its drift. The tables are one after another.
-fn compact(r: &[u8], fc: &[f64], all: &[i64], place: &mut [usize], numbers: &mut [f64]) -> u64 {
-    let s = count_of(r, 5);
-    let p = count_of(r, 6);
-    let t = count_of(r, 7);
-    let e = table_ends(r, all.len());
-    let a = e.perms;
-    let b = e.p2s;
-    let c = e.s2pp;
-    let d = e.nsym;
-    let perms = &all[0..a];
-    let p2s = &all[a..b];
-    let s2pp = &all[b..c];
-    let nsym_list = &all[c..d];
-    if word_of(r, 4) == 2 {
-        return wide(gf_audit_compact_fc2(fc, p2s, s2pp, nsym_list, perms, place, numbers, s, p, t));
-    }
-    if word_of(r, 4) == 3 {
-        return wide(gf_audit_compact_fc3(fc, p2s, s2pp, nsym_list, perms, place, numbers, s, p, t));
-    }
-    if word_of(r, 4) == 5 {
-        return wide(gf_drift_report_compact_fc2(
-            fc,
-            p2s,
-            s2pp,
-            nsym_list,
-            perms,
-            numbers,
-            place,
-            s,
-            p,
-            t,
-        ));
-    }
-    wide(gf_audit_compact_fc4(fc, p2s, s2pp, nsym_list, perms, place, numbers, s, p, t))
-}
-
-// The audit of a full set, its drift, or the comparison of two.
-fn full(r: &[u8], fc: &[f64], other: &[f64], place: &mut [usize], numbers: &mut [f64]) -> u64 {
-    let n = count_of(r, 5);
-    if word_of(r, 4) == 12 {
-        return wide(gf_audit_fc2(fc, place, numbers, n));
-    }
-    if word_of(r, 4) == 13 {
-        return wide(gf_audit_fc3(fc, place, numbers, n));
-    }
-    if word_of(r, 4) == 14 {
-        return wide(gf_audit_fc4(fc, place, numbers, n));
-    }
-    if word_of(r, 4) == 15 {
-        return wide(gf_drift_report_fc3(fc, numbers, place, n));
-    }
-    wide(gf_same_set(fc, other, place, numbers))
 }
 
 // The slots of a place as one word.
@@ -124,11 +60,11 @@ fn prepare(r: &[u8], fc: &mut [f64]) {
         fill(fc, word_of(r, 8), word_of(r, 9));
         return;
     }
-    made(r, 19, fc);
+    made(r, fc);
 }
 
 // What the call of the record gave: the number of its answer, and the checksums of the slots.
-fn run_full(
+fn run(
     r: &[u8],
     fc: &mut [f64],
     other: &mut [f64],
@@ -136,21 +72,8 @@ fn run_full(
     numbers: &mut [f64],
 ) -> [u64; 3] {
     prepare(r, fc);
-    made(r, 19, other);
-    let a = full(r, fc, other, place, numbers);
-    let p = place_word(place);
-    let n = mix_floats(numbers, 0);
-    [a, p, n]
-}
-
-// The same of a compact set. There is room for 88 entries of the tables.
-fn run_compact(r: &[u8], fc: &mut [f64], place: &mut [usize], numbers: &mut [f64]) -> [u64; 3] {
-    let mut all = [0i64; 88];
-    integers(r, 19, &mut all);
-    let e = table_ends(r, 88);
-    let d = e.nsym;
-    made(r, after(19, d), fc);
-    let a = compact(r, fc, &all, place, numbers);
+    made(r, other);
+    let a = records::wide(audit_calls::call(r, fc, other, place, numbers));
     let p = place_word(place);
     let n = mix_floats(numbers, 0);
     [a, p, n]
@@ -171,16 +94,11 @@ fn step(t: Counts, r: &[u8]) -> Counts {
     let mut other = [0.0f64; 800];
     let mut place = [7usize; 7];
     let mut numbers = [7.0f64; 3];
-    let k = word_of(r, 4);
     let a = size(word_of(r, 11), 800);
     let b = size(word_of(r, 12), 800);
     let c = size(word_of(r, 13), 7);
     let d = size(word_of(r, 18), 3);
-    if k == 2 || k == 3 || k == 4 || k == 5 {
-        let got = run_compact(r, &mut fc[0..a], &mut place[0..c], &mut numbers[0..d]);
-        return counted(t, r, got);
-    }
-    let got = run_full(
+    let got = run(
         r,
         &mut fc[0..a],
         &mut other[0..b],
@@ -212,7 +130,7 @@ fn read_page(so_far: Counts) -> Counts {
     replay(&page[..n], so_far)
 }
 
-// No file has more than four pages: the report would not have the records of a fifth.
+// No file has more than three pages: the report would not have the records of a fourth.
 fn main() {
     let none = Counts {
         all: replays::none(),
@@ -221,8 +139,7 @@ fn main() {
     };
     let a = read_page(none);
     let b = read_page(a);
-    let c = read_page(b);
-    let t = read_page(c);
+    let t = read_page(b);
     let all = t.all;
     replays::report(b"audits", all);
     replays::line(b"alike: ", t.alike);

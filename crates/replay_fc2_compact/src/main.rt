@@ -5,13 +5,13 @@
 use capi_fc2::gf_perm_trans_symmetrize_compact_fc;
 use capi_fc2::gf_set_index_permutation_symmetry_compact_fc;
 use records::steps::count_of;
-use records::steps::ends;
 use records::steps::first;
 use records::steps::plus;
 use records::steps::size;
 use records::values;
 use records::wide;
 use replays::Tally;
+use replays::entries;
 
 // What came of a call: its answer, the checksums of the set and of the work slice, and 0.
 type Outcome = [u64; 4];
@@ -65,11 +65,15 @@ fn call_compact(
 
 // Takes the tables apart, which are one after another: perms, p2s, s2pp, nsym_list.
 fn compact(r: &[u8], set: &mut [f64], done: &mut [u8], all: &[i64]) -> u64 {
-    let a = ends(0, count_of(r, 14), all.len());
-    let b = ends(a, count_of(r, 15), all.len());
-    let c = ends(b, count_of(r, 16), all.len());
-    let d = ends(c, count_of(r, 17), all.len());
-    call_compact(r, set, done, &all[a..b], &all[b..c], &all[c..d], &all[0..a])
+    call_compact(
+        r,
+        set,
+        done,
+        entries::p2s(r, all),
+        entries::s2pp(r, all),
+        entries::nsym_list(r, all),
+        entries::perms(r, all),
+    )
 }
 
 fn compact_work(r: &[u8], set: &mut [f64], done: &mut [u8], all: &[i64]) -> Outcome {
@@ -126,13 +130,9 @@ fn read_page(so_far: Tally) -> Tally {
     replay(&page[..n], so_far)
 }
 
-fn two_pages(so_far: Tally) -> Tally {
-    let t = read_page(so_far);
-    read_page(t)
-}
-
-// No file has more than four pages: the report would not have the records of a fifth.
+// No file has more than three pages: the report would not have the records of a fourth.
 fn main() {
-    let t = two_pages(replays::none());
-    replays::report(b"second order, compact sets", two_pages(t));
+    let a = read_page(replays::none());
+    let b = read_page(a);
+    replays::report(b"second order, compact sets", read_page(b));
 }

@@ -200,11 +200,7 @@ fn report(t: Counts) {
     let all = t.all;
     let of = t.of;
     let answers = all.answers;
-    io::write_all(1, b"delivery rolls: ");
-    io::print_decimal(1, all.seen);
-    io::write_all(1, b" compared, ");
-    io::print_decimal(1, all.differ);
-    io::write_all(1, b" differ\n");
+    replays::first_line(b"delivery rolls", all.seen, all.differ);
     replays::line(b"ended well: ", answers[0]);
     replays::line(b"refused, 2: ", answers[2]);
     replays::line(b"refused, 7: ", of.not_a_roll);

@@ -103,7 +103,7 @@ fn read_page(so_far: Counts) -> Counts {
     replay(&page[..n], so_far)
 }
 
-// No file has more than four pages: the report would not have the records of a fifth.
+// No file has more than three pages: the report would not have the records of a fourth.
 fn main() {
     let none = Counts {
         all: replays::none(),
@@ -111,8 +111,7 @@ fn main() {
     };
     let a = read_page(none);
     let b = read_page(a);
-    let c = read_page(b);
-    let t = read_page(c);
+    let t = read_page(b);
     let all = t.all;
     replays::report(b"row sums", all);
     replays::line(b"refused, 10: ", t.off_grid);

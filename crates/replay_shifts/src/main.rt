@@ -99,10 +99,9 @@ fn read_page(so_far: Tally) -> Tally {
     replay(&page[..n], so_far)
 }
 
-// No file has more than four pages: the report would not have the records of a fifth.
+// No file has more than three pages: the report would not have the records of a fourth.
 fn main() {
     let a = read_page(replays::none());
     let b = read_page(a);
-    let c = read_page(b);
-    replays::report(b"shift tables", read_page(c));
+    replays::report(b"shift tables", read_page(b));
 }

@@ -6,9 +6,11 @@ use records::steps::count_of;
 use records::steps::first;
 use records::steps::size;
 use replays::Tally;
+use replays::sets::outcome;
+use replays::sets::prepare;
 
 // The call of the record. The answer's number. There is room for 256 entries of perms and 65 of each other table.
-fn call(r: &[u8], set: &mut [f64], done: &mut [u8]) -> u64 {
+fn call(r: &[u8], set: &mut [f64], done: &mut [u8]) -> u8 {
     let mut all = [0i64; 451];
     records::values::integers(r, 18, &mut all);
     if count_of(r, 4) == 2 {
@@ -20,21 +22,11 @@ fn call(r: &[u8], set: &mut [f64], done: &mut [u8]) -> u64 {
     true_calls::typed(r, set, done, &all)
 }
 
-// The set before the call: made from the seed, or as the call before left it.
-fn prepare(r: &[u8], set: &mut [f64]) {
-    if count_of(r, 5) == 1 {
-        records::values::fill(set, records::word_of(r, 7), records::word_of(r, 8));
-    }
-}
-
 // What the call of the record gave: the number of its answer, and the checksums of the set and of the work slice.
 fn run(r: &[u8], set: &mut [f64], done: &mut [u8]) -> [u64; 3] {
-    prepare(r, set);
-    records::values::fill_bytes(done, records::word_of(r, 7));
+    prepare(r, set, done);
     let a = call(r, set, done);
-    let s = records::values::mix_floats(set, 0);
-    let w = records::values::mix_bytes(done, 0);
-    [a, s, w]
+    outcome(a, set, done)
 }
 
 // The record r, with room for its set and its work slice.
@@ -67,15 +59,11 @@ fn read_page(so_far: Tally, set: &mut [f64], work: &mut [u8]) -> Tally {
     replay(&page[..n], so_far, set, work)
 }
 
-fn two_pages(so_far: Tally, set: &mut [f64], work: &mut [u8]) -> Tally {
-    let t = read_page(so_far, set, work);
-    read_page(t, set, work)
-}
-
-// No file has more than four pages: the report would not have the records of a fifth.
+// No file has more than three pages: the report would not have the records of a fourth.
 fn main() {
     let mut set = [0.0f64; 83000];
     let mut work = [0u8; 2048];
-    let t = two_pages(replays::none(), &mut set, &mut work);
-    replays::report(b"true transposes", two_pages(t, &mut set, &mut work));
+    let a = read_page(replays::none(), &mut set, &mut work);
+    let b = read_page(a, &mut set, &mut work);
+    replays::report(b"true transposes", read_page(b, &mut set, &mut work));
 }

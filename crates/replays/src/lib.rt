@@ -4,6 +4,9 @@ ghost use Rattle.replays.specs.Tally.{noRecord, countedAt, tally, differ
 use records::steps::plus;
 use records::steps::some;
 
+pub mod entries;
+pub mod sets;
+
 // What was compared so far: records, those that differ, how often each answer's number 0 to 6, checksum.
 pub struct Tally {
     pub seen: u64,
@@ -96,15 +99,20 @@ pub fn line(name: &[u8], n: u64) {
     io::write_all(1, b"\n");
 }
 
+// The first line of a report.
+pub fn first_line(title: &[u8], seen: u64, differ: u64) {
+    io::write_all(1, title);
+    io::write_all(1, b": ");
+    io::print_decimal(1, seen);
+    io::write_all(1, b" compared, ");
+    io::print_decimal(1, differ);
+    io::write_all(1, b" differ\n");
+}
+
 // The report, with the same lines in every program.
 pub fn report(title: &[u8], t: Tally) {
     let a = t.answers;
-    io::write_all(1, title);
-    io::write_all(1, b": ");
-    io::print_decimal(1, t.seen);
-    io::write_all(1, b" compared, ");
-    io::print_decimal(1, t.differ);
-    io::write_all(1, b" differ\n");
+    first_line(title, t.seen, t.differ);
     line(b"ended well: ", a[0]);
     line(b"refused, 1: ", a[1]);
     line(b"refused, 2: ", a[2]);

@@ -9,7 +9,9 @@ ghost use Rattle.retire.specs.Press.{placed, toRetire, addAll, judgedPre
 ghost use Rattle.retire.specs.Steps.{waitsAt, gatheredTo};
 ghost use Rattle.retire.specs.declared.Judged.the-variants.{Add};
 use roll::judge::is_whole_roll;
-use roll::numbers::four;
+use roll::layout::count_in;
+use roll::layout::record_end;
+use roll::layout::set_at;
 use roll::numbers::wide;
 use roll_append::Appended;
 use tables::Refusal;
@@ -30,7 +32,7 @@ fn waits(b: &[u8], n: usize, at: usize, last: usize) -> bool
     if wide(b[at]) == 3 {
         return false;
     }
-    let set = four(b, at + 1);
+    let set = set_at(b, at);
     if standing::end_of(b, n, set) != last {
         return false;
     }
@@ -93,8 +95,8 @@ fn gather(b: &[u8], n: usize, last: usize, list: &mut [u32]) -> usize
     let mut p = 0;
     let mut i = 0;
     while i < n {
-        m = place_if(list, m, four(b, p + 1) as u32, waits(b, n, p, last));
-        p += 10 + wide(b[p + 9]);
+        m = place_if(list, m, set_at(b, p) as u32, waits(b, n, p, last));
+        p = record_end(b, p);
         i += 1;
     }
     m
@@ -109,7 +111,7 @@ fn judge(lent: &[u8], count: usize, x: usize, list: &mut [u32]) -> Judged
     if !is_whole_roll(b) {
         return Judged::Not(Refusal::NotARoll);
     }
-    let n = four(b, b.len() - 8);
+    let n = count_in(b, b.len());
     if !standing::is_lawful(b, n) {
         return Judged::Not(Refusal::NotLawful);
     }

@@ -166,9 +166,10 @@ module _ (b : List ℕ) where
   pub not-sized : (sized b ≡ true → ⊥) → false ≡ sized b
   not-sized f = sym (refuted (sized b) f)
 
-  pub sized-by : (n t : ℕ) → 8 ≤ length b → length b ≤ 65536 → n ≤ 1000 → n ≡ countOf b → t ≡ trailerAt b → eqb (t + 4 * n + 8) (length b) ≡ sized b
-  sized-by n t h g f e q =
-      rw (le-leb 8 (length b) h, le-leb (length b) 65536 g, le-leb (countOf b) 1000 (omega arith)) (ap₂ (λ m u. eqb (u + 4 * m + 8) (length b)) e q)
+  pub sized-by : (n t p : ℕ) → 8 ≤ length b → length b ≤ 65536 → n ≤ 1000 → n ≡ countOf b → t ≡ trailerAt b → p ≡ t + 4 * n → eqb (p + 8) (length b) ≡ sized b
+  sized-by n t p h g f e q r =
+      rw (le-leb 8 (length b) h, le-leb (length b) 65536 g, le-leb (countOf b) 1000 (omega arith))
+      (ap (λ x. eqb (x + 8) (length b)) r ∙ ap₂ (λ m u. eqb (u + 4 * m + 8) (length b)) e q)
 
   -- what the records and the list ask for
   pub sized-for : (n t : ℕ) → sized b ≡ true → n ≡ countOf b → t ≡ trailerAt b

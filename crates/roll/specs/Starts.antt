@@ -52,9 +52,8 @@ module _ (b : List ℕ) where
   size-least at = omega arith
 
   -- the code's next position
-  pub next-start : (i at w : ℕ) → at ≡ start b i → w ≡ getD b (at + 9) 0 → at + (10 + w) ≡ start b (i + 1)
-  unfolding sizeAt
-  next-start i at w e g = let h : w ≡ getD b (start b i + 9) 0 = g ∙ ap (λ x. getD b (x + 9) 0) e in omega (arith, start-next i)
+  pub next-start : (i at p : ℕ) → at ≡ start b i → p ≡ at + sizeAt b at → p ≡ start b (i + 1)
+  next-start i at p e g = g ∙ ap (λ x. x + sizeAt b x) e ∙ sym (start-next i)
 
   -- a record ends at or before each later start
   pub ends-before : (i n : ℕ) → i < n → start b i + sizeAt b (start b i) ≤ start b n
@@ -86,18 +85,18 @@ module _ (b : List ℕ) where
     unfolding sizeAt
     head-cut h = rw (lt-leb (at + (10 + getD b (at + 9) 0)) t (omega arith)) refl
 
-    pub label-cut : (w : ℕ) → w ≡ getD b (at + 9) 0 → t < at + (10 + w) → false ≡ (leb (at + sizeAt b at) t && ruledAt b at)
-    unfolding sizeAt
-    label-cut w e h = rw (lt-leb (at + (10 + getD b (at + 9) 0)) t (omega arith)) refl
+    pub label-cut : (p : ℕ) → p ≡ at + sizeAt b at → t < p → false ≡ (leb (at + sizeAt b at) t && ruledAt b at)
+    label-cut p e h = rw (lt-leb (at + sizeAt b at) t (omega arith)) refl
 
-    pub not-cut : (w k x y : ℕ) (r : Bool) → w ≡ getD b (at + 9) 0 → at + (10 + w) ≤ t → k ≡ getD b at 0 → x ≡ fourAt b (at + 1) → y ≡ fourAt b (at + 5)
+    pub not-cut : (p k x y : ℕ) (r : Bool) → p ≡ at + sizeAt b at → p ≤ t → k ≡ getD b at 0 → x ≡ fourAt b (at + 1) → y ≡ fourAt b (at + 5)
         → r ≡ ruled k x y → r ≡ (leb (at + sizeAt b at) t && ruledAt b at)
-    unfolding sizeAt ruledAt
-    not-cut w k x y r e h p q s g = rw (le-leb (at + (10 + getD b (at + 9) 0)) t (omega arith)) (rw (← p, ← q, ← s) g)
+    unfolding ruledAt
+    not-cut p k x y r e h f q s g = rw (le-leb (at + sizeAt b at) t (omega arith)) (rw (← f, ← q, ← s) g)
 
-    pub fit-says : (leb (at + sizeAt b at) t && ruledAt b at) ≡ true → (at + (10 + getD b (at + 9) 0) ≤ t) × (ruledAt b at ≡ true)
-    unfolding sizeAt
-    fit-says e = (leb-true (at + (10 + getD b (at + 9) 0)) t (and-fst (leb (at + (10 + getD b (at + 9) 0)) t) (ruledAt b at) e), and-snd (leb (at + (10 + getD b (at + 9) 0)) t) (ruledAt b at) e)
+    pub fit-says : (leb (at + sizeAt b at) t && ruledAt b at) ≡ true → (at + 10 ≤ t) × (at + sizeAt b at ≤ t) × (ruledAt b at ≡ true)
+    fit-says e =
+        let h : at + sizeAt b at ≤ t = leb-true (at + sizeAt b at) t (and-fst (leb (at + sizeAt b at) t) (ruledAt b at) e) in
+        (omega (arith, size-least at), h, and-snd (leb (at + sizeAt b at) t) (ruledAt b at) e)
 
   -- ---- the first loop: records that follow each other
 
@@ -192,9 +191,9 @@ module _ (b : List ℕ) where
     unfolding listedOnce
     is-open e = mark-shows (isStart b (listed b i) && not (some i (λ k. eqb (listed b k) (listed b i)))) (λ z. e (M .at (listed b i) ∙ z))
 
-  pub listed-is : (t i x : ℕ) → t ≡ trailerAt b → x ≡ fourAt b (t + 4 * i) → x ≡ listed b i
+  pub listed-is : (t i p x : ℕ) → t ≡ trailerAt b → p ≡ t + 4 * i → x ≡ fourAt b p → x ≡ listed b i
   unfolding listed
-  listed-is t i x e g = g ∙ ap (λ y. fourAt b (y + 4 * i)) e
+  listed-is t i p x e f g = g ∙ ap (fourAt b) f ∙ ap (λ y. fourAt b (y + 4 * i)) e
 
   -- no record starts at or after the end of the records
   pub no-start : (t p : ℕ) → start b (countOf b) ≡ t → t ≤ p → isStart b p ≡ false

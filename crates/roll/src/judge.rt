@@ -8,6 +8,12 @@ ghost use Rattle.lists.specs.Tests.{every};
 ghost use Rattle.roll.specs.Format.{ruled};
 ghost use Rattle.roll.specs.Reading.{sizeAt, start, ruledAt, follow, listed, listedOnce, countOf, trailerAt, sized, isRoll, isFormerRoll, holdsRoll, holdsFormerRoll};
 ghost use Rattle.roll.specs.Roll.{Sized, Marked};
+use super::layout::count_in;
+use super::layout::earlier_at;
+use super::layout::listed_at;
+use super::layout::record_end;
+use super::layout::set_at;
+use super::layout::trailer_in;
 use super::numbers::four;
 use super::numbers::wide;
 
@@ -38,10 +44,10 @@ fn fits(b: &[u8], at: usize, t: usize) -> bool
     if t < at + 10 {
         return false;
     }
-    if t < at + (10 + wide(b[at + 9])) {
+    if t < record_end(b, at) {
         return false;
     }
-    is_ruled(wide(b[at]), four(b, at + 1), four(b, at + 5))
+    is_ruled(wide(b[at]), set_at(b, at), earlier_at(b, at))
 }
 
 // Whether n records follow each other from byte 0 up to t; marks where each of them starts.
@@ -56,7 +62,7 @@ fn mark_starts(b: &[u8], n: usize, t: usize, marks: &mut [u8; 65536]) -> bool
             return false;
         }
         marks[at] = 1u8;
-        at += 10 + wide(b[at + 9]);
+        at = record_end(b, at);
         i += 1;
     }
     at == t
@@ -69,8 +75,7 @@ fn lists_once(b: &[u8], n: usize, t: usize, marks: &mut [u8; 65536]) -> bool
 {
     let mut i = 0;
     while i < n {
-        let from = t + 4 * i;
-        let x = four(b, from);
+        let x = four(b, listed_at(t, i));
         if t <= x {
             return false;
         }
@@ -106,11 +111,10 @@ fn lists_in_order(b: &[u8], n: usize, t: usize) -> bool
         if !fits(b, p, t) {
             return false;
         }
-        let place = t + 4 * i;
-        if four(b, place) != p {
+        if four(b, listed_at(t, i)) != p {
             return false;
         }
-        p += 10 + wide(b[p + 9]);
+        p = record_end(b, p);
         i += 1;
     }
     p == t
@@ -127,12 +131,12 @@ fn is_sized(b: &[u8]) -> bool
     if 65536 < len {
         return false;
     }
-    let n = four(b, len - 8);
-    let t = four(b, len - 4);
+    let n = count_in(b, len);
+    let t = trailer_in(b, len);
     if 1000 < n {
         return false;
     }
-    t + 4 * n + 8 == len
+    listed_at(t, n) + 8 == len
 }
 
 // Whether all the bytes are a roll.
@@ -143,7 +147,7 @@ pub fn is_whole_roll(b: &[u8]) -> bool
         return false;
     }
     let len = b.len();
-    lists_in_order(b, four(b, len - 8), four(b, len - 4))
+    lists_in_order(b, count_in(b, len), trailer_in(b, len))
 }
 
 // Whether all the bytes are a roll by the former rule, which leaves the order of the starts free.
@@ -154,7 +158,7 @@ pub fn is_whole_roll_former(b: &[u8]) -> bool
         return false;
     }
     let len = b.len();
-    has_records(b, four(b, len - 8), four(b, len - 4))
+    has_records(b, count_in(b, len), trailer_in(b, len))
 }
 
 // Whether the first count bytes of the lent slice are there and are a roll.

@@ -3,6 +3,7 @@ ghost use mathlib.Core.Path.{_≡_};
 ghost use Rattle.roll.specs.Reading.{rollBytes};
 
 pub mod judge;
+pub mod layout;
 pub mod numbers;
 
 // The bytes of a roll that fills the first count bytes of a lent slice; none where the count passes the slice, and no bytes are no roll.

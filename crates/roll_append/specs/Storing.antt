@@ -7,7 +7,7 @@ use native.Mathlib.Omega.{arith}
 use lib.ListN.{length, getD, take, drop, take-append-drop, length-append}
 use Rattle.lists.specs.Tab.{tab, tabFrom}
 use Rattle.roll.specs.Format.{entry, bytesOf, inFour, inFours}
-use Rattle.roll.specs.Reading.{start}
+use Rattle.roll.specs.Reading.{start, sizeAt}
 use Rattle.roll_append.specs.Laid.{laid, laid-laid, getD-laid}
 use Rattle.roll.specs.Numbers.{fours-tab, length-fours-tab}
 use Rattle.roll.specs.Starts.{head-before}
@@ -35,30 +35,31 @@ unfolding laid inFours tab tabFrom
 no-starts s t = sym (ap (λ n. take t s ++ drop n s) (add-zero t) ∙ take-append-drop t s)
 
 module _ (s : List ℕ) (n t : ℕ) (ends : start s n ≡ t) (room : t + 4 * n ≤ length s) where
-  pub more-starts : (y z : List ℕ) (i at : ℕ) → i < n → at ≡ start s i → y ≡ laid s t (inFours (tab i (start s))) → z ≡ laid y (t + 4 * i) (inFour at)
+  pub more-starts : (y z : List ℕ) (i at p : ℕ) → i < n → at ≡ start s i → p ≡ t + 4 * i → y ≡ laid s t (inFours (tab i (start s))) → z ≡ laid y p (inFour at)
       → z ≡ laid s t (inFours (tab (i + 1) (start s)))
-  more-starts y z i at h e p q =
+  more-starts y z i at p h e g f q =
       let X = inFours (tab i (start s)) in
       let l : length X ≡ 4 * i = length-fours-tab i (start s) in
-      let m : t + 4 * i ≡ t + length X = omega arith in
-      q ∙ ap (λ x. laid x (t + 4 * i) (inFour at)) p ∙ ap (λ k. laid (laid s t X) k (inFour at)) m
+      let m : p ≡ t + length X = omega arith in
+      q ∙ ap (λ x. laid x p (inFour at)) f ∙ ap (λ k. laid (laid s t X) k (inFour at)) m
       ∙ laid-laid s t X (omega arith) (inFour at) ∙ ap (λ k. laid s t (X ++ inFour k)) e ∙ ap (laid s t) (fours-tab i (start s))
 
   -- the records before the trailer are as they were
-  pub still : (z : List ℕ) (i at : ℕ) → i < n → at ≡ start s i → z ≡ laid s t (inFours (tab (i + 1) (start s))) → getD z (at + 9) 0 ≡ getD s (at + 9) 0
+  pub still : (z : List ℕ) (i at : ℕ) → i < n → at ≡ start s i → z ≡ laid s t (inFours (tab (i + 1) (start s))) → at + sizeAt z at ≡ at + sizeAt s at
+  unfolding sizeAt
   still z i at h e q =
       let l = length-fours-tab (i + 1) (start s) in
-      ap (λ x. getD x (at + 9) 0) q ∙ getD-laid s t (inFours (tab (i + 1) (start s))) (omega arith) (at + 9) (omega (arith, head-before s i n h))
+      ap (λ x. at + (10 + getD x (at + 9) 0)) q ∙ ap (λ w. at + (10 + w)) (getD-laid s t (inFours (tab (i + 1) (start s))) (omega arith) (at + 9) (omega (arith, head-before s i n h)))
 
 -- the starts, the count and the trailer's place
-pub trailer-stored : (s w y z : List ℕ) (n t : ℕ) → t + 4 * n + 8 ≤ length s → w ≡ laid s t (inFours (tab n (start s))) → y ≡ laid w (t + 4 * n) (inFour n)
-    → z ≡ laid y (t + 4 * n + 4) (inFour t) → z ≡ laid s t (inFours (tab n (start s)) ++ (inFour n ++ inFour t))
-trailer-stored s w y z n t room p q r =
+pub trailer-stored : (s w y z : List ℕ) (n t p : ℕ) → t + 4 * n + 8 ≤ length s → p ≡ t + 4 * n → w ≡ laid s t (inFours (tab n (start s))) → y ≡ laid w p (inFour n)
+    → z ≡ laid y (p + 4) (inFour t) → z ≡ laid s t (inFours (tab n (start s)) ++ (inFour n ++ inFour t))
+trailer-stored s w y z n t p room at f q r =
     let X = inFours (tab n (start s)) in
     let l : length X ≡ 4 * n = length-fours-tab n (start s) in
-    let m : t + 4 * n ≡ t + length X = omega arith in
-    let k : t + 4 * n + 4 ≡ t + length (X ++ inFour n) = omega (arith, length-append X (inFour n)) in
+    let m : p ≡ t + length X = omega arith in
+    let k : p + 4 ≡ t + length (X ++ inFour n) = omega (arith, length-append X (inFour n)) in
     let e : y ≡ laid s t (X ++ inFour n) =
-    q ∙ ap (λ x. laid x (t + 4 * n) (inFour n)) p ∙ ap (λ k. laid (laid s t X) k (inFour n)) m ∙ laid-laid s t X (omega arith) (inFour n) in
-    r ∙ ap (λ x. laid x (t + 4 * n + 4) (inFour t)) e ∙ ap (λ k. laid (laid s t (X ++ inFour n)) k (inFour t)) k
+    q ∙ ap (λ x. laid x p (inFour n)) f ∙ ap (λ k. laid (laid s t X) k (inFour n)) m ∙ laid-laid s t X (omega arith) (inFour n) in
+    r ∙ ap (λ x. laid x (p + 4) (inFour t)) e ∙ ap (λ k. laid (laid s t (X ++ inFour n)) k (inFour t)) k
     ∙ laid-laid s t (X ++ inFour n) (omega (arith, length-append X (inFour n))) (inFour t) ∙ ap (laid s t) (append-assoc X (inFour n) (inFour t))

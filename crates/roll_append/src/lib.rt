@@ -14,7 +14,10 @@ use lay::lay_four;
 use lay::low;
 use roll::judge::is_roll;
 use roll::judge::is_ruled;
-use roll::numbers::four;
+use roll::layout::count_in;
+use roll::layout::listed_at;
+use roll::layout::record_end;
+use roll::layout::trailer_in;
 use roll::numbers::wide;
 use tables::Refusal;
 
@@ -68,9 +71,8 @@ fn lay_starts(s: &mut [u8], n: usize, t: usize)
     let mut at = 0;
     let mut i = 0;
     while i < n {
-        let place = t + 4 * i;
-        lay_four(s, place, at);
-        at += 10 + wide(s[at + 9]);
+        lay_four(s, listed_at(t, i), at);
+        at = record_end(s, at);
         i += 1;
     }
 }
@@ -81,7 +83,7 @@ fn lay_trailer(s: &mut [u8], n: usize, t: usize)
     ensures { λ _. ⌜ now (s .exit) ≡ laid (now (s .entry)) t (inFours (tab n (start (now (s .entry)))) ++ (inFour n ++ inFour t)) ⌝ }
 {
     lay_starts(s, n, t);
-    let place = t + 4 * n;
+    let place = listed_at(t, n);
     lay_four(s, place, n);
     lay_four(s, place + 4, t);
 }
@@ -107,7 +109,7 @@ pub fn judge_append(
         return Appended::Refused(Refusal::NotARoll);
     }
     let long = count + (14 + label.len());
-    if 999 < four(lent, count - 8) {
+    if 999 < count_in(lent, count) {
         return Appended::Refused(Refusal::NoRoom);
     }
     if 65536 < long {
@@ -124,8 +126,8 @@ fn add_record(lent: &mut [u8], count: usize, kind: u8, set: usize, earlier: usiz
     requires { ⌜ (holdsRoll (now lent) count ≡ true) × (length (now label) ≤ 255) × (count + (14 + length (now label)) ≤ length (now lent)) ⌝ }
     ensures { λ _. ⌜ now (lent .exit) ≡ withEntry (take count (now (lent .entry))) (entry kind set earlier (now (label .entry))) ++ drop (count + (14 + length (now (label .entry)))) (now (lent .entry)) ⌝ }
 {
-    let n = four(lent, count - 8);
-    let t = four(lent, count - 4);
+    let n = count_in(lent, count);
+    let t = trailer_in(lent, count);
     lay_record(lent, t, kind, set, earlier, label);
     lay_trailer(lent, n + 1, t + (10 + label.len()));
 }

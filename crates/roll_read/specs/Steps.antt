@@ -91,9 +91,14 @@ module _ (ok : Bool) (b : List ℕ) (at : ℕ) where
     unfolding labelBy entryAt
     record-label = rw H refl
 
-    pub goes-on : (w : ℕ) → w ≡ getD b (at + 9) 0 → at + (10 + w) ≡ pastBy ok b at
-    unfolding pastBy sizeAt
-    goes-on w e = rw (H, e) refl
+    pub goes-on : {p : ℕ} → p ≡ at + sizeAt b at → p ≡ pastBy ok b at
+    unfolding pastBy
+    goes-on e = rw H e
+
+    -- where the code says that the record ends
+    pub its-end : {p : ℕ} → p ≡ at + sizeAt b at → p ≡ at + (10 + getD b (at + 9) 0)
+    unfolding sizeAt
+    its-end e = e
 
     -- the record is inside the roll
     pub record-room : (ok ≡ true → framed b ≡ true) → (at + (10 + getD b (at + 9) 0) ≤ length b) × (length b ≤ 65536)

@@ -3,13 +3,16 @@ ghost use mathlib.Core.Path.{_≡_};
 ghost use mathlib.Core.Bool.{true};
 ghost use Prim.Native.Nat.{_+_, _≤_, _<_};
 ghost use lib.ListN.{length};
-ghost use Rattle.roll.specs.Reading.{framed, isStart, entryAt, fourAt};
+ghost use Rattle.roll.specs.Reading.{framed, isStart, entryAt};
 ghost use Rattle.roll_read.specs.Calls.{holdsRecord, readEntry, readBy, labelBy, pastBy, readAt, labelAt, pastAt, readAtFormer, labelAtFormer, pastAtFormer};
 use super::Item;
 use roll::judge::is_whole_roll;
 use roll::judge::is_whole_roll_former;
-use roll::numbers::four;
-use roll::numbers::wide;
+use roll::layout::count_in;
+use roll::layout::earlier_at;
+use roll::layout::record_end;
+use roll::layout::set_at;
+use roll::layout::trailer_in;
 use tables::Refusal;
 
 // Whether a record of the roll b starts at `at`.
@@ -17,14 +20,14 @@ fn starts_at(b: &[u8], at: usize) -> bool
     requires { ⌜ framed (now b) ≡ true ⌝ }
     ensures { λ r. ⌜ r ≡ isStart (now (b .entry)) at ⌝ }
 {
-    let n = four(b, b.len() - 8);
+    let n = count_in(b, b.len());
     let mut p = 0;
     let mut i = 0;
     while i < n {
         if p == at {
             return true;
         }
-        p += 10 + wide(b[p + 9]);
+        p = record_end(b, p);
         i += 1;
     }
     false
@@ -41,14 +44,6 @@ fn holds_record(ok: bool, b: &[u8], at: usize) -> bool
     starts_at(b, at)
 }
 
-// A number of 4 bytes.
-fn number(b: &[u8], at: usize) -> u32
-    requires { ⌜ at + 4 ≤ length (now b) ⌝ }
-    ensures { λ r. ⌜ r ≡ fourAt (now (b .entry)) at ⌝ }
-{
-    four(b, at) as u32
-}
-
 // The record at `at`.
 fn record_at(b: &[u8], at: usize) -> Item
     requires { ⌜ at + 10 ≤ length (now b) ⌝ }
@@ -56,8 +51,8 @@ fn record_at(b: &[u8], at: usize) -> Item
 {
     Item::Record {
         kind: b[at],
-        set: number(b, at + 1),
-        earlier: number(b, at + 5),
+        set: set_at(b, at) as u32,
+        earlier: earlier_at(b, at) as u32,
     }
 }
 
@@ -72,7 +67,7 @@ fn read_by(ok: bool, b: &[u8], at: usize) -> Item
     if starts_at(b, at) {
         return record_at(b, at);
     }
-    if at == four(b, b.len() - 4) {
+    if at == trailer_in(b, b.len()) {
         return Item::End;
     }
     Item::Refused(Refusal::NotARoll)
@@ -87,7 +82,7 @@ fn label_by(ok: bool, b: &[u8], at: usize) -> &[u8]
         return &b[0..0];
     }
     let from = at + 10;
-    let end = from + wide(b[at + 9]);
+    let end = record_end(b, at);
     &b[from..end]
 }
 
@@ -99,7 +94,7 @@ fn past_by(ok: bool, b: &[u8], at: usize) -> usize
     if !holds_record(ok, b, at) {
         return at;
     }
-    at + (10 + wide(b[at + 9]))
+    record_end(b, at)
 }
 
 // What stands at a position of the bytes, the label of the record there, and where it ends.

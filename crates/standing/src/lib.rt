@@ -8,7 +8,10 @@ ghost use Rattle.standing.specs.Register.{standingNumber, delivers, reti
 ghost use Rattle.standing.specs.Walk.{recordOf, after, lawfulTo, Notes};
 ghost use Rattle.standing.specs.Chains.{carried};
 use roll::judge::is_whole_roll;
-use roll::numbers::four;
+use roll::layout::count_in;
+use roll::layout::earlier_at;
+use roll::layout::record_end;
+use roll::layout::set_at;
 use roll::numbers::wide;
 use tables::Refusal;
 
@@ -50,7 +53,7 @@ fn delivers_at(b: &[u8], at: usize, x: usize) -> bool
     if wide(b[at]) == 3 {
         return false;
     }
-    four(b, at + 1) == x
+    set_at(b, at) == x
 }
 
 // Whether it retires x.
@@ -61,7 +64,7 @@ fn retires_at(b: &[u8], at: usize, x: usize) -> bool
     if wide(b[at]) != 3 {
         return false;
     }
-    four(b, at + 1) == x
+    set_at(b, at) == x
 }
 
 // Whether it replaces x.
@@ -72,7 +75,7 @@ fn replaces_at(b: &[u8], at: usize, x: usize) -> bool
     if wide(b[at]) != 2 {
         return false;
     }
-    four(b, at + 5) == x
+    earlier_at(b, at) == x
 }
 
 fn either(x: bool, y: bool) -> bool
@@ -90,7 +93,7 @@ fn replacer(b: &[u8], at: usize, x: usize, by: usize) -> usize
     ensures { λ r. ⌜ (r ≡ cond (replaces (entryAt (now (b .entry)) at) x) (entryAt (now (b .entry)) at .number) by) × (r < 4294967296) ⌝ }
 {
     if replaces_at(b, at, x) {
-        return four(b, at + 1);
+        return set_at(b, at);
     }
     by
 }
@@ -109,7 +112,7 @@ pub fn look_up(b: &[u8], n: usize, x: usize) -> Found
         delivered = either(delivered, delivers_at(b, p, x));
         retired = either(retired, retires_at(b, p, x));
         by = replacer(b, p, x, by);
-        p += 10 + wide(b[p + 9]);
+        p = record_end(b, p);
         i += 1;
     }
     Found {
@@ -125,7 +128,7 @@ fn is_allowed(b: &[u8], n: usize, at: usize) -> bool
     ensures { λ r. ⌜ r ≡ allowed (after (recordOf (now (b .entry))) n) (recordOf (now (b .entry)) n) ⌝ }
 {
     let kind = wide(b[at]);
-    let own = look_up(b, n, four(b, at + 1));
+    let own = look_up(b, n, set_at(b, at));
     if kind == 3 {
         return own.delivered;
     }
@@ -135,7 +138,7 @@ fn is_allowed(b: &[u8], n: usize, at: usize) -> bool
     if kind != 2 {
         return true;
     }
-    let old = look_up(b, n, four(b, at + 5));
+    let old = look_up(b, n, earlier_at(b, at));
     if !old.delivered {
         return false;
     }
@@ -153,7 +156,7 @@ pub fn is_lawful(b: &[u8], n: usize) -> bool
         if !is_allowed(b, i, p) {
             return false;
         }
-        p += 10 + wide(b[p + 9]);
+        p = record_end(b, p);
         i += 1;
     }
     true
@@ -169,7 +172,7 @@ pub fn end_of(b: &[u8], n: usize, x: usize) -> usize
     let mut i = 0;
     while i < n {
         y = replacer(b, p, y, y);
-        p += 10 + wide(b[p + 9]);
+        p = record_end(b, p);
         i += 1;
     }
     y
@@ -200,7 +203,7 @@ pub fn stands_now(lent: &[u8], count: usize, set: u32) -> Standing
     if !is_whole_roll(b) {
         return Standing::Refused(Refusal::NotARoll);
     }
-    let n = four(b, b.len() - 8);
+    let n = count_in(b, b.len());
     if !is_lawful(b, n) {
         return Standing::Refused(Refusal::NotLawful);
     }

@@ -16,9 +16,9 @@ Traceback (most recent call last):
     ...
 gullyfork.Refused: perm_trans_symmetrize_fc: refusal 1, a count is above its limit (level: 1001, limit 1000)
 
-The calls stand in the modules `common`, `tables`, `cells`, `fc2`, `fc3`, `fc4` and `roll`, with the names of the C names without gf_, and
-here. `gullyfork.files` reads and writes sets, `gullyfork.phonopy` puts the library under phonopy, `python -m gullyfork check` judges a
-file. The library has no state, and a call gives the interpreter's lock up: threads may work on disjoint arrays at the same time.
+The calls stand in the modules `common`, `tables`, `cells`, `fc2`, `fc3`, `fc4`, `audit` and `roll`, with the names of the C names without
+gf_, and here. `gullyfork.files` reads and writes sets, `gullyfork.phonopy` puts the library under phonopy, `python -m gullyfork check`
+judges a file. The library has no state, and a call gives the interpreter's lock up: threads may work on disjoint arrays at the same time.
 """
 from __future__ import annotations
 
@@ -45,8 +45,15 @@ from .roll import append_roll, is_roll, is_roll_former, read_roll, read_roll_for
 from .tables import Tables, check_shift_tables
 
 __version__ = version()
+# a plain list: type checkers read no other, and take a name that it leaves out for private
 __all__ = [
-    "Along", "Audit", "Drift", "DriftKind", "LegDrift", "Match", "Pairing", "Refused", "Tables", "version", "words",
-    *common.__all__[0:1], "sqrt", *(n for m in (audit, cells, fc2, fc3, fc4) for n in m.__all__ if n[0].islower()),
-    "append_roll", "check_shift_tables", "is_roll", "is_roll_former", "read_roll", "read_roll_former", "retire_all", "stands_now",
+    "Along", "Audit", "Drift", "DriftKind", "LegDrift", "Match", "Pairing", "Refused", "Tables", "append_roll", "audit_compact_fc2",
+    "audit_compact_fc3", "audit_compact_fc4", "audit_fc2", "audit_fc3", "audit_fc4", "check_shift_tables", "compact_to_full_fc2",
+    "compact_to_full_fc3", "compact_to_full_fc4", "compute_permutation", "distribute_fc2", "distribute_fc3", "distribute_fc4",
+    "drift_report", "drift_report_compact_fc2", "drift_report_fc3", "find_permutation", "is_roll", "is_roll_former", "nint",
+    "perm_trans_symmetrize_compact_fc", "perm_trans_symmetrize_fc", "read_roll", "read_roll_former", "replace_block_fc2", "retire_all",
+    "rotate_delta_fc2s", "rotate_delta_fc3s", "row_sums_fc2", "same_set", "set_index_permutation_symmetry_compact_fc",
+    "set_permutation_symmetry_compact_fc3", "set_permutation_symmetry_compact_fc4", "set_permutation_symmetry_fc3",
+    "set_permutation_symmetry_fc4", "sqrt", "stands_now", "swap_pairs_compact_fc4", "transpose_compact_fc3", "transpose_compact_fc4",
+    "true_transpose_compact_fc2", "true_transpose_compact_fc3", "true_transpose_compact_fc4", "version", "words",
 ]

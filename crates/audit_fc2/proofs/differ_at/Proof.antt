@@ -8,7 +8,7 @@ use Rattle.tables.specs.Limits.{limit2}
 use Rattle.tables.specs.Conditions.{read}
 use Rattle.tables.specs.Compact.{ShiftTables, shiftTables}
 use Rattle.places.specs.ReadOuts.{tables}
-use Rattle.audit_fc2.specs.Swaps.{own-inside, other-inside, row-is, swap-earlier, swap-looked}
+use Rattle.audit_fc2.specs.Rows.{own-inside, other-inside, row-is, swap-earlier, swap-looked}
 use Rattle.audit_fc2.proofs.differ_at.Statement.{statement}
 use Rattle.audit_fc2.proofs.differ_at.Tie as tie
 
@@ -62,7 +62,7 @@ returns-2 c = λ e.
     let T : ShiftTables = shiftTables (a .p2s .now) (a .s2pp .now) (a .nsym-list .now) (a .perms .now) (a .n-satom) (a .n-patom) (a .num-trans) in
     let d = c .differ-later .ensures e in (
       d .0,
-      swap-looked T (a .fc .now) (a .p .0) (a .j .0) _ _ _ (s .pre .2) (c .before .before .before .before .before .before .before .p2s-at .ensures) (c .before .before .block2 .ensures ∙ row-is (a .n-satom) (a .p .0) (a .j .0)) (c .before .read-out2 .ensures) (d .1),
+      swap-looked (length (a .fc .now)) T R (a .fc .now) (a .p .0) (a .j .0) (s .pre .1) (s .pre .2) _ _ _ (c .before .before .before .before .before .before .before .p2s-at .ensures) (c .before .before .block2 .ensures ∙ row-is (a .n-satom) (a .p .0) (a .j .0)) (c .before .read-out2 .ensures) (d .1),
     )
 
 pub differ-at-spec : {M : Type 1} → statement M

@@ -1,7 +1,7 @@
 -- `audit_fc2::differ_later` meets its contract. Assumes nothing.
 use native.Mathlib.Omega.{arith}
 use borrow.Author.Needs.{needs}
-use Rattle.audit_fc2.specs.Swaps.{swap-same}
+use Rattle.audit_fc2.specs.Rows.{swap-same}
 use Rattle.audit_fc2.proofs.differ_later.Statement.{statement}
 use Rattle.audit_fc2.proofs.differ_later.Tie as tie
 

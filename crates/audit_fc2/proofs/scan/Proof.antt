@@ -1,5 +1,4 @@
 use Prim.Native.Nat.{ℕ, _-_, _≤_, _<_}
-use native.Mathlib.Omega.{arith}
 use mathlib.Core.Path.{ap, _∙_, subst}
 use borrow.Author.Needs.{needs}
 use Rattle.lists.specs.Digits.{room}
@@ -7,26 +6,26 @@ use Rattle.tables.specs.Limits.{limit2}
 use Rattle.tables.specs.Compact.{ShiftTables, shiftTables, shiftsOf}
 use Rattle.places.specs.Permutations.{two}
 use Rattle.audits.specs.declared.Audit.the-variants.{Unlike}
-use Rattle.audits.specs.Blocks.{AlikeTo, alike-none, fits-w, passed-w, some-w, found-w, all-passed}
+use Rattle.audits.specs.Blocks.{AlikeTo, fits-w, passed-w, some-w, found-w, all-passed}
 use Rattle.audits.specs.Guard.{block-count}
 use Rattle.audit_fc2.specs.Scan.{in9, orders}
 use Rattle.audit_fc2.proofs.scan.Statement.{statement}
 use Rattle.audit_fc2.proofs.scan.Tie as tie
 
 abbrev Inv-loop : tie.InvT-loop
-Inv-loop fc p2s s2pp nsym-list perms n-satom n-patom num-trans t count b₀ b =
-    (b ≤ count) × AlikeTo (shiftsOf (shiftTables p2s s2pp nsym-list perms n-satom n-patom num-trans)) 1 two fc b
+Inv-loop fc p2s s2pp nsym-list perms n-satom n-patom num-trans from t count b₀ b =
+    AlikeTo (shiftsOf (shiftTables p2s s2pp nsym-list perms n-satom n-patom num-trans)) 1 two fc b
 
 abbrev μ-loop : tie.MeasureT-loop
-μ-loop fc p2s s2pp nsym-list perms n-satom n-patom num-trans t count b₀ b = count - b
+μ-loop fc p2s s2pp nsym-list perms n-satom n-patom num-trans from t count b₀ b = count - b
 
 loop-holds : tie.Need-loop-holds Inv-loop μ-loop
-loop-holds c = (omega arith, alike-none _ _ _ _)
+loop-holds c = c .before .before .before .pre .1
 
 group-blocks-requires : tie.Need-group-blocks-requires Inv-loop μ-loop
 group-blocks-requires c κs =
     let s = c .before .before .before .before .before in
-    let R = s .pre in
+    let R = s .pre .0 in
     let a = s .args in
     let T : ShiftTables = shiftTables (a .p2s .now) (a .s2pp .now) (a .nsym-list .now) (a .perms .now) (a .n-satom) (a .n-patom) (a .num-trans) in
     let l = c .before .loop in
@@ -38,7 +37,7 @@ group-blocks-requires c κs =
 look-requires : tie.Need-look-requires Inv-loop μ-loop
 look-requires c κs =
     let s = c .before .before .before .before .before .before .before .before in
-    let R = s .pre in
+    let R = s .pre .0 in
     let a = s .args in
     let T : ShiftTables = shiftTables (a .p2s .now) (a .s2pp .now) (a .nsym-list .now) (a .perms .now) (a .n-satom) (a .n-patom) (a .num-trans) in
     let l = c .before .before .before .before .loop in
@@ -50,7 +49,7 @@ look-requires c κs =
 difference-requires : tie.Need-difference-requires Inv-loop μ-loop
 difference-requires c κs =
     let s = c .before .before .before .before .before .before .before .before .before .before .before .before in
-    let R = s .pre in
+    let R = s .pre .0 in
     let a = s .args in
     let T : ShiftTables = shiftTables (a .p2s .now) (a .s2pp .now) (a .nsym-list .now) (a .perms .now) (a .n-satom) (a .n-patom) (a .num-trans) in
     let l = c .before .before .before .before .before .before .before .before .loop in
@@ -66,7 +65,7 @@ difference-requires c κs =
 returns : tie.Need-returns Inv-loop μ-loop
 returns c =
     let s = c .before .before .before .before .before .before .before .before .before .before .before .before .before in
-    let R = s .pre in
+    let R = s .pre .0 in
     let a = s .args in
     let T : ShiftTables = shiftTables (a .p2s .now) (a .s2pp .now) (a .nsym-list .now) (a .perms .now) (a .n-satom) (a .n-patom) (a .num-trans) in
     let l = c .before .before .before .before .before .before .before .before .before .loop in
@@ -75,12 +74,12 @@ returns c =
     let O = orders (c .before .before .before .before .before .before .before .before .before .before .before .positions .ensures) in
     let eb = c .before .before .before .before .before .before .before .group-blocks .ensures in
     ap Unlike (c .difference .ensures)
-    ∙ found-w (shiftsOf T) (R .rules) 1 two _ O (a .fc .now) (R .set-length) 9 in9 (l .b) hb _ eb _ (c .before .before .before .before .look .ensures) (c .before .before .before .if1 .taken) (l .inv .1)
+    ∙ found-w (shiftsOf T) (R .rules) 1 two _ O (a .fc .now) (R .set-length) 9 in9 (l .b) hb _ eb _ (c .before .before .before .before .look .ensures) (c .before .before .before .if1 .taken) (l .inv)
 
 loop-again : tie.Need-loop-again Inv-loop μ-loop
 loop-again c =
     let s = c .before .before .before .before .before .before .before .before .before .before in
-    let R = s .pre in
+    let R = s .pre .0 in
     let a = s .args in
     let T : ShiftTables = shiftTables (a .p2s .now) (a .s2pp .now) (a .nsym-list .now) (a .perms .now) (a .n-satom) (a .n-patom) (a .num-trans) in
     let l = c .before .before .before .before .before .before .loop in
@@ -88,18 +87,18 @@ loop-again c =
     let hb : l .b < room (a .n-satom) 1 (a .n-patom) = subst (λ (x : ℕ). l .b < x) n (c .before .before .before .before .before .loop-test .taken) in
     let O = orders (c .before .before .before .before .before .before .before .before .positions .ensures) in
     let eb = c .before .before .before .before .group-blocks .ensures in
-    (omega arith, passed-w (shiftsOf T) (R .rules) 1 two _ O (a .fc .now) (R .set-length) 9 in9 (l .b) hb _ eb _ (c .before .look .ensures) (c .if1 .left) (l .inv .1))
+    passed-w (shiftsOf T) (R .rules) 1 two _ O (a .fc .now) (R .set-length) 9 in9 (l .b) hb _ eb _ (c .before .look .ensures) (c .if1 .left) (l .inv)
 
 returns-2 : tie.Need-returns-2 Inv-loop μ-loop
 returns-2 c =
     let s = c .before .before .before .before .before in
-    let R = s .pre in
+    let R = s .pre .0 in
     let a = s .args in
     let T : ShiftTables = shiftTables (a .p2s .now) (a .s2pp .now) (a .nsym-list .now) (a .perms .now) (a .n-satom) (a .n-patom) (a .num-trans) in
     let l = c .before .loop in
     let n = c .before .before .legs-before .ensures ∙ block-count limit2 1 _ T R 9 in9 in
     let hb : room (a .n-satom) 1 (a .n-patom) ≤ l .b = subst (λ (x : ℕ). x ≤ l .b) n (c .loop-test .left) in
-    all-passed (shiftsOf T) (R .rules) 1 two _ (orders (c .before .before .before .positions .ensures)) (a .fc .now) (R .set-length) (l .b) hb (l .inv .1)
+    all-passed (shiftsOf T) (R .rules) 1 two _ (orders (c .before .before .before .positions .ensures)) (a .fc .now) (R .set-length) (l .b) hb (l .inv)
 
 positions-requires : tie.Need-positions-requires Inv-loop μ-loop
 positions-requires c κs = search needs

@@ -1,19 +1,15 @@
 -- `audit_fc3::settle` meets its contract. Assumes nothing.
-use mathlib.Core.Path.{sym}
 use Rattle.audit_fc3.proofs.settle.Statement.{statement}
 use Rattle.audit_fc3.proofs.settle.Tie as tie
 
-quick-requires : tie.Need-quick-requires
-quick-requires c κs = c .before .pre
-
-returns : tie.Need-returns
-returns c = sym (c .before .quick .ensures (c .if1 .taken))
+alike-blocks-requires : tie.Need-alike-blocks-requires
+alike-blocks-requires c κs = c .before .pre
 
 scan-requires : tie.Need-scan-requires
-scan-requires c κs = c .before .before .before .pre
+scan-requires c κs = (c .before .before .pre, c .alike-blocks .ensures)
 
-returns-2 : tie.Need-returns-2
-returns-2 c = c .scan .ensures
+returns : tie.Need-returns
+returns c = c .scan .ensures
 
 pub settle-spec : {M : Type 1} → statement M
-settle-spec = tie.close (tie.spec quick-requires returns scan-requires returns-2)
+settle-spec = tie.close (tie.spec alike-blocks-requires scan-requires returns)

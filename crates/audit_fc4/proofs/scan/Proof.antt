@@ -38,7 +38,7 @@ loop-holds c =
     let T : ShiftTables = shiftTables (a .p2s .now) (a .s2pp .now) (a .nsym-list .now) (a .perms .now) (a .n-satom) (a .n-patom) (a .num-trans) in
     let n = c .before .legs-before .ensures ∙ block-count limit4 3 _ T R 81 in81 in
     let x = c .next .ensures in
-    (x .to, walked (shiftsOf T) (R .rules) _ (orders (c .before .before .addresses .ensures)) (a .fc .now) (R .set-length) x n (alike-none _ _ _ _))
+    (x .to, walked (shiftsOf T) (R .rules) (a .fc .now) x n (alike-none _ _ _ _))
 
 group-blocks-requires : tie.Need-group-blocks-requires Inv-loop μ-loop
 group-blocks-requires c κs =
@@ -119,7 +119,7 @@ loop-again c =
     let O = orders (c .before .before .before .before .before .before .before .before .before .before .addresses .ensures) in
     let eb = c .before .before .before .before .before .group-blocks .ensures in
     let x = c .next2 .ensures in
-    (x .to, walked (shiftsOf T) (R .rules) _ O (a .fc .now) (R .set-length) x n (passed-w (shiftsOf T) (R .rules) 3 twentyFour _ O (a .fc .now) (R .set-length) 81 in81 (l .b) hb _ eb _ (c .before .before .look .ensures) (c .before .if1 .left) (l .inv .1)))
+    (x .to, walked (shiftsOf T) (R .rules) (a .fc .now) x n (passed-w (shiftsOf T) (R .rules) 3 twentyFour _ O (a .fc .now) (R .set-length) 81 in81 (l .b) hb _ eb _ (c .before .before .look .ensures) (c .before .if1 .left) (l .inv .1)))
 
 returns-2 : tie.Need-returns-2 Inv-loop μ-loop
 returns-2 c =

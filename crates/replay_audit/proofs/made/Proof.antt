@@ -7,10 +7,10 @@ use Rattle.replay_audit.proofs.made.Statement.{statement}
 use Rattle.replay_audit.proofs.made.Tie as tie
 
 abbrev Inv-loop : tie.InvT-loop
-Inv-loop r from set₀ n i₀ set i = (i ≤ n) × (length set ≡ length set₀)
+Inv-loop r set₀ from n i₀ set i = (i ≤ n) × (length set ≡ length set₀)
 
 abbrev μ-loop : tie.MeasureT-loop
-μ-loop r from set₀ n i₀ set i = n - i
+μ-loop r set₀ from n i₀ set i = n - i
 
 word-of-requires : tie.Need-word-of-requires Inv-loop μ-loop
 word-of-requires c κs = search needs
@@ -20,6 +20,12 @@ word-of-requires-2 c κs = search needs
 
 fill-requires : tie.Need-fill-requires Inv-loop μ-loop
 fill-requires c κs = search needs
+
+table-ends-requires : tie.Need-table-ends-requires Inv-loop μ-loop
+table-ends-requires c κs = search needs
+
+after-requires : tie.Need-after-requires Inv-loop μ-loop
+after-requires c κs = search needs
 
 word-of-requires-3 : tie.Need-word-of-requires-3 Inv-loop μ-loop
 word-of-requires-3 c κs = search needs
@@ -33,8 +39,8 @@ loop-holds c = search needs
 mul-after : tie.Need-mul-after Inv-loop μ-loop
 mul-after c = search needs
 
-after-requires : tie.Need-after-requires Inv-loop μ-loop
-after-requires c κs = search needs
+after-requires-2 : tie.Need-after-requires-2 Inv-loop μ-loop
+after-requires-2 c κs = search needs
 
 put-requires : tie.Need-put-requires Inv-loop μ-loop
 put-requires c κs = search needs
@@ -55,4 +61,4 @@ returns : tie.Need-returns Inv-loop μ-loop
 returns c = search needs
 
 pub made-spec : {M : Type 1} → statement M
-made-spec = tie.close (tie.spec Inv-loop μ-loop word-of-requires word-of-requires-2 fill-requires word-of-requires-3 size-requires loop-holds mul-after after-requires put-requires add-i loop-less loop-again same-length returns)
+made-spec = tie.close (tie.spec Inv-loop μ-loop word-of-requires word-of-requires-2 fill-requires table-ends-requires after-requires word-of-requires-3 size-requires loop-holds mul-after after-requires-2 put-requires add-i loop-less loop-again same-length returns)

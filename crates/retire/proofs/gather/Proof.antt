@@ -23,20 +23,6 @@ abbrev μ-loop : tie.MeasureT-loop
 loop-holds : tie.Need-loop-holds Inv-loop μ-loop
 loop-holds c = let a = c .before .before .args in (omega arith, omega arith, start-first (a .b .now), refl, gathered-no (a .b .now) _ (a .list .now))
 
-add-four : tie.Need-add-four Inv-loop μ-loop
-add-four c =
-    let s = c .before .before .before .before .before in
-    let l = c .before .before .loop in
-    let r = inside (s .args .b .now) (s .pre .0) (l .i) (l .p) (omega (arith, c .before .loop-test .taken, s .pre .1)) (l .inv .2) in
-    omega (arith, r .0, r .1)
-
-four-requires : tie.Need-four-requires Inv-loop μ-loop
-four-requires c κs =
-    let s = c .before .before .before .before .before in
-    let l = c .before .before .loop in
-    let r = inside (s .args .b .now) (s .pre .0) (l .i) (l .p) (omega (arith, c .before .loop-test .taken, s .pre .1)) (l .inv .2) in
-    omega (arith, r .0, r .1)
-
 waits-requires : tie.Need-waits-requires Inv-loop μ-loop
 waits-requires c κs =
     let s = c .before .before .before .before .before .before in
@@ -50,37 +36,22 @@ place-if-requires c κs =
     let l = c .before .before .before .before .loop in
     omega (arith, c .before .before .before .loop-test .taken, l .inv .1, l .inv .3, s .pre .1, s .pre .2, is-sized (s .args .b .now) (s .pre .0) .few)
 
-add-wide : tie.Need-add-wide Inv-loop μ-loop
-add-wide c =
+record-end-requires : tie.Need-record-end-requires Inv-loop μ-loop
+record-end-requires c κs =
     let s = c .before .before .before .before .before .before .before .before .before .before in
     let l = c .before .before .before .before .before .before .before .loop in
-    let r = inside (s .args .b .now) (s .pre .0) (l .i) (l .p) (omega (arith, c .before .before .before .before .before .before .loop-test .taken, s .pre .1)) (l .inv .2) in
-    omega (arith, r .0, r .1)
-
-shared-slice-read-wide : tie.Need-shared-slice-read-wide Inv-loop μ-loop
-shared-slice-read-wide c =
-    let s = c .before .before .before .before .before .before .before .before .before .before .before in
-    let l = c .before .before .before .before .before .before .before .before .loop in
-    let r = inside (s .args .b .now) (s .pre .0) (l .i) (l .p) (omega (arith, c .before .before .before .before .before .before .before .loop-test .taken, s .pre .1)) (l .inv .2) in
-    omega (arith, r .0, r .1)
-
-add-p-2 : tie.Need-add-p-2 Inv-loop μ-loop
-add-p-2 c =
-    let s = c .before .before .before .before .before .before .before .before .before .before .before .before in
-    let l = c .before .before .before .before .before .before .before .before .before .loop in
-    let r = inside (s .args .b .now) (s .pre .0) (l .i) (l .p) (omega (arith, c .before .before .before .before .before .before .before .before .loop-test .taken, s .pre .1)) (l .inv .2) in
-    omega (arith, r .0, r .1)
+    inside (s .args .b .now) (s .pre .0) (l .i) (l .p) (omega (arith, c .before .before .before .before .before .before .loop-test .taken, s .pre .1)) (l .inv .2) .1
 
 loop-again : tie.Need-loop-again Inv-loop μ-loop
 loop-again c =
-    let s = c .before .before .before .before .before .before .before .before .before .before .before .before in
+    let s = c .before .before .before .before .before .before .before .before .before .before .before in
     let b = s .args .b .now in
-    let l = c .before .before .before .before .before .before .before .before .before .loop in (
+    let l = c .before .before .before .before .before .before .before .before .loop in (
       omega arith,
-      omega (arith, l .inv .1, c .before .before .before .before .place-if .ensures .0),
-      next-start b (l .i) (l .p) (c .wide .result) (l .inv .2) (c .wide .ensures .0),
-      c .before .before .before .before .place-if .kept .0 ∙ l .inv .3,
-      gathered-one b (waitsAt (recordOf b) (s .args .n) (s .args .last)) (l .i) (l .p) (l .inv .2) (l .inv .4) (c .before .before .before .before .before .before .four .ensures .0) (c .before .before .before .before .before .waits .ensures) (c .before .before .before .before .place-if .ensures .1),
+      omega (arith, l .inv .1, c .before .before .before .place-if .ensures .0),
+      next-start b (l .i) (l .p) (c .record-end .result) (l .inv .2) (c .record-end .ensures),
+      c .before .before .before .place-if .kept .0 ∙ l .inv .3,
+      gathered-one b (waitsAt (recordOf b) (s .args .n) (s .args .last)) (l .i) (l .p) (l .inv .2) (l .inv .4) (c .before .before .before .before .before .set-at .ensures .0) (c .before .before .before .before .waits .ensures) (c .before .before .before .place-if .ensures .1),
     )
 
 returns : tie.Need-returns Inv-loop μ-loop
@@ -92,14 +63,14 @@ returns c =
     let e = l .inv .4 ∙ ap (gatheredTo (waitsAt (recordOf b) (s .args .n) (s .args .last)) (recordOf b)) i in
     (omega (arith, l .inv .1, i), e, ap length (sym e) ∙ length-take-le (l .m) (l .list) (omega (arith, l .inv .1, l .inv .3, i, s .pre .1, s .pre .2, is-sized b (s .pre .0) .few)))
 
+set-at-requires : tie.Need-set-at-requires Inv-loop μ-loop
+set-at-requires c κs =
+    let s = c .before .before .before .before .before in
+    let l = c .before .before .loop in
+    inside (s .args .b .now) (s .pre .0) (l .i) (l .p) (omega (arith, c .before .loop-test .taken, s .pre .1)) (l .inv .2) .1
+
 cast-place-if : tie.Need-cast-place-if Inv-loop μ-loop
 cast-place-if c = search needs
-
-wide-requires : tie.Need-wide-requires Inv-loop μ-loop
-wide-requires c κs = search needs
-
-add-p : tie.Need-add-p Inv-loop μ-loop
-add-p c = search needs
 
 add-i : tie.Need-add-i Inv-loop μ-loop
 add-i c = search needs
@@ -111,4 +82,4 @@ same-length : tie.Need-same-length Inv-loop μ-loop
 same-length c = search needs
 
 pub gather-spec : {M : Type 1} → statement M
-gather-spec = tie.close (tie.spec Inv-loop μ-loop loop-holds add-four four-requires cast-place-if waits-requires place-if-requires add-wide shared-slice-read-wide wide-requires add-p add-p-2 add-i loop-less loop-again same-length returns)
+gather-spec = tie.close (tie.spec Inv-loop μ-loop loop-holds set-at-requires cast-place-if waits-requires place-if-requires record-end-requires add-i loop-less loop-again same-length returns)

@@ -10,23 +10,17 @@ use borrow.Author.Needs.{needs}
 use Rattle.retire.proofs.judge.Statement.{statement}
 use Rattle.retire.proofs.judge.Tie as tie
 
-sub-four : tie.Need-sub-four
-sub-four c = omega (arith, at-least-eight _ (told-yes (c .before .is-whole-roll .ensures) (c .if1 .left)))
-
-four-requires : tie.Need-four-requires
-four-requires c κs = omega (arith, at-least-eight _ (told-yes (c .before .is-whole-roll .ensures) (c .if1 .left)))
-
 is-lawful-requires : tie.Need-is-lawful-requires
-is-lawful-requires c κs = (told-yes (c .before .before .is-whole-roll .ensures) (c .before .if1 .left), count-is _ (c .four .ensures .0))
+is-lawful-requires c κs = (told-yes (c .before .before .is-whole-roll .ensures) (c .before .if1 .left), count-is _ (c .count-in .ensures .0))
 
 look-up-requires : tie.Need-look-up-requires
-look-up-requires c κs = (told-yes (c .before .before .before .before .is-whole-roll .ensures) (c .before .before .before .if1 .left), omega (arith, count-is _ (c .before .before .four .ensures .0)))
+look-up-requires c κs = (told-yes (c .before .before .before .before .is-whole-roll .ensures) (c .before .before .before .if1 .left), omega (arith, count-is _ (c .before .before .count-in .ensures .0)))
 
 end-of-requires : tie.Need-end-of-requires
-end-of-requires c κs = (told-yes (c .before .before .before .before .before .before .before .is-whole-roll .ensures) (c .before .before .before .before .before .before .if1 .left), count-is _ (c .before .before .before .before .before .four .ensures .0), c .before .before .before .before .before .before .before .before .before .before .before .pre .0)
+end-of-requires c κs = (told-yes (c .before .before .before .before .before .before .before .is-whole-roll .ensures) (c .before .before .before .before .before .before .if1 .left), count-is _ (c .before .before .before .before .before .count-in .ensures .0), c .before .before .before .before .before .before .before .before .before .before .before .pre .0)
 
 gather-requires : tie.Need-gather-requires
-gather-requires c κs = (told-yes (c .before .before .before .before .before .before .before .before .before .is-whole-roll .ensures) (c .before .before .before .before .before .before .before .before .if1 .left), count-is _ (c .before .before .before .before .before .before .before .four .ensures .0), c .before .before .before .before .before .before .before .before .before .before .before .before .before .pre .1)
+gather-requires c κs = (told-yes (c .before .before .before .before .before .before .before .before .before .is-whole-roll .ensures) (c .before .before .before .before .before .before .before .before .if1 .left), count-is _ (c .before .before .before .before .before .before .before .count-in .ensures .0), c .before .before .before .before .before .before .before .before .before .before .before .before .before .pre .1)
 
 returns : tie.Need-returns
 returns c =
@@ -36,7 +30,7 @@ returns c =
 returns-2 : tie.Need-returns-2
 returns-2 c =
     let a = c .before .before .before .before .before .before .before .before .args in (
-      not-9 (a .lent .now) _ (a .count) (a .x) (c .before .before .four .result) (c .before .before .before .before .before .roll-bytes .ensures) (told-yes (c .before .before .before .before .is-whole-roll .ensures) (c .before .before .before .if1 .left)) (count-is _ (c .before .before .four .ensures .0))
+      not-9 (a .lent .now) _ (a .count) (a .x) (c .before .before .count-in .result) (c .before .before .before .before .before .roll-bytes .ensures) (told-yes (c .before .before .before .before .is-whole-roll .ensures) (c .before .before .before .if1 .left)) (count-is _ (c .before .before .count-in .ensures .0))
           (told-no (c .before .is-lawful .ensures) (c .if2 .taken)),
       λ k q. no-add q,
     )
@@ -44,7 +38,7 @@ returns-2 c =
 returns-3 : tie.Need-returns-3
 returns-3 c =
     let a = c .before .before .before .before .before .before .before .before .before .before .before .args in (
-      not-11 (a .lent .now) _ (a .count) (a .x) (c .before .before .before .before .before .four .result) (c .before .before .before .before .before .before .before .before .roll-bytes .ensures) (told-yes (c .before .before .before .before .before .before .before .is-whole-roll .ensures) (c .before .before .before .before .before .before .if1 .left)) (count-is _ (c .before .before .before .before .before .four .ensures .0))
+      not-11 (a .lent .now) _ (a .count) (a .x) (c .before .before .before .before .before .count-in .result) (c .before .before .before .before .before .before .before .before .roll-bytes .ensures) (told-yes (c .before .before .before .before .before .before .before .is-whole-roll .ensures) (c .before .before .before .before .before .before .if1 .left)) (count-is _ (c .before .before .before .before .before .count-in .ensures .0))
           (told-yes (c .before .before .before .before .is-lawful .ensures) (c .before .before .before .if2 .left)) (c .before .before .look-up .ensures) (not-true _ (c .if3 .taken)),
       λ k q. no-add q,
     )
@@ -52,7 +46,7 @@ returns-3 c =
 returns-4 : tie.Need-returns-4
 returns-4 c =
     let a = c .before .before .before .before .before .before .before .before .before .before .before .before .before .before .before .before .before .args in (
-      not-8 (a .lent .now) _ (a .count) (a .x) (c .before .before .before .before .before .before .before .before .before .before .before .four .result) (c .before .before .before .before .before .before .before .before .before .before .before .before .before .before .roll-bytes .ensures) (told-yes (c .before .before .before .before .before .before .before .before .before .before .before .before .before .is-whole-roll .ensures) (c .before .before .before .before .before .before .before .before .before .before .before .before .if1 .left)) (count-is _ (c .before .before .before .before .before .before .before .before .before .before .before .four .ensures .0))
+      not-8 (a .lent .now) _ (a .count) (a .x) (c .before .before .before .before .before .before .before .before .before .before .before .count-in .result) (c .before .before .before .before .before .before .before .before .before .before .before .before .before .before .roll-bytes .ensures) (told-yes (c .before .before .before .before .before .before .before .before .before .before .before .before .before .is-whole-roll .ensures) (c .before .before .before .before .before .before .before .before .before .before .before .before .if1 .left)) (count-is _ (c .before .before .before .before .before .before .before .before .before .before .before .count-in .ensures .0))
           (told-yes (c .before .before .before .before .before .before .before .before .before .before .is-lawful .ensures) (c .before .before .before .before .before .before .before .before .before .if2 .left)) (c .before .before .before .before .before .before .before .before .look-up .ensures) (not-false _ (c .before .before .before .before .before .before .if3 .left)) (c .before .before .before .before .before .end-of .ensures .0) (c .before .before .before .gather .ensures .2)
           (inl (c .if4 .taken)),
       λ k q. no-add q,
@@ -61,7 +55,7 @@ returns-4 c =
 returns-5 : tie.Need-returns-5
 returns-5 c =
     let a = c .before .before .before .before .before .before .before .before .before .before .before .before .before .before .before .before .before .before .args in (
-      not-8 (a .lent .now) _ (a .count) (a .x) (c .before .before .before .before .before .before .before .before .before .before .before .before .four .result) (c .before .before .before .before .before .before .before .before .before .before .before .before .before .before .before .roll-bytes .ensures) (told-yes (c .before .before .before .before .before .before .before .before .before .before .before .before .before .before .is-whole-roll .ensures) (c .before .before .before .before .before .before .before .before .before .before .before .before .before .if1 .left)) (count-is _ (c .before .before .before .before .before .before .before .before .before .before .before .before .four .ensures .0))
+      not-8 (a .lent .now) _ (a .count) (a .x) (c .before .before .before .before .before .before .before .before .before .before .before .before .count-in .result) (c .before .before .before .before .before .before .before .before .before .before .before .before .before .before .before .roll-bytes .ensures) (told-yes (c .before .before .before .before .before .before .before .before .before .before .before .before .before .before .is-whole-roll .ensures) (c .before .before .before .before .before .before .before .before .before .before .before .before .before .if1 .left)) (count-is _ (c .before .before .before .before .before .before .before .before .before .before .before .before .count-in .ensures .0))
           (told-yes (c .before .before .before .before .before .before .before .before .before .before .before .is-lawful .ensures) (c .before .before .before .before .before .before .before .before .before .before .if2 .left)) (c .before .before .before .before .before .before .before .before .before .look-up .ensures) (not-false _ (c .before .before .before .before .before .before .before .if3 .left)) (c .before .before .before .before .before .before .end-of .ensures .0) (c .before .before .before .before .gather .ensures .2)
           (inr (inl (c .if5 .taken))),
       λ k q. no-add q,
@@ -70,7 +64,7 @@ returns-5 c =
 returns-6 : tie.Need-returns-6
 returns-6 c =
     let a = c .before .before .before .before .before .before .before .before .before .before .before .before .before .before .before .before .before .before .before .args in (
-      not-8 (a .lent .now) _ (a .count) (a .x) (c .before .before .before .before .before .before .before .before .before .before .before .before .before .four .result) (c .before .before .before .before .before .before .before .before .before .before .before .before .before .before .before .before .roll-bytes .ensures) (told-yes (c .before .before .before .before .before .before .before .before .before .before .before .before .before .before .before .is-whole-roll .ensures) (c .before .before .before .before .before .before .before .before .before .before .before .before .before .before .if1 .left)) (count-is _ (c .before .before .before .before .before .before .before .before .before .before .before .before .before .four .ensures .0))
+      not-8 (a .lent .now) _ (a .count) (a .x) (c .before .before .before .before .before .before .before .before .before .before .before .before .before .count-in .result) (c .before .before .before .before .before .before .before .before .before .before .before .before .before .before .before .before .roll-bytes .ensures) (told-yes (c .before .before .before .before .before .before .before .before .before .before .before .before .before .before .before .is-whole-roll .ensures) (c .before .before .before .before .before .before .before .before .before .before .before .before .before .before .if1 .left)) (count-is _ (c .before .before .before .before .before .before .before .before .before .before .before .before .before .count-in .ensures .0))
           (told-yes (c .before .before .before .before .before .before .before .before .before .before .before .before .is-lawful .ensures) (c .before .before .before .before .before .before .before .before .before .before .before .if2 .left)) (c .before .before .before .before .before .before .before .before .before .before .look-up .ensures) (not-false _ (c .before .before .before .before .before .before .before .before .if3 .left)) (c .before .before .before .before .before .before .before .end-of .ensures .0) (c .before .before .before .before .before .gather .ensures .2)
           (inr (inr (c .if6 .taken))),
       λ k q. no-add q,
@@ -79,25 +73,29 @@ returns-6 c =
 returns-7 : tie.Need-returns-7
 returns-7 c =
     let a = c .before .before .before .before .before .before .before .before .before .before .before .before .before .before .before .before .before .before .before .args in (
-      may-add (a .lent .now) _ (a .count) (a .x) (c .before .before .before .before .before .before .before .before .before .before .before .before .before .four .result) (c .before .before .before .before .before .before .before .before .before .before .before .before .before .before .before .before .roll-bytes .ensures) (told-yes (c .before .before .before .before .before .before .before .before .before .before .before .before .before .before .before .is-whole-roll .ensures) (c .before .before .before .before .before .before .before .before .before .before .before .before .before .before .if1 .left)) (count-is _ (c .before .before .before .before .before .before .before .before .before .before .before .before .before .four .ensures .0))
+      may-add (a .lent .now) _ (a .count) (a .x) (c .before .before .before .before .before .before .before .before .before .before .before .before .before .count-in .result) (c .before .before .before .before .before .before .before .before .before .before .before .before .before .before .before .before .roll-bytes .ensures) (told-yes (c .before .before .before .before .before .before .before .before .before .before .before .before .before .before .before .is-whole-roll .ensures) (c .before .before .before .before .before .before .before .before .before .before .before .before .before .before .if1 .left)) (count-is _ (c .before .before .before .before .before .before .before .before .before .before .before .before .before .count-in .ensures .0))
           (told-yes (c .before .before .before .before .before .before .before .before .before .before .before .before .is-lawful .ensures) (c .before .before .before .before .before .before .before .before .before .before .before .if2 .left)) (c .before .before .before .before .before .before .before .before .before .before .look-up .ensures) (not-false _ (c .before .before .before .before .before .before .before .before .if3 .left)) (c .before .before .before .before .before .before .before .end-of .ensures .0) (c .before .before .before .before .before .gather .ensures .2)
           (omega arith) (omega arith) (omega arith),
       λ k q. let z : c .before .before .before .before .before .gather .result ≡ k = ap many q in rw (← z)
-          (the-list (a .lent .now) _ (a .count) (a .x) (c .before .before .before .before .before .before .before .before .before .before .before .before .before .four .result) (c .before .before .before .before .before .before .before .before .before .before .before .before .before .before .before .before .roll-bytes .ensures) (told-yes (c .before .before .before .before .before .before .before .before .before .before .before .before .before .before .before .is-whole-roll .ensures) (c .before .before .before .before .before .before .before .before .before .before .before .before .before .before .if1 .left)) (count-is _ (c .before .before .before .before .before .before .before .before .before .before .before .before .before .four .ensures .0))
+          (the-list (a .lent .now) _ (a .count) (a .x) (c .before .before .before .before .before .before .before .before .before .before .before .before .before .count-in .result) (c .before .before .before .before .before .before .before .before .before .before .before .before .before .before .before .before .roll-bytes .ensures) (told-yes (c .before .before .before .before .before .before .before .before .before .before .before .before .before .before .before .is-whole-roll .ensures) (c .before .before .before .before .before .before .before .before .before .before .before .before .before .before .if1 .left)) (count-is _ (c .before .before .before .before .before .before .before .before .before .before .before .before .before .count-in .ensures .0))
           (told-yes (c .before .before .before .before .before .before .before .before .before .before .before .before .is-lawful .ensures) (c .before .before .before .before .before .before .before .before .before .before .before .if2 .left)) (c .before .before .before .before .before .before .before .before .before .before .look-up .ensures) (not-false _ (c .before .before .before .before .before .before .before .before .if3 .left)) (c .before .before .before .before .before .before .before .end-of .ensures .0) (c .before .before .before .before .before .gather .ensures .1)),
     )
 
 mul-long : tie.Need-mul-long
-mul-long c = omega (arith, c .before .before .gather .ensures .0, count-is _ (c .before .before .before .before .before .before .before .before .before .before .four .ensures .0), is-sized _ (told-yes (c .before .before .before .before .before .before .before .before .before .before .before .before .is-whole-roll .ensures) (c .before .before .before .before .before .before .before .before .before .before .before .if1 .left)) .few)
+mul-long c = omega (arith, c .before .before .gather .ensures .0, count-is _ (c .before .before .before .before .before .before .before .before .before .before .count-in .ensures .0), is-sized _ (told-yes (c .before .before .before .before .before .before .before .before .before .before .before .before .is-whole-roll .ensures) (c .before .before .before .before .before .before .before .before .before .before .before .if1 .left)) .few)
 
 add-long : tie.Need-add-long
 add-long c =
     let a = c .before .before .before .before .before .before .before .before .before .before .before .before .before .before .before .before .args in
     let R = told-yes (c .before .before .before .before .before .before .before .before .before .before .before .before .is-whole-roll .ensures) (c .before .before .before .before .before .before .before .before .before .before .before .if1 .left) in
-    omega (arith, c .before .before .gather .ensures .0, count-is _ (c .before .before .before .before .before .before .before .before .before .before .four .ensures .0), is-sized _ R .few, count-small (a .lent .now) _ (a .count) (c .before .before .before .before .before .before .before .before .before .before .before .before .before .roll-bytes .ensures) R)
+    omega (arith, c .before .before .gather .ensures .0, count-is _ (c .before .before .before .before .before .before .before .before .before .before .count-in .ensures .0), is-sized _ R .few, count-small (a .lent .now) _ (a .count) (c .before .before .before .before .before .before .before .before .before .before .before .before .before .roll-bytes .ensures) R)
 
 add-if4 : tie.Need-add-if4
-add-if4 c = omega (arith, c .before .before .gather .ensures .0, count-is _ (c .before .before .before .before .before .before .before .before .before .before .four .ensures .0), is-sized _ (told-yes (c .before .before .before .before .before .before .before .before .before .before .before .before .is-whole-roll .ensures) (c .before .before .before .before .before .before .before .before .before .before .before .if1 .left)) .few)
+add-if4 c = omega (arith, c .before .before .gather .ensures .0, count-is _ (c .before .before .before .before .before .before .before .before .before .before .count-in .ensures .0), is-sized _ (told-yes (c .before .before .before .before .before .before .before .before .before .before .before .before .is-whole-roll .ensures) (c .before .before .before .before .before .before .before .before .before .before .before .if1 .left)) .few)
+
+count-in-requires : tie.Need-count-in-requires
+count-in-requires c κs =
+    (at-least-eight _ (told-yes (c .before .is-whole-roll .ensures) (c .if1 .left)), omega arith)
 
 roll-bytes-requires : tie.Need-roll-bytes-requires
 roll-bytes-requires c κs = search needs
@@ -118,4 +116,4 @@ same-length-4 : tie.Need-same-length-4
 same-length-4 c = search needs
 
 pub judge-spec : {M : Type 1} → statement M
-judge-spec = tie.close (tie.spec roll-bytes-requires is-whole-roll-requires returns sub-four four-requires is-lawful-requires returns-2 look-up-requires returns-3 end-of-requires gather-requires mul-long add-long add-if4 same-length returns-4 same-length-2 returns-5 same-length-3 returns-6 same-length-4 returns-7)
+judge-spec = tie.close (tie.spec roll-bytes-requires is-whole-roll-requires returns count-in-requires is-lawful-requires returns-2 look-up-requires returns-3 end-of-requires gather-requires mul-long add-long add-if4 same-length returns-4 same-length-2 returns-5 same-length-3 returns-6 same-length-4 returns-7)

@@ -7,7 +7,7 @@ use Rattle.retire.proofs.waits.Statement.{statement}
 use Rattle.retire.proofs.waits.Tie as tie
 
 end-of-requires : tie.Need-end-of-requires
-end-of-requires c κs = let s = c .before .before .before .before .before in (s .pre .0, s .pre .1, c .four .ensures .1)
+end-of-requires c κs = let s = c .before .before .before .before .before in (s .pre .0, s .pre .1, c .set-at .ensures .1)
 
 look-up-requires : tie.Need-look-up-requires
 look-up-requires c κs = let s = c .before .before .before .before .before .before .before in (s .pre .0, omega (arith, s .pre .1))
@@ -20,12 +20,12 @@ returns c =
 returns-2 : tie.Need-returns-2
 returns-2 c =
     let a = c .before .before .before .before .before .before .before .args in
-    waits-elsewhere (a .b .now) (a .n) (a .last) (a .at) (λ e. c .before .before .before .if1 .left (c .before .before .before .before .wide .ensures .0 ∙ e)) (c .before .before .four .ensures .0) (c .before .end-of .ensures .0) (c .if2 .taken)
+    waits-elsewhere (a .b .now) (a .n) (a .last) (a .at) (λ e. c .before .before .before .if1 .left (c .before .before .before .before .wide .ensures .0 ∙ e)) (c .before .before .set-at .ensures .0) (c .before .end-of .ensures .0) (c .if2 .taken)
 
 returns-3 : tie.Need-returns-3
 returns-3 c =
     let a = c .before .before .before .before .before .before .before .before .before .args in
-    waits-open (a .b .now) (a .n) (a .last) (a .at) (λ e. c .before .before .before .before .before .if1 .left (c .before .before .before .before .before .before .wide .ensures .0 ∙ e)) (c .before .before .before .before .four .ensures .0) (c .before .before .before .end-of .ensures .0) (c .before .before .if2 .left) (c .before .look-up .ensures .retires)
+    waits-open (a .b .now) (a .n) (a .last) (a .at) (λ e. c .before .before .before .before .before .if1 .left (c .before .before .before .before .before .before .wide .ensures .0 ∙ e)) (c .before .before .before .before .set-at .ensures .0) (c .before .before .before .end-of .ensures .0) (c .before .before .if2 .left) (c .before .look-up .ensures .retires)
 
 shared-slice-read-wide : tie.Need-shared-slice-read-wide
 shared-slice-read-wide c = search needs
@@ -33,11 +33,8 @@ shared-slice-read-wide c = search needs
 wide-requires : tie.Need-wide-requires
 wide-requires c κs = search needs
 
-add-four : tie.Need-add-four
-add-four c = search needs
-
-four-requires : tie.Need-four-requires
-four-requires c κs = search needs
+set-at-requires : tie.Need-set-at-requires
+set-at-requires c κs = search needs
 
 pub waits-spec : {M : Type 1} → statement M
-waits-spec = tie.close (tie.spec shared-slice-read-wide wide-requires returns add-four four-requires end-of-requires returns-2 look-up-requires returns-3)
+waits-spec = tie.close (tie.spec shared-slice-read-wide wide-requires returns set-at-requires end-of-requires returns-2 look-up-requires returns-3)

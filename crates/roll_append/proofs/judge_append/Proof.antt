@@ -15,20 +15,11 @@ use borrow.Author.Needs.{needs}
 use Rattle.roll_append.proofs.judge_append.Statement.{statement}
 use Rattle.roll_append.proofs.judge_append.Tie as tie
 
-is-roll-requires : tie.Need-is-roll-requires
-is-roll-requires c κs = search needs
-
 returns : tie.Need-returns
 returns c =
     let a = c .before .before .before .before .args in
     let r = entry (a .kind) (a .set) (a .earlier) (a .label .now) in
     answer-not (a .lent .now) (a .count) r (inl (told-no (c .before .is-roll .ensures) (c .if1 .taken)))
-
-wide-requires : tie.Need-wide-requires
-wide-requires c κs = search needs
-
-is-ruled-requires : tie.Need-is-ruled-requires
-is-ruled-requires c κs = search needs
 
 returns-2 : tie.Need-returns-2
 returns-2 c =
@@ -42,26 +33,10 @@ returns-3 c =
     let r = entry (a .kind) (a .set) (a .earlier) (a .label .now) in
     answer-not (a .lent .now) (a .count) r (inr (inr (lt-leb (length (a .label .now)) 255 (omega arith))))
 
-add-long : tie.Need-add-long
-add-long c = search needs
-
 add-long-2 : tie.Need-add-long-2
 add-long-2 c =
     let a = c .before .before .before .before .before .before .before .before .args in
     let L = within-limits (a .lent .now) (a .count) (told-yes (c .before .before .before .before .before .is-roll .ensures) (c .before .before .before .before .if1 .left)) in
-    omega arith
-
-sub-four : tie.Need-sub-four
-sub-four c =
-    let a = c .before .before .before .before .before .before .before .before .args in
-    let L = at-least (a .lent .now) (a .count) (told-yes (c .before .before .before .before .before .is-roll .ensures) (c .before .before .before .before .if1 .left)) in
-    omega arith
-
-four-requires : tie.Need-four-requires
-four-requires c κs =
-    let a = c .before .before .before .before .before .before .before .before .args in
-    let L = at-least (a .lent .now) (a .count) (told-yes (c .before .before .before .before .before .is-roll .ensures) (c .before .before .before .before .if1 .left)) in
-    let M = is-there (a .lent .now) (a .count) (told-yes (c .before .before .before .before .before .is-roll .ensures) (c .before .before .before .before .if1 .left)) in
     omega arith
 
 returns-4 : tie.Need-returns-4
@@ -73,7 +48,7 @@ returns-4 c =
     (ap (λ k. ruled k (a .set) (a .earlier)) (sym (c .before .before .before .before .before .wide .ensures .0)) ∙ told-yes (c .before .before .before .before .is-ruled .ensures) (c .before .before .before .if2 .left))
     (le-leb (length (a .label .now)) 255 (omega arith)) in
     let B : Bytes (a .lent .now) = λ i. omega (arith, c .before .before .before .before .before .before .before .before .before .shared-slice-known .given i) in
-    let e = c .before .four .ensures .0 ∙ count-read (a .lent .now) (a .count) H in
+    let e = c .before .count-in .ensures .0 ∙ count-read (a .lent .now) (a .count) H in
     answer-long (a .lent .now) (a .count) r H B (inl (omega (arith, e))) k
 
 returns-5 : tie.Need-returns-5
@@ -85,7 +60,7 @@ returns-5 c =
     (ap (λ k. ruled k (a .set) (a .earlier)) (sym (c .before .before .before .before .before .before .wide .ensures .0)) ∙ told-yes (c .before .before .before .before .before .is-ruled .ensures) (c .before .before .before .before .if2 .left))
     (le-leb (length (a .label .now)) 255 (c .before .before .before .if3 .left)) in
     let B : Bytes (a .lent .now) = λ i. omega (arith, c .before .before .before .before .before .before .before .before .before .before .shared-slice-known .given i) in
-    let e = c .before .before .four .ensures .0 ∙ count-read (a .lent .now) (a .count) H in
+    let e = c .before .before .count-in .ensures .0 ∙ count-read (a .lent .now) (a .count) H in
     answer-long (a .lent .now) (a .count) r H B (inr (inl (omega arith))) k
 
 returns-6 : tie.Need-returns-6
@@ -97,7 +72,7 @@ returns-6 c =
     (ap (λ k. ruled k (a .set) (a .earlier)) (sym (c .before .before .before .before .before .before .before .wide .ensures .0)) ∙ told-yes (c .before .before .before .before .before .before .is-ruled .ensures) (c .before .before .before .before .before .if2 .left))
     (le-leb (length (a .label .now)) 255 (c .before .before .before .before .if3 .left)) in
     let B : Bytes (a .lent .now) = λ i. omega (arith, c .before .before .before .before .before .before .before .before .before .before .before .shared-slice-known .given i) in
-    let e = c .before .before .before .four .ensures .0 ∙ count-read (a .lent .now) (a .count) H in
+    let e = c .before .before .before .count-in .ensures .0 ∙ count-read (a .lent .now) (a .count) H in
     answer-long (a .lent .now) (a .count) r H B (inr (inr (omega arith))) k
 
 returns-7 : tie.Need-returns-7
@@ -109,24 +84,26 @@ returns-7 c =
     (ap (λ k. ruled k (a .set) (a .earlier)) (sym (c .before .before .before .before .before .before .before .wide .ensures .0)) ∙ told-yes (c .before .before .before .before .before .before .is-ruled .ensures) (c .before .before .before .before .before .if2 .left))
     (le-leb (length (a .label .now)) 255 (c .before .before .before .before .if3 .left)) in
     let B : Bytes (a .lent .now) = λ i. omega (arith, c .before .before .before .before .before .before .before .before .before .before .before .shared-slice-known .given i) in
-    let e = c .before .before .before .four .ensures .0 ∙ count-read (a .lent .now) (a .count) H in
+    let e = c .before .before .before .count-in .ensures .0 ∙ count-read (a .lent .now) (a .count) H in
     answer-done (a .lent .now) (a .count) r H B (omega (arith, e)) (omega arith) (omega arith) k
+
+count-in-requires : tie.Need-count-in-requires
+count-in-requires c κs =
+    let a = c .before .before .before .before .before .before .before .before .args in
+    (at-least (a .lent .now) (a .count) (told-yes (c .before .before .before .before .before .is-roll .ensures) (c .before .before .before .before .if1 .left)), is-there (a .lent .now) (a .count) (told-yes (c .before .before .before .before .before .is-roll .ensures) (c .before .before .before .before .if1 .left)))
+
+is-roll-requires : tie.Need-is-roll-requires
+is-roll-requires c κs = search needs
+
+wide-requires : tie.Need-wide-requires
+wide-requires c κs = search needs
+
+is-ruled-requires : tie.Need-is-ruled-requires
+is-ruled-requires c κs = search needs
+
+add-long : tie.Need-add-long
+add-long c = search needs
 
 pub judge-append-spec : {M : Type 1} → statement M
 judge-append-spec =
-    tie.close
-    (tie.spec
-    is-roll-requires
-    returns
-    wide-requires
-    is-ruled-requires
-    returns-2
-    returns-3
-    add-long
-    add-long-2
-    sub-four
-    four-requires
-    returns-4
-    returns-5
-    returns-6
-    returns-7)
+    tie.close (tie.spec is-roll-requires returns wide-requires is-ruled-requires returns-2 returns-3 add-long add-long-2 count-in-requires returns-4 returns-5 returns-6 returns-7)

@@ -22,48 +22,21 @@ abbrev μ-loop : tie.MeasureT-loop
 loop-holds : tie.Need-loop-holds Inv-loop μ-loop
 loop-holds c = let a = c .before .args in (omega arith, refl, start-first (a .s .now), no-starts (a .s .now) (a .t))
 
-mul-place : tie.Need-mul-place Inv-loop μ-loop
-mul-place c = search needs
-
-add-place : tie.Need-add-place Inv-loop μ-loop
-add-place c = search needs
-
 lay-four-requires : tie.Need-lay-four-requires Inv-loop μ-loop
-lay-four-requires c κs = omega arith
+lay-four-requires c κs = omega (arith, c .listed-at .ensures)
 
-add-wide : tie.Need-add-wide Inv-loop μ-loop
-add-wide c = let a = c .before .before .before .before .before .before .before .args in omega (arith, head-before (a .s .now) (c .before .before .before .before .before .loop .i) (a .n) (c .before .before .before .before .loop-test .taken))
-
-slice-read-wide : tie.Need-slice-read-wide Inv-loop μ-loop
-slice-read-wide c = let a = c .before .before .before .before .before .before .before .before .args in omega (arith, head-before (a .s .now) (c .before .before .before .before .before .before .loop .i) (a .n) (c .before .before .before .before .before .loop-test .taken), c .before .before .before .lay-four .kept .0)
-
-wide-requires : tie.Need-wide-requires Inv-loop μ-loop
-wide-requires c κs = search needs
-
-add-at : tie.Need-add-at Inv-loop μ-loop
-add-at c = search needs
-
-add-at-2 : tie.Need-add-at-2 Inv-loop μ-loop
-add-at-2 c = let a = c .before .before .before .before .before .before .before .before .before .args in omega (arith, head-before (a .s .now) (c .before .before .before .before .before .before .before .loop .i) (a .n) (c .before .before .before .before .before .before .loop-test .taken))
-
-add-i : tie.Need-add-i Inv-loop μ-loop
-add-i c = search needs
-
-loop-less : tie.Need-loop-less Inv-loop μ-loop
-loop-less c = search needs
+record-end-requires : tie.Need-record-end-requires Inv-loop μ-loop
+record-end-requires c κs = let a = c .before .before .before .before .before .before .before .before .before .args in omega (arith, head-before (a .s .now) (c .before .before .before .before .before .before .before .loop .i) (a .n) (c .before .before .before .before .before .before .loop-test .taken), c .before .before .before .lay-four .kept .0)
 
 loop-again : tie.Need-loop-again Inv-loop μ-loop
 loop-again c =
-    let s = c .before .before .before .before .before .before .before .before .before in
+    let s = c .before .before .before .before .before .before .before .before .before .before in
     let a = s .args in
-    let l = c .before .before .before .before .before .before .before .loop in
-    let h = c .before .before .before .before .before .before .loop-test .taken in
-    let q = more-starts (a .s .now) (a .n) (a .t) (s .pre .0) (s .pre .1) (l .s) _ (l .i) (l .at) h (l .inv .2) (l .inv .3) (c .before .before .before .before .lay-four .ensures) in
-    let w = c .wide .ensures .0 ∙ still (a .s .now) (a .n) (a .t) (s .pre .0) (s .pre .1) _ (l .i) (l .at) h (l .inv .2) q in
-    (omega arith, c .before .before .before .before .lay-four .kept .0 ∙ l .inv .1, next-start (a .s .now) (l .i) (l .at) (c .wide .result) (l .inv .2) w, q)
-
-same-length : tie.Need-same-length Inv-loop μ-loop
-same-length c = search needs
+    let l = c .before .before .before .before .before .before .before .before .loop in
+    let h = c .before .before .before .before .before .before .before .loop-test .taken in
+    let q = more-starts (a .s .now) (a .n) (a .t) (s .pre .0) (s .pre .1) (l .s) _ (l .i) (l .at) _ h (l .inv .2) (c .before .before .before .before .before .listed-at .ensures) (l .inv .3) (c .before .before .before .before .lay-four .ensures) in
+    let z = c .record-end .ensures ∙ still (a .s .now) (a .n) (a .t) (s .pre .0) (s .pre .1) _ (l .i) (l .at) h (l .inv .2) q in
+    (omega arith, c .before .before .before .before .lay-four .kept .0 ∙ l .inv .1, next-start (a .s .now) (l .i) (l .at) (c .record-end .result) (l .inv .2) z, q)
 
 returns : tie.Need-returns Inv-loop μ-loop
 returns c =
@@ -72,23 +45,18 @@ returns c =
     let i : l .i ≡ a .n = omega arith in
     l .inv .3 ∙ ap (λ m. laid (a .s .now) (a .t) (inFours (tab m (start (a .s .now))))) i
 
+listed-at-requires : tie.Need-listed-at-requires Inv-loop μ-loop
+listed-at-requires c κs = search needs
+
+add-i : tie.Need-add-i Inv-loop μ-loop
+add-i c = search needs
+
+loop-less : tie.Need-loop-less Inv-loop μ-loop
+loop-less c = search needs
+
+same-length : tie.Need-same-length Inv-loop μ-loop
+same-length c = search needs
+
 pub lay-starts-spec : {M : Type 1} → statement M
 lay-starts-spec =
-    tie.close
-    (tie.spec
-    Inv-loop
-    μ-loop
-    loop-holds
-    mul-place
-    add-place
-    lay-four-requires
-    add-wide
-    slice-read-wide
-    wide-requires
-    add-at
-    add-at-2
-    add-i
-    loop-less
-    loop-again
-    same-length
-    returns)
+    tie.close (tie.spec Inv-loop μ-loop loop-holds listed-at-requires lay-four-requires record-end-requires add-i loop-less loop-again same-length returns)

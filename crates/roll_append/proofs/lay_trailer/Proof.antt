@@ -4,14 +4,17 @@ use borrow.Author.Needs.{needs}
 use Rattle.roll_append.proofs.lay_trailer.Statement.{statement}
 use Rattle.roll_append.proofs.lay_trailer.Tie as tie
 
+returns : tie.Need-returns
+returns c =
+    let s = c .before .before .before .before .before .before .before .before .before .before .before .before .before .before in
+    let at = c .before .before .before .before .before .before .before .before .listed-at .ensures in
+    trailer-stored (s .args .s .now) _ _ _ (s .args .n) (s .args .t) _ (s .pre .1) at (c .before .before .before .before .before .before .before .before .before .before .before .lay-starts .ensures) (c .before .before .before .before .before .before .lay-four .ensures) (c .before .before .lay-four2 .ensures)
+
 lay-starts-requires : tie.Need-lay-starts-requires
 lay-starts-requires c κs = search needs
 
-mul-place : tie.Need-mul-place
-mul-place c = search needs
-
-add-place : tie.Need-add-place
-add-place c = search needs
+listed-at-requires : tie.Need-listed-at-requires
+listed-at-requires c κs = search needs
 
 lay-four-requires : tie.Need-lay-four-requires
 lay-four-requires c κs = search needs
@@ -25,20 +28,6 @@ lay-four-requires-2 c κs = search needs
 same-length : tie.Need-same-length
 same-length c = search needs
 
-returns : tie.Need-returns
-returns c =
-    let s = c .before .before .before .before .before .before .before .before .before .before .before .before .before in
-    trailer-stored (s .args .s .now) _ _ _ (s .args .n) (s .args .t) (s .pre .1) (c .before .before .before .before .before .before .before .before .before .before .lay-starts .ensures) (c .before .before .before .before .before .before .lay-four .ensures) (c .before .before .lay-four2 .ensures)
-
 pub lay-trailer-spec : {M : Type 1} → statement M
 lay-trailer-spec =
-    tie.close
-    (tie.spec
-    lay-starts-requires
-    mul-place
-    add-place
-    lay-four-requires
-    add-lay-four
-    lay-four-requires-2
-    same-length
-    returns)
+    tie.close (tie.spec lay-starts-requires listed-at-requires lay-four-requires add-lay-four lay-four-requires-2 same-length returns)

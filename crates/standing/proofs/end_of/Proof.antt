@@ -27,36 +27,21 @@ replacer-requires c κs =
     let r = inside (s .args .b .now) (s .pre .0) (l .i) (l .p) (omega (arith, c .loop-test .taken, s .pre .1)) (l .inv .1) in
     (r .1, l .inv .3)
 
-add-wide : tie.Need-add-wide Inv-loop μ-loop
-add-wide c =
+record-end-requires : tie.Need-record-end-requires Inv-loop μ-loop
+record-end-requires c κs =
     let s = c .before .before .before .before in
     let l = c .before .before .loop in
-    let r = inside (s .args .b .now) (s .pre .0) (l .i) (l .p) (omega (arith, c .before .loop-test .taken, s .pre .1)) (l .inv .1) in
-    omega (arith, r .0, r .1)
-
-shared-slice-read-wide : tie.Need-shared-slice-read-wide Inv-loop μ-loop
-shared-slice-read-wide c =
-    let s = c .before .before .before .before .before in
-    let l = c .before .before .before .loop in
-    let r = inside (s .args .b .now) (s .pre .0) (l .i) (l .p) (omega (arith, c .before .before .loop-test .taken, s .pre .1)) (l .inv .1) in
-    omega (arith, r .0, r .1)
-
-add-p-2 : tie.Need-add-p-2 Inv-loop μ-loop
-add-p-2 c =
-    let s = c .before .before .before .before .before .before in
-    let l = c .before .before .before .before .loop in
-    let r = inside (s .args .b .now) (s .pre .0) (l .i) (l .p) (omega (arith, c .before .before .before .loop-test .taken, s .pre .1)) (l .inv .1) in
-    omega (arith, r .0, r .1)
+    inside (s .args .b .now) (s .pre .0) (l .i) (l .p) (omega (arith, c .before .loop-test .taken, s .pre .1)) (l .inv .1) .1
 
 loop-again : tie.Need-loop-again Inv-loop μ-loop
 loop-again c =
-    let s = c .before .before .before .before .before .before in
+    let s = c .before .before .before .before .before in
     let b = s .args .b .now in
-    let l = c .before .before .before .before .loop in (
+    let l = c .before .before .before .loop in (
       omega arith,
-      next-start b (l .i) (l .p) (c .wide .result) (l .inv .1) (c .wide .ensures .0),
-      carried-more b (l .i) (l .p) (s .args .x) (l .y) (l .inv .1) (l .inv .2) (c .before .before .replacer .ensures .0),
-      c .before .before .replacer .ensures .1,
+      next-start b (l .i) (l .p) (c .record-end .result) (l .inv .1) (c .record-end .ensures),
+      carried-more b (l .i) (l .p) (s .args .x) (l .y) (l .inv .1) (l .inv .2) (c .before .replacer .ensures .0),
+      c .before .replacer .ensures .1,
     )
 
 returns : tie.Need-returns Inv-loop μ-loop
@@ -66,12 +51,6 @@ returns c =
     let i : l .i ≡ s .args .n = omega arith in
     (l .inv .2 ∙ ap (λ (k : ℕ). carried (recordOf (s .args .b .now)) k (s .args .x)) i, l .inv .3)
 
-wide-requires : tie.Need-wide-requires Inv-loop μ-loop
-wide-requires c κs = search needs
-
-add-p : tie.Need-add-p Inv-loop μ-loop
-add-p c = search needs
-
 add-i : tie.Need-add-i Inv-loop μ-loop
 add-i c = search needs
 
@@ -79,4 +58,4 @@ loop-less : tie.Need-loop-less Inv-loop μ-loop
 loop-less c = search needs
 
 pub end-of-spec : {M : Type 1} → statement M
-end-of-spec = tie.close (tie.spec Inv-loop μ-loop loop-holds replacer-requires add-wide shared-slice-read-wide wide-requires add-p add-p-2 add-i loop-less loop-again returns)
+end-of-spec = tie.close (tie.spec Inv-loop μ-loop loop-holds replacer-requires record-end-requires add-i loop-less loop-again returns)

@@ -35,34 +35,19 @@ returns c =
     let l = c .before .before .before .loop in
     one-failed (c .before .before .before .before .before .args .n) (λ k. allowed (after (recordOf b) k) (recordOf b k)) (l .i) (c .before .before .loop-test .taken) (told-no (c .before .is-allowed .ensures) (c .if1 .taken))
 
-add-wide : tie.Need-add-wide Inv-loop μ-loop
-add-wide c =
+record-end-requires : tie.Need-record-end-requires Inv-loop μ-loop
+record-end-requires c κs =
     let s = c .before .before .before .before .before in
     let l = c .before .before .before .loop in
-    let r = inside (s .args .b .now) (s .pre .0) (l .i) (l .p) (omega (arith, c .before .before .loop-test .taken, s .pre .1)) (l .inv .1) in
-    omega (arith, r .0, r .1)
-
-shared-slice-read-wide : tie.Need-shared-slice-read-wide Inv-loop μ-loop
-shared-slice-read-wide c =
-    let s = c .before .before .before .before .before .before in
-    let l = c .before .before .before .before .loop in
-    let r = inside (s .args .b .now) (s .pre .0) (l .i) (l .p) (omega (arith, c .before .before .before .loop-test .taken, s .pre .1)) (l .inv .1) in
-    omega (arith, r .0, r .1)
-
-add-p-2 : tie.Need-add-p-2 Inv-loop μ-loop
-add-p-2 c =
-    let s = c .before .before .before .before .before .before .before in
-    let l = c .before .before .before .before .before .loop in
-    let r = inside (s .args .b .now) (s .pre .0) (l .i) (l .p) (omega (arith, c .before .before .before .before .loop-test .taken, s .pre .1)) (l .inv .1) in
-    omega (arith, r .0, r .1)
+    inside (s .args .b .now) (s .pre .0) (l .i) (l .p) (omega (arith, c .before .before .loop-test .taken, s .pre .1)) (l .inv .1) .1
 
 loop-again : tie.Need-loop-again Inv-loop μ-loop
 loop-again c =
-    let b = c .before .before .before .before .before .before .before .args .b .now in
-    let l = c .before .before .before .before .before .loop in (
+    let b = c .before .before .before .before .before .before .args .b .now in
+    let l = c .before .before .before .before .loop in (
       omega arith,
-      next-start b (l .i) (l .p) (c .wide .result) (l .inv .1) (c .wide .ensures .0),
-      below-more (λ k. allowed (after (recordOf b) k) (recordOf b k) ≡ true) (l .i) (l .inv .2) (told-yes (c .before .before .before .is-allowed .ensures) (c .before .before .if1 .left)),
+      next-start b (l .i) (l .p) (c .record-end .result) (l .inv .1) (c .record-end .ensures),
+      below-more (λ k. allowed (after (recordOf b) k) (recordOf b k) ≡ true) (l .i) (l .inv .2) (told-yes (c .before .before .is-allowed .ensures) (c .before .if1 .left)),
     )
 
 returns-2 : tie.Need-returns-2 Inv-loop μ-loop
@@ -72,12 +57,6 @@ returns-2 c =
     let l = c .before .loop in
     all-passed (c .before .before .before .args .n) (λ k. allowed (after (recordOf b) k) (recordOf b k)) (λ k h. l .inv .2 k (omega arith))
 
-wide-requires : tie.Need-wide-requires Inv-loop μ-loop
-wide-requires c κs = search needs
-
-add-p : tie.Need-add-p Inv-loop μ-loop
-add-p c = search needs
-
 add-i : tie.Need-add-i Inv-loop μ-loop
 add-i c = search needs
 
@@ -86,4 +65,4 @@ loop-less c = search needs
 
 pub is-lawful-spec : {M : Type 1} → statement M
 is-lawful-spec =
-    tie.close (tie.spec Inv-loop μ-loop loop-holds is-allowed-requires returns add-wide shared-slice-read-wide wide-requires add-p add-p-2 add-i loop-less loop-again returns-2)
+    tie.close (tie.spec Inv-loop μ-loop loop-holds is-allowed-requires returns record-end-requires add-i loop-less loop-again returns-2)

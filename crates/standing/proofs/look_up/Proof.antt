@@ -42,38 +42,23 @@ replacer-requires c κs =
     let r = inside (s .args .b .now) (s .pre .0) (l .i) (l .p) (omega (arith, c .before .before .before .before .loop-test .taken, s .pre .1)) (l .inv .1) in
     (r .1, l .inv .2 .small)
 
-add-wide : tie.Need-add-wide Inv-loop μ-loop
-add-wide c =
+record-end-requires : tie.Need-record-end-requires Inv-loop μ-loop
+record-end-requires c κs =
     let s = c .before .before .before .before .before .before .before .before in
     let l = c .before .before .before .before .before .before .loop in
-    let r = inside (s .args .b .now) (s .pre .0) (l .i) (l .p) (omega (arith, c .before .before .before .before .before .loop-test .taken, s .pre .1)) (l .inv .1) in
-    omega (arith, r .0, r .1)
-
-shared-slice-read-wide : tie.Need-shared-slice-read-wide Inv-loop μ-loop
-shared-slice-read-wide c =
-    let s = c .before .before .before .before .before .before .before .before .before in
-    let l = c .before .before .before .before .before .before .before .loop in
-    let r = inside (s .args .b .now) (s .pre .0) (l .i) (l .p) (omega (arith, c .before .before .before .before .before .before .loop-test .taken, s .pre .1)) (l .inv .1) in
-    omega (arith, r .0, r .1)
-
-add-p-2 : tie.Need-add-p-2 Inv-loop μ-loop
-add-p-2 c =
-    let s = c .before .before .before .before .before .before .before .before .before .before in
-    let l = c .before .before .before .before .before .before .before .before .loop in
-    let r = inside (s .args .b .now) (s .pre .0) (l .i) (l .p) (omega (arith, c .before .before .before .before .before .before .before .loop-test .taken, s .pre .1)) (l .inv .1) in
-    omega (arith, r .0, r .1)
+    inside (s .args .b .now) (s .pre .0) (l .i) (l .p) (omega (arith, c .before .before .before .before .before .loop-test .taken, s .pre .1)) (l .inv .1) .1
 
 loop-again : tie.Need-loop-again Inv-loop μ-loop
 loop-again c =
-    let s = c .before .before .before .before .before .before .before .before .before .before in
+    let s = c .before .before .before .before .before .before .before .before .before in
     let b = s .args .b .now in
-    let l = c .before .before .before .before .before .before .before .before .loop in (
+    let l = c .before .before .before .before .before .before .before .loop in (
       omega arith,
-      next-start b (l .i) (l .p) (c .wide .result) (l .inv .1) (c .wide .ensures .0),
+      next-start b (l .i) (l .p) (c .record-end .result) (l .inv .1) (c .record-end .ensures),
       notes-more b (l .i) (s .args .x) (l .p) (l .inv .1) (l .inv .2)
-          (c .before .before .before .before .before .either .ensures ∙ ap (λ (z : Bool). l .delivered || z) (c .before .before .before .before .before .before .delivers-at .ensures))
-          (c .before .before .before .either2 .ensures ∙ ap (λ (z : Bool). l .retired || z) (c .before .before .before .before .retires-at .ensures))
-          (c .before .before .replacer .ensures .0) (c .before .before .replacer .ensures .1),
+          (c .before .before .before .before .either .ensures ∙ ap (λ (z : Bool). l .delivered || z) (c .before .before .before .before .before .delivers-at .ensures))
+          (c .before .before .either2 .ensures ∙ ap (λ (z : Bool). l .retired || z) (c .before .before .before .retires-at .ensures))
+          (c .before .replacer .ensures .0) (c .before .replacer .ensures .1),
     )
 
 returns : tie.Need-returns Inv-loop μ-loop
@@ -89,12 +74,6 @@ either-requires c κs = search needs
 either-requires-2 : tie.Need-either-requires-2 Inv-loop μ-loop
 either-requires-2 c κs = search needs
 
-wide-requires : tie.Need-wide-requires Inv-loop μ-loop
-wide-requires c κs = search needs
-
-add-p : tie.Need-add-p Inv-loop μ-loop
-add-p c = search needs
-
 add-i : tie.Need-add-i Inv-loop μ-loop
 add-i c = search needs
 
@@ -103,4 +82,4 @@ loop-less c = search needs
 
 pub look-up-spec : {M : Type 1} → statement M
 look-up-spec =
-    tie.close (tie.spec Inv-loop μ-loop loop-holds delivers-at-requires either-requires retires-at-requires either-requires-2 replacer-requires add-wide shared-slice-read-wide wide-requires add-p add-p-2 add-i loop-less loop-again returns)
+    tie.close (tie.spec Inv-loop μ-loop loop-holds delivers-at-requires either-requires retires-at-requires either-requires-2 replacer-requires record-end-requires add-i loop-less loop-again returns)

@@ -7,7 +7,7 @@ use Rattle.standing.proofs.replacer.Tie as tie
 returns : tie.Need-returns
 returns c =
     let a = c .before .before .before .before .args in
-    (replaced-here (a .b .now) (a .at) (a .x) (a .by) (c .before .before .replaces-at .ensures) (c .before .if1 .taken) (c .four .ensures .0), c .four .ensures .1)
+    (replaced-here (a .b .now) (a .at) (a .x) (a .by) (c .before .before .replaces-at .ensures) (c .before .if1 .taken) (c .set-at .ensures .0), c .set-at .ensures .1)
 
 returns-2 : tie.Need-returns-2
 returns-2 c =
@@ -17,11 +17,8 @@ returns-2 c =
 replaces-at-requires : tie.Need-replaces-at-requires
 replaces-at-requires c κs = search needs
 
-add-four : tie.Need-add-four
-add-four c = search needs
-
-four-requires : tie.Need-four-requires
-four-requires c κs = search needs
+set-at-requires : tie.Need-set-at-requires
+set-at-requires c κs = search needs
 
 pub replacer-spec : {M : Type 1} → statement M
-replacer-spec = tie.close (tie.spec replaces-at-requires add-four four-requires returns returns-2)
+replacer-spec = tie.close (tie.spec replaces-at-requires set-at-requires returns returns-2)

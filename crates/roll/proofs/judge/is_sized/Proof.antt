@@ -14,31 +14,25 @@ returns-2 c = let b = c .before .before .before .args .b .now in not-sized b (λ
 returns-3 : tie.Need-returns-3
 returns-3 c =
     let b = c .before .before .before .before .before .before .args .b .now in
-    let e = count-is b (c .before .before .four .ensures .0) in
+    let e = count-is b (c .before .before .count-in .ensures .0) in
     not-sized b (λ p. omega (arith, sized-says b p .2, e))
 
 returns-4 : tie.Need-returns-4
 returns-4 c =
-    let b = c .before .before .before .before .before .before .args .b .now in
-    sized-by b _ _ (omega arith) (omega arith) (omega arith) (count-is b (c .before .before .four .ensures .0)) (trailer-is b (c .before .four2 .ensures .0))
+    let b = c .before .before .before .before .before .before .before .args .b .now in
+    sized-by b _ _ _ (omega arith) (omega arith) (omega arith) (count-is b (c .before .before .before .count-in .ensures .0)) (trailer-is b (c .before .before .trailer-in .ensures .0)) (c .listed-at .ensures)
 
-four-requires : tie.Need-four-requires
-four-requires c κs = search needs
+count-in-requires : tie.Need-count-in-requires
+count-in-requires c κs = search needs
 
-sub-four : tie.Need-sub-four
-sub-four c = search needs
+trailer-in-requires : tie.Need-trailer-in-requires
+trailer-in-requires c κs = search needs
 
-four-requires-2 : tie.Need-four-requires-2
-four-requires-2 c κs = search needs
-
-mul-result : tie.Need-mul-result
-mul-result c = search needs
+listed-at-requires : tie.Need-listed-at-requires
+listed-at-requires c κs = search needs
 
 add-result : tie.Need-add-result
 add-result c = search needs
 
-add-result-2 : tie.Need-add-result-2
-add-result-2 c = search needs
-
 pub is-sized-spec : {M : Type 1} → statement M
-is-sized-spec = tie.close (tie.spec returns returns-2 four-requires sub-four four-requires-2 returns-3 mul-result add-result add-result-2 returns-4)
+is-sized-spec = tie.close (tie.spec returns returns-2 count-in-requires trailer-in-requires returns-3 listed-at-requires add-result returns-4)

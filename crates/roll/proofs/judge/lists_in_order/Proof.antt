@@ -34,34 +34,19 @@ returns c =
 
 returns-2 : tie.Need-returns-2 Inv-loop μ-loop
 returns-2 c =
-    let a = c .before .before .before .before .before .before .before .args in
+    let a = c .before .before .before .before .before .before .before .before .args in
     let b = a .b .now in
-    let l = c .before .before .before .before .before .loop in
-    let e = listed-is b (a .t) (l .i) _ (c .before .before .before .before .before .before .before .pre .1) (c .before .four .ensures .0) in
+    let l = c .before .before .before .before .before .before .loop in
+    let e = listed-is b (a .t) (l .i) _ _ (c .before .before .before .before .before .before .before .before .pre .1) (c .before .before .listed-at .ensures) (c .before .four .ensures .0) in
     and-no (follow b (a .n) (a .t)) (every (a .n) (λ i. eqb (listed b i) (start b i)))
-    (one-failed (a .n) (λ i. eqb (listed b i) (start b i)) (l .i) (c .before .before .before .before .loop-test .taken)
+    (one-failed (a .n) (λ i. eqb (listed b i) (start b i)) (l .i) (c .before .before .before .before .before .loop-test .taken)
     (ne-eqb (listed b (l .i)) (start b (l .i)) (λ q. omega (arith, e, q, l .inv .1, c .if2 .taken))))
 
-add-wide : tie.Need-add-wide Inv-loop μ-loop
-add-wide c =
-    let a = c .before .before .before .before .before .before .before .args in
-    let f = fit-says (a .b .now) (c .before .before .before .before .before .loop .p) (a .t) (told-yes (c .before .before .before .fits2 .ensures) (c .before .before .if1 .left)) in
-    omega arith
-
-shared-slice-read-wide : tie.Need-shared-slice-read-wide Inv-loop μ-loop
-shared-slice-read-wide c =
+record-end-requires : tie.Need-record-end-requires Inv-loop μ-loop
+record-end-requires c κs =
     let a = c .before .before .before .before .before .before .before .before .args in
     let f = fit-says (a .b .now) (c .before .before .before .before .before .before .loop .p) (a .t) (told-yes (c .before .before .before .before .fits2 .ensures) (c .before .before .before .if1 .left)) in
-    omega arith
-
-add-p : tie.Need-add-p Inv-loop μ-loop
-add-p c = omega arith
-
-add-p-2 : tie.Need-add-p-2 Inv-loop μ-loop
-add-p-2 c =
-    let a = c .before .before .before .before .before .before .before .before .before .args in
-    let f = fit-says (a .b .now) (c .before .before .before .before .before .before .before .loop .p) (a .t) (told-yes (c .before .before .before .before .before .fits2 .ensures) (c .before .before .before .before .if1 .left)) in
-    omega (arith, c .wide .ensures .0)
+    omega (arith, f .0)
 
 loop-again : tie.Need-loop-again Inv-loop μ-loop
 loop-again c =
@@ -69,13 +54,13 @@ loop-again c =
     let b = a .b .now in
     let l = c .before .before .before .before .before .before .before .loop in
     let f = fit-says b (l .p) (a .t) (told-yes (c .before .before .before .before .before .fits2 .ensures) (c .before .before .before .before .if1 .left)) in
-    let w = c .wide .ensures .0 in
-    let e = listed-is b (a .t) (l .i) _ (c .before .before .before .before .before .before .before .before .before .pre .1) (c .before .before .before .four .ensures .0) in (
+    let z = c .record-end .ensures in
+    let e = listed-is b (a .t) (l .i) _ _ (c .before .before .before .before .before .before .before .before .before .pre .1) (c .before .before .before .listed-at .ensures) (c .before .before .four .ensures .0) in (
       omega arith,
-      next-start b (l .i) (l .p) (c .wide .result) (l .inv .1) w,
-      omega (arith, w),
-      below-more (λ k. ruledAt b (start b k) ≡ true) (l .i) (l .inv .3) (subst (λ x. ruledAt b x ≡ true) (l .inv .1) (f .1)),
-      below-more (λ k. eqb (listed b k) (start b k) ≡ true) (l .i) (l .inv .4) (eq-eqb (listed b (l .i)) (start b (l .i)) (omega (arith, e, c .before .before .if2 .left, l .inv .1))),
+      next-start b (l .i) (l .p) (c .record-end .result) (l .inv .1) z,
+      omega (arith, z, f .1),
+      below-more (λ k. ruledAt b (start b k) ≡ true) (l .i) (l .inv .3) (subst (λ x. ruledAt b x ≡ true) (l .inv .1) (f .2)),
+      below-more (λ k. eqb (listed b k) (start b k) ≡ true) (l .i) (l .inv .4) (eq-eqb (listed b (l .i)) (start b (l .i)) (omega (arith, e, c .before .if2 .left, l .inv .1))),
     )
 
 returns-3 : tie.Need-returns-3 Inv-loop μ-loop
@@ -91,17 +76,11 @@ returns-3 c =
 fits-requires : tie.Need-fits-requires Inv-loop μ-loop
 fits-requires c κs = search needs
 
-mul-place : tie.Need-mul-place Inv-loop μ-loop
-mul-place c = search needs
-
-add-place : tie.Need-add-place Inv-loop μ-loop
-add-place c = search needs
+listed-at-requires : tie.Need-listed-at-requires Inv-loop μ-loop
+listed-at-requires c κs = search needs
 
 four-requires : tie.Need-four-requires Inv-loop μ-loop
 four-requires c κs = search needs
-
-wide-requires : tie.Need-wide-requires Inv-loop μ-loop
-wide-requires c κs = search needs
 
 add-i : tie.Need-add-i Inv-loop μ-loop
 add-i c = search needs
@@ -110,4 +89,4 @@ loop-less : tie.Need-loop-less Inv-loop μ-loop
 loop-less c = search needs
 
 pub lists-in-order-spec : {M : Type 1} → statement M
-lists-in-order-spec = tie.close (tie.spec Inv-loop μ-loop loop-holds fits-requires returns mul-place add-place four-requires returns-2 add-wide shared-slice-read-wide wide-requires add-p add-p-2 add-i loop-less loop-again returns-3)
+lists-in-order-spec = tie.close (tie.spec Inv-loop μ-loop loop-holds fits-requires returns listed-at-requires four-requires returns-2 record-end-requires add-i loop-less loop-again returns-3)

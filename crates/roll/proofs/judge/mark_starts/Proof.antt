@@ -26,9 +26,6 @@ loop-holds c =
     let b = a .b .now in
     (omega arith, start-first b, omega arith, subst (Marked b 0) (sym (c .before .pre .2)) (none-marked b), below-none _)
 
-fits-requires : tie.Need-fits-requires Inv-loop μ-loop
-fits-requires c κs = search needs
-
 returns : tie.Need-returns Inv-loop μ-loop
 returns c =
     let a = c .before .before .before .before .before .args in
@@ -43,51 +40,27 @@ element-write-marks : tie.Need-element-write-marks Inv-loop μ-loop
 element-write-marks c =
     let a = c .before .before .before .before .before .args in
     let f = fit-says (a .b .now) (c .before .before .before .loop .at) (a .t) (told-yes (c .before .fits2 .ensures) (c .if1 .left)) in
-    omega arith
+    omega (arith, f .0)
 
-add-wide : tie.Need-add-wide Inv-loop μ-loop
-add-wide c =
+record-end-requires : tie.Need-record-end-requires Inv-loop μ-loop
+record-end-requires c κs =
     let a = c .before .before .before .before .before .args in
     let f = fit-says (a .b .now) (c .before .before .before .loop .at) (a .t) (told-yes (c .before .fits2 .ensures) (c .if1 .left)) in
-    omega arith
-
-shared-slice-read-wide : tie.Need-shared-slice-read-wide Inv-loop μ-loop
-shared-slice-read-wide c =
-    let a = c .before .before .before .before .before .before .args in
-    let f = fit-says (a .b .now) (c .before .before .before .before .loop .at) (a .t) (told-yes (c .before .before .fits2 .ensures) (c .before .if1 .left)) in
-    omega arith
-
-wide-requires : tie.Need-wide-requires Inv-loop μ-loop
-wide-requires c κs = search needs
-
-add-at : tie.Need-add-at Inv-loop μ-loop
-add-at c = omega arith
-
-add-at-2 : tie.Need-add-at-2 Inv-loop μ-loop
-add-at-2 c =
-    let a = c .before .before .before .before .before .before .before .args in
-    let f = fit-says (a .b .now) (c .before .before .before .before .before .loop .at) (a .t) (told-yes (c .before .before .before .fits2 .ensures) (c .before .before .if1 .left)) in
-    omega (arith, c .wide .ensures .0)
-
-add-i : tie.Need-add-i Inv-loop μ-loop
-add-i c = search needs
-
-loop-less : tie.Need-loop-less Inv-loop μ-loop
-loop-less c = search needs
+    omega (arith, f .0)
 
 loop-again : tie.Need-loop-again Inv-loop μ-loop
 loop-again c =
-    let a = c .before .before .before .before .before .before .before .args in
+    let a = c .before .before .before .before .before .before .args in
     let b = a .b .now in
-    let l = c .before .before .before .before .before .loop in
-    let f = fit-says b (l .at) (a .t) (told-yes (c .before .before .before .fits2 .ensures) (c .before .before .if1 .left)) in
-    let w = c .wide .ensures .0 in
+    let l = c .before .before .before .before .loop in
+    let f = fit-says b (l .at) (a .t) (told-yes (c .before .before .fits2 .ensures) (c .before .if1 .left)) in
+    let z = c .record-end .ensures in
     let s : start b (l .i) < 65536 = omega (arith, l .inv .1) in (
       omega arith,
-      next-start b (l .i) (l .at) (c .wide .result) (l .inv .1) w,
-      omega (arith, w),
+      next-start b (l .i) (l .at) (c .record-end .result) (l .inv .1) z,
+      omega (arith, z, f .1),
       subst (λ x. Marked b (l .i + 1) (set (l .marks) x 1)) (sym (l .inv .1)) (one-marked b (l .i) (l .marks) s (l .inv .3)),
-      below-more (λ k. ruledAt b (start b k) ≡ true) (l .i) (l .inv .4) (subst (λ x. ruledAt b x ≡ true) (l .inv .1) (f .1)),
+      below-more (λ k. ruledAt b (start b k) ≡ true) (l .i) (l .inv .4) (subst (λ x. ruledAt b x ≡ true) (l .inv .1) (f .2)),
     )
 
 returns-2 : tie.Need-returns-2 Inv-loop μ-loop
@@ -100,22 +73,15 @@ returns-2 c =
       λ q. subst (λ n. Marked b n (l .marks)) i (l .inv .3),
     )
 
+fits-requires : tie.Need-fits-requires Inv-loop μ-loop
+fits-requires c κs = search needs
+
+add-i : tie.Need-add-i Inv-loop μ-loop
+add-i c = search needs
+
+loop-less : tie.Need-loop-less Inv-loop μ-loop
+loop-less c = search needs
+
 pub mark-starts-spec : {M : Type 1} → statement M
 mark-starts-spec =
-    tie.close
-    (tie.spec
-    Inv-loop
-    μ-loop
-    loop-holds
-    fits-requires
-    returns
-    element-write-marks
-    add-wide
-    shared-slice-read-wide
-    wide-requires
-    add-at
-    add-at-2
-    add-i
-    loop-less
-    loop-again
-    returns-2)
+    tie.close (tie.spec Inv-loop μ-loop loop-holds fits-requires returns element-write-marks record-end-requires add-i loop-less loop-again returns-2)

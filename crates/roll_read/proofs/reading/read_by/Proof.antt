@@ -26,31 +26,24 @@ returns-2 c =
     let R = not-false _ (c .before .before .before .if1 .left) in
     read-record (a .ok) (a .b .now) (a .at) R (sym (c .before .before .starts-at .ensures) ∙ c .before .if2 .taken) (c .record-at .ensures)
 
-sub-four : tie.Need-sub-four
-sub-four c =
-    let a = c .before .before .before .before .args in
-    let R = not-false _ (c .before .before .if1 .left) in
-    omega (arith, framed-sized (a .b .now) (c .before .before .before .before .pre R) .whole)
-
-four-requires : tie.Need-four-requires
-four-requires c κs =
-    let a = c .before .before .before .before .args in
-    let R = not-false _ (c .before .before .if1 .left) in
-    omega (arith, framed-sized (a .b .now) (c .before .before .before .before .pre R) .whole)
-
 returns-3 : tie.Need-returns-3
 returns-3 c =
     let a = c .before .before .before .before .before .before .args in
     let R = not-false _ (c .before .before .before .before .if1 .left) in
-    read-end (a .ok) (a .b .now) (a .at) R (sym (c .before .before .before .starts-at .ensures) ∙ c .before .before .if2 .left) (c .if3 .taken ∙ its-trailer (a .b .now) (c .before .four .ensures .0))
+    read-end (a .ok) (a .b .now) (a .at) R (sym (c .before .before .before .starts-at .ensures) ∙ c .before .before .if2 .left) (c .if3 .taken ∙ its-trailer (a .b .now) (c .before .trailer-in .ensures .0))
 
 returns-4 : tie.Need-returns-4
 returns-4 c =
     let a = c .before .before .before .before .before .before .args in
     let R = not-false _ (c .before .before .before .before .if1 .left) in
-    read-none (a .ok) (a .b .now) (a .at) R (sym (c .before .before .before .starts-at .ensures) ∙ c .before .before .if2 .left) (λ q. c .if3 .left (q ∙ sym (its-trailer (a .b .now) (c .before .four .ensures .0))))
+    read-none (a .ok) (a .b .now) (a .at) R (sym (c .before .before .before .starts-at .ensures) ∙ c .before .before .if2 .left) (λ q. c .if3 .left (q ∙ sym (its-trailer (a .b .now) (c .before .trailer-in .ensures .0))))
+
+trailer-in-requires : tie.Need-trailer-in-requires
+trailer-in-requires c κs =
+    let a = c .before .before .before .before .args in
+    let R = not-false _ (c .before .before .if1 .left) in
+    (omega (arith, framed-sized (a .b .now) (c .before .before .before .before .pre R) .whole), omega arith)
 
 pub read-by-spec : {M : Type 1} → statement M
 read-by-spec =
-    tie.close
-    (tie.spec returns starts-at-requires record-at-requires returns-2 sub-four four-requires returns-3 returns-4)
+    tie.close (tie.spec returns starts-at-requires record-at-requires returns-2 trailer-in-requires returns-3 returns-4)

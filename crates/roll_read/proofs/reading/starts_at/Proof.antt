@@ -21,12 +21,6 @@ Inv-loop b at n p₀ i₀ p i = (i ≤ n) × (p ≡ start b i) × ((k : ℕ) →
 abbrev μ-loop : tie.MeasureT-loop
 μ-loop b at n p₀ i₀ p i = n - i
 
-sub-four : tie.Need-sub-four Inv-loop μ-loop
-sub-four c = omega (arith, framed-eight (c .before .args .b .now) (c .before .pre))
-
-four-requires : tie.Need-four-requires Inv-loop μ-loop
-four-requires c κs = omega (arith, framed-eight (c .before .args .b .now) (c .before .pre))
-
 loop-holds : tie.Need-loop-holds Inv-loop μ-loop
 loop-holds c = (omega arith, start-first (c .before .before .args .b .now), below-none _)
 
@@ -36,51 +30,24 @@ returns c =
     let s = c .before .before .before .before .before in
     let b = s .args .b .now in
     let l = c .before .before .loop in
-    let e = count-is b (c .before .before .before .four .ensures .0) in
+    let e = count-is b (c .before .before .before .count-in .ensures .0) in
     let met : start b (l .i) ≡ s .args .at = omega (arith, l .inv .1, c .if1 .taken) in
     one-passed (countOf b) (λ k. eqb (start b k) (s .args .at)) (l .i) (subst (λ n. l .i < n) e (c .before .loop-test .taken)) (eq-eqb (start b (l .i)) (s .args .at) met)
 
-add-wide : tie.Need-add-wide Inv-loop μ-loop
-add-wide c =
+record-end-requires : tie.Need-record-end-requires Inv-loop μ-loop
+record-end-requires c κs =
     let s = c .before .before .before .before .before in
     let l = c .before .before .loop in
-    let h = inside (s .args .b .now) (s .pre) (l .i) (l .p) (subst (λ n. l .i < n) (count-is (s .args .b .now) (c .before .before .before .four .ensures .0)) (c .before .loop-test .taken)) (l .inv .1) in
-    omega arith
-
-shared-slice-read-wide : tie.Need-shared-slice-read-wide Inv-loop μ-loop
-shared-slice-read-wide c =
-    let s = c .before .before .before .before .before .before in
-    let l = c .before .before .before .loop in
-    let h = inside (s .args .b .now) (s .pre) (l .i) (l .p) (subst (λ n. l .i < n) (count-is (s .args .b .now) (c .before .before .before .before .four .ensures .0)) (c .before .before .loop-test .taken)) (l .inv .1) in
-    omega arith
-
-wide-requires : tie.Need-wide-requires Inv-loop μ-loop
-wide-requires c κs = search needs
-
-add-p : tie.Need-add-p Inv-loop μ-loop
-add-p c = search needs
-
-add-p-2 : tie.Need-add-p-2 Inv-loop μ-loop
-add-p-2 c =
-    let s = c .before .before .before .before .before .before .before in
-    let l = c .before .before .before .before .loop in
-    let h = inside (s .args .b .now) (s .pre) (l .i) (l .p) (subst (λ n. l .i < n) (count-is (s .args .b .now) (c .before .before .before .before .before .four .ensures .0)) (c .before .before .before .loop-test .taken)) (l .inv .1) in
-    omega arith
-
-add-i : tie.Need-add-i Inv-loop μ-loop
-add-i c = search needs
-
-loop-less : tie.Need-loop-less Inv-loop μ-loop
-loop-less c = search needs
+    inside (s .args .b .now) (s .pre) (l .i) (l .p) (subst (λ n. l .i < n) (count-is (s .args .b .now) (c .before .before .before .count-in .ensures .0)) (c .before .loop-test .taken)) (l .inv .1) .1
 
 loop-again : tie.Need-loop-again Inv-loop μ-loop
 loop-again c =
-    let s = c .before .before .before .before .before .before .before in
+    let s = c .before .before .before .before .before .before in
     let b = s .args .b .now in
-    let l = c .before .before .before .before .loop in (
+    let l = c .before .before .before .loop in (
       omega arith,
-      next-start b (l .i) (l .p) (c .wide .result) (l .inv .1) (c .wide .ensures .0),
-      below-more (λ k. eqb (start b k) (s .args .at) ≡ false) (l .i) (l .inv .2) (ne-eqb (start b (l .i)) (s .args .at) (λ e. c .before .before .if1 .left (l .inv .1 ∙ e))),
+      next-start b (l .i) (l .p) (c .record-end .result) (l .inv .1) (c .record-end .ensures),
+      below-more (λ k. eqb (start b k) (s .args .at) ≡ false) (l .i) (l .inv .2) (ne-eqb (start b (l .i)) (s .args .at) (λ e. c .before .if1 .left (l .inv .1 ∙ e))),
     )
 
 returns-2 : tie.Need-returns-2 Inv-loop μ-loop
@@ -89,25 +56,19 @@ returns-2 c =
     let s = c .before .before .before .before in
     let b = s .args .b .now in
     let l = c .before .loop in
-    let e = count-is b (c .before .before .four .ensures .0) in
+    let e = count-is b (c .before .before .count-in .ensures .0) in
     all-failed (countOf b) (λ k. eqb (start b k) (s .args .at)) (λ k h. l .inv .2 k (omega arith))
+
+count-in-requires : tie.Need-count-in-requires Inv-loop μ-loop
+count-in-requires c κs =
+    (framed-eight (c .before .args .b .now) (c .before .pre), omega arith)
+
+add-i : tie.Need-add-i Inv-loop μ-loop
+add-i c = search needs
+
+loop-less : tie.Need-loop-less Inv-loop μ-loop
+loop-less c = search needs
 
 pub starts-at-spec : {M : Type 1} → statement M
 starts-at-spec =
-    tie.close
-    (tie.spec
-    Inv-loop
-    μ-loop
-    sub-four
-    four-requires
-    loop-holds
-    returns
-    add-wide
-    shared-slice-read-wide
-    wide-requires
-    add-p
-    add-p-2
-    add-i
-    loop-less
-    loop-again
-    returns-2)
+    tie.close (tie.spec Inv-loop μ-loop count-in-requires loop-holds returns record-end-requires add-i loop-less loop-again returns-2)
