@@ -54,7 +54,7 @@ fn stand_ins(there: &[String]) -> String {
 
 fn main() {
     let out = PathBuf::from(env::var("OUT_DIR").unwrap());
-    let originals = name_originals(&folder("GULLYFORK_PHONORS", "../../shared/docs/src/src"));
+    let originals = name_originals(&folder("GULLYFORK_PHONORS", "../../phonors/src"));
     fs::write(out.join("originals.rs"), originals).unwrap();
 
     let library = folder("GULLYFORK_STATICLIB", "../target/staticlib").join("libcapi.a");

@@ -19,10 +19,9 @@ fn run(program: &str, input: &[u8]) -> Vec<u8> {
 
 /// The bytes that mean something: not the zeros that fill up a page.
 fn meant(input: &[u8]) -> Vec<usize> {
-    let pages = input.len().div_ceil(PAGE);
     let mut bytes = vec![];
     for (k, page) in input.chunks(PAGE).enumerate() {
-        let end = if k + 1 == pages { page.len() } else { page.iter().rposition(|b| *b != 0).map_or(0, |at| at + 1) };
+        let end = page.iter().rposition(|b| *b != 0).map_or(0, |at| at + 1);
         bytes.extend(k * PAGE..k * PAGE + end);
     }
     bytes

@@ -64,7 +64,7 @@ mod wild;
 #[global_allocator]
 static HEAP: memory::Counting = memory::Counting;
 
-const USAGE: &str = "oracle record common|shifts|matching|second|drift|compact|third|fourth|true|distribute|deltas|roll|retire|row_sums|finding|read_out|audit FOLDER
+const USAGE: &str = "oracle record cells|sets|maps|reports|roll FOLDER
 oracle flip PROGRAM FOLDER COUNT
 oracle compare all|limits|CALL [SEED [COUNT]]
 oracle bench all|common|cells|fc2|fc3|fc4|tables|transposes|swaps|drift|finding|audits [SECONDS]";
@@ -72,31 +72,33 @@ oracle bench all|common|cells|fc2|fc3|fc4|tables|transposes|swaps|drift|finding|
 /// Some(true) if all went well, Some(false) if the port differs, None if the words are no command.
 type Outcome = Option<bool>;
 
+/// What crates/replay_NAME reads, part after part.
+fn parts(name: &str) -> Option<Vec<record::Replay>> {
+    Some(match name {
+        "cells" => vec![floats::replay(), shift_records::replay(), matching::replay(), finding_records::replay()],
+        "sets" => vec![
+            fc2_records::second(),
+            fc2_records::compact_second(),
+            fc_records::replay(3),
+            fc_records::replay(4),
+            fc_records::true_replay(),
+            row_sums_records::replay(),
+        ],
+        "maps" => vec![slab_records::distribute(), slab_records::deltas(), read_out_records::replay()],
+        "reports" => vec![audit_records::replay(), fc2_records::drifts()],
+        "roll" => vec![roll_records::replay(), retire_records::replay()],
+        _ => return None,
+    })
+}
+
 /// Writes what the replay program NAME reads, FOLDER/stdin, and what it has to write, FOLDER/stdout.
 fn record(name: &str, folder: &Path) -> Outcome {
-    let replay = match name {
-        "common" => floats::replay(),
-        "shifts" => shift_records::replay(),
-        "matching" => matching::replay(),
-        "second" => fc2_records::second(),
-        "drift" => fc2_records::drifts(),
-        "compact" => fc2_records::compact_second(),
-        "third" => fc_records::replay(3),
-        "fourth" => fc_records::replay(4),
-        "true" => fc_records::true_replay(),
-        "distribute" => slab_records::distribute(),
-        "deltas" => slab_records::deltas(),
-        "roll" => roll_records::replay(),
-        "retire" => retire_records::replay(),
-        "row_sums" => row_sums_records::replay(),
-        "finding" => finding_records::replay(),
-        "read_out" => read_out_records::replay(),
-        "audit" => audit_records::replay(),
-        _ => return None,
-    };
-    fs::write(folder.join("stdin"), record::pages(&replay.records)).expect("stdin can be written");
-    fs::write(folder.join("stdout"), &replay.stdout).expect("stdout can be written");
-    print!("{}", replay.stdout);
+    let parts = parts(name)?;
+    let stdin: Vec<u8> = parts.iter().flat_map(|part| part.file()).collect();
+    let stdout: String = parts.iter().map(|part| part.stdout.as_str()).collect();
+    fs::write(folder.join("stdin"), stdin).expect("stdin can be written");
+    fs::write(folder.join("stdout"), &stdout).expect("stdout can be written");
+    print!("{stdout}");
     Some(true)
 }
 

@@ -10,17 +10,25 @@ pub fn counted(words: Vec<u64>) -> Record {
     record
 }
 
-/// What a replay program reads, and what it has to write.
+/// A part of what a replay program reads, and what it has to write of it.
 pub struct Replay {
     pub records: Vec<Record>,
     pub stdout: String,
+    pages: usize,
 }
 
 impl Replay {
-    /// For a program that reads at most so many pages.
-    pub fn new(records: Vec<Record>, stdout: String, most: usize) -> Replay {
-        assert!(pages(&records).len() <= most * PAGE, "more than the program reads");
-        Replay { records, stdout }
+    /// For a part of which the program reads so many pages.
+    pub fn new(records: Vec<Record>, stdout: String, pages: usize) -> Replay {
+        Replay { records, stdout, pages }
+    }
+
+    /// The pages of the part, all of them whole: the next part begins after them.
+    pub fn file(&self) -> Vec<u8> {
+        let mut file = pages(&self.records);
+        assert!(file.len() <= self.pages * PAGE, "more than the program reads");
+        file.resize(self.pages * PAGE, 0);
+        file
     }
 }
 
@@ -59,7 +67,7 @@ pub fn float_word(f: f64) -> u64 {
 }
 
 /// The records as pages: a page's first word is how many records it has, and no record crosses pages.
-/// All pages but the last are filled up with zeros.
+/// All pages but the last are filled up with zeros; `Replay::file` fills that one.
 pub fn pages(records: &[Record]) -> Vec<u8> {
     let mut file = vec![];
     let mut page: Vec<u64> = vec![0];

@@ -1,4 +1,4 @@
-//! The numbers of a set that the recorder and the replay programs both make from a seed (crate records, src/values.rt),
+//! The numbers of a set that the recorder and the replay programs both make from a seed (crate replays, src/values.rt),
 //! and the checksum over a slice.
 use crate::record::float_word;
 

@@ -10,25 +10,25 @@ use lib.Ieee.{Float, nan, binary64, toBits}
 use Rattle.lists.specs.Tests.{some}
 use Rattle.tables.specs.declared.Answer.{Answer}
 use Rattle.tables.specs.declared.Answer.the-variants.{Done, Refused as RefusedBy}
-use Rattle.tables.specs.declared.Refusal.the-variants.{CountAboveLimit, WrongLength}
+use Rattle.tables.specs.declared.Refusal.the-variants.{WrongLength}
 use Rattle.tables.specs.Answers.{refuseIf, refusalNumber}
-use Rattle.tables.specs.Conditions.{anyAbove, anyWrong}
-use Rattle.tables.specs.Lengths.{setLength}
+use Rattle.tables.specs.Conditions.{anyWrong}
+use Rattle.tables.specs.Full.{judgedFull}
 use Rattle.tables.specs.Shifts.{Shifts}
-use Rattle.tables.specs.Compact.{ShiftTables, shiftsOf, judgedTables}
-use Rattle.places.specs.Places.{opened, place, readOut, size, taken}
-use Rattle.places.specs.Whole.{whole}
+use Rattle.tables.specs.Compact.{ShiftTables, shiftsOf, judgedSet}
+use Rattle.places.specs.Places.{legsAt, place, readOut, size, permuteLegs}
+use Rattle.places.specs.WholeLaws.{fullShifts}
 use Rattle.audits.specs.declared.Difference.{Difference}
 use Rattle.audits.specs.declared.Audit.{Audit}
 use Rattle.audits.specs.declared.Audit.the-variants.{Alike, Unlike, Refused}
-use Rattle.audits.specs.Search.{search}
+use Rattle.lists.specs.Lowest.{lowest}
 
 -- ---- the cases: a number for each
 
-abbrev pub numberOf : Audit → ℕ
-numberOf Alike = 73
-numberOf (Unlike d) = 74
-numberOf (Refused r) = refusalNumber r
+abbrev pub auditNumber : Audit → ℕ
+auditNumber Alike = 73
+auditNumber (Unlike d) = 74
+auditNumber (Refused r) = refusalNumber r
 
 -- the guard's refusal, or what was found
 abbrev pub foundAfter : Answer → Audit → Audit
@@ -48,7 +48,7 @@ abbrev pub differAt : List Float → List Float → ℕ → Bool
 differAt a b k = differ (getD a k nan) (getD b k nan)
 
 abbrev pub firstDifference : List Float → List Float → ℕ
-firstDifference a b = search (length a) (differAt a b)
+firstDifference a b = lowest (length a) (differAt a b)
 
 -- the first place at which two sets differ, with the number of each; sets of other lengths are refused
 unfoldable pub sameSet : List Float → List Float → Audit
@@ -65,7 +65,7 @@ module _ (S : Shifts) (m : ℕ) (os : List (List ℕ)) (set : List Float) where
   order i = getD os i []
 
   unfoldable pub reads : ℕ → List ℕ → Float
-  reads q σ = readOut nan S set (taken σ (opened S (place S m q)))
+  reads q σ = readOut nan S set (permuteLegs σ (legsAt S (place S m q)))
 
   -- permutation i reads another number than stands at q
   unfoldable pub readsAnother : ℕ → ℕ → Bool
@@ -77,10 +77,10 @@ module _ (S : Shifts) (m : ℕ) (os : List (List ℕ)) (set : List Float) where
 
   -- the first place at which one does, in the order of the set, and the first that does there
   unfoldable pub firstPlace : ℕ
-  firstPlace = search (size S m) unlike
+  firstPlace = lowest (size S m) unlike
 
   unfoldable pub firstOrder : ℕ → ℕ
-  firstOrder q = search (length os) (readsAnother q)
+  firstOrder q = lowest (length os) (readsAnother q)
 
   abbrev pub differenceAt : ℕ → Difference
   differenceAt q = record { place = q; order = firstOrder q; here = getD set q nan; there = reads q (order (firstOrder q)) }
@@ -90,18 +90,10 @@ module _ (S : Shifts) (m : ℕ) (os : List (List ℕ)) (set : List Float) where
 
 -- ---- the calls
 
--- refusals 1, 2, 3 and 6 of a compact set that is only read
-unfoldable pub judgedSet : ℕ → ℕ → ℕ → ShiftTables → Answer
-judgedSet limit m len T = judgedTables limit ((len, setLength (T .nPatom) (T .nSatom) m) ∷ []) T
-
--- refusals 1 and 2 of a full set
-unfoldable pub judgedWhole : ℕ → ℕ → ℕ → ℕ → Answer
-judgedWhole limit m len n = refuseIf (anyAbove limit (n ∷ [])) CountAboveLimit (refuseIf (anyWrong ((len, setLength n n m) ∷ [])) WrongLength Done)
-
 -- the audit of a compact set
 unfoldable pub auditCompact : ℕ → ℕ → List (List ℕ) → List Float → ShiftTables → Audit
-auditCompact limit m os set T = foundAfter (judgedSet limit m (length set) T) (audited (shiftsOf T) m os set)
+auditCompact limit m os set T = foundAfter (judgedSet limit m (length set) [] T) (audited (shiftsOf T) m os set)
 
 -- and of a full set, in which every atom is its own representative
 unfoldable pub auditFull : ℕ → ℕ → List (List ℕ) → List Float → ℕ → Audit
-auditFull limit m os set n = foundAfter (judgedWhole limit m (length set) n) (audited (whole n) m os set)
+auditFull limit m os set n = foundAfter (judgedFull limit m (length set) [] n) (audited (fullShifts n) m os set)

@@ -14,7 +14,7 @@ use Rattle.lists.specs.Tests.{some, some-at, refuted, split}
 use Rattle.lists.specs.Elements.{straight, getD-map}
 use Rattle.lists.specs.Cases.{lt-or-le}
 use Rattle.lists.specs.Tab.{tab, length-tab, getD-tab}
-use Rattle.lists.specs.Digits.{room, in-row, quotient, remainder}
+use Rattle.lists.specs.Digits.{timesPower, in-row, quotient, remainder}
 use Rattle.tables.specs.Shifts.{Shifts, Laws}
 use Rattle.places.specs.Places.{size, inBlock}
 use Rattle.places.specs.Permutations.{Permutation, Group}
@@ -25,11 +25,11 @@ use Rattle.orbits.specs.Groups.{groupBlocks}
 use Rattle.orbits.proofs.Scatter.{permuted-straight}
 use Rattle.audits.specs.declared.Difference.{Difference}
 use Rattle.audits.specs.declared.Audit.the-variants.{Alike, Unlike}
-use Rattle.audits.specs.Search.{search, First, search-is, is-search, search-same}
+use Rattle.lists.specs.Lowest.{lowest, Lowest, lowest-is, is-lowest, lowest-same}
 use Rattle.audits.specs.Audit.{differ, reads, readsAnother, unlike, firstPlace, firstOrder, differenceAt, audited}
 use Rattle.audits.specs.Demand.{index-in, none-alike}
-use Rattle.audits.specs.Places.{reads-block, earlier-tells, own-block}
-use Rattle.audits.specs.Kernel.{there, another, positionTo, firstPosition, seenBefore, looked, differenceIn, Fits, order-below}
+use Rattle.audits.specs.PlaceLaws.{reads-block, earlier-tells, own-block}
+use Rattle.audits.specs.Kernel.{there, another, positionTo, firstPosition, seenBefore, looked, differenceIn, BlocksFit, order-below}
 
 -- the permutations of m + 1 legs, the first of which changes nothing, and their table of positions
 pub record Orders (m : ℕ) (os : List (List ℕ)) (t : List ℕ) : Type 0 where
@@ -94,7 +94,7 @@ module _ (S : Shifts) (L : Laws S) (m : ℕ) (os : List (List ℕ)) (t : List �
   c = inBlock m
 
   abbrev B : ℕ
-  B = room (S .nSatom) m (S .nPatom)
+  B = timesPower (S .nSatom) m (S .nPatom)
 
   each : (i : ℕ) → i < length os → Permutation m (getD os i [])
   each i h = O .group .each (getD os i []) (index-in [] os i h)
@@ -121,7 +121,7 @@ module _ (S : Shifts) (L : Laws S) (m : ℕ) (os : List (List ℕ)) (t : List �
         ap (λ n. some n (another c bs t set b k)) count-bs
         ∙ some-same (length os) (another c bs t set b k) (readsAnother S m os set (b * c + k)) (λ i hi. another-is i k hi hk)
 
-    pub fits-group : Fits (length set) c b bs t
+    pub fits-group : BlocksFit (length set) c b bs t
     fits-group = record {
       width = O .width;
       few = rw count-bs (O .few);
@@ -159,8 +159,8 @@ module _ (S : Shifts) (L : Laws S) (m : ℕ) (os : List (List ℕ)) (t : List �
             earlier-tells S L m os (O .group) set b j hb hj (getD os i []) (index-in [] os i hi′) d A
         by j hj (inr s) =
             let f = positionTo c bs t set b (length bs) in
-            let p = search-is c f in
-            let n : k ≡ search c f = e ∙ ap (λ x. cond x c (search c f)) s in
+            let p = lowest-is c f in
+            let n : k ≡ lowest c f = e ∙ ap (λ x. cond x c (lowest c f)) s in
             sym (unlike-is j hj) ∙ p .before j (omega (arith, n))
 
     -- something was found at position k
@@ -169,11 +169,11 @@ module _ (S : Shifts) (L : Laws S) (m : ℕ) (os : List (List ℕ)) (t : List �
       unfolding looked
       unseen = refuted (seenBefore bs b) (λ s. let n : k ≡ c = e ∙ ap (λ x. cond x c (firstPosition c bs t set b)) s in absurd (omega (arith, n)))
 
-      found-first : First c (positionTo c bs t set b (length bs)) k
+      found-first : Lowest c (positionTo c bs t set b (length bs)) k
       unfolding looked
       found-first =
           let f = positionTo c bs t set b (length bs) in
-          subst (First c f) (sym (e ∙ ap (λ x. cond x c (search c f)) unseen)) (search-is c f)
+          subst (Lowest c f) (sym (e ∙ ap (λ x. cond x c (lowest c f)) unseen)) (lowest-is c f)
 
       pub found-some : some (length bs) (another c bs t set b k) ≡ true
       found-some = found-first .passes h
@@ -182,7 +182,7 @@ module _ (S : Shifts) (L : Laws S) (m : ℕ) (os : List (List ℕ)) (t : List �
         at-place : b * c + k ≡ firstPlace S m os set
         unfolding firstPlace
         at-place =
-            is-search (size S m) (unlike S m os set) (b * c + k)
+            is-lowest (size S m) (unlike S m os set) (b * c + k)
             (record {
               within = let l = in-size in omega arith;
               passes = λ l. sym (unlike-is k h) ∙ found-some;
@@ -196,16 +196,16 @@ module _ (S : Shifts) (L : Laws S) (m : ℕ) (os : List (List ℕ)) (t : List �
             by q l (inl g) = A q g
             by q l (inr (j, hj, g)) = ap (unlike S m os set) g ∙ sym (unlike-is j hj) ∙ found-first .before j (omega (arith, g))
 
-        orders-are : search (length bs) (another c bs t set b k) ≡ firstOrder S m os set (b * c + k)
+        orders-are : lowest (length bs) (another c bs t set b k) ≡ firstOrder S m os set (b * c + k)
         unfolding firstOrder
         orders-are =
-            ap (λ n. search n (another c bs t set b k)) count-bs
-            ∙ search-same (length os) (another c bs t set b k) (readsAnother S m os set (b * c + k)) (λ i hi. another-is i k hi h)
+            ap (λ n. lowest n (another c bs t set b k)) count-bs
+            ∙ lowest-same (length os) (another c bs t set b k) (readsAnother S m os set (b * c + k)) (λ i hi. another-is i k hi h)
 
         difference-is : differenceIn c bs t set b k ≡ differenceAt S m os set (b * c + k)
         unfolding differenceIn
         difference-is =
-            let i = search (length bs) (another c bs t set b k) in
+            let i = lowest (length bs) (another c bs t set b k) in
             let hi : i < length os = subst (λ (n : ℕ). i < n) count-bs (order-below (another c bs t set b k) found-some refl) in
             ap₂ (made (b * c + k) (getD set (b * c + k) nan)) orders-are
             (there-is i k hi h ∙ ap (λ o. reads S m os set (b * c + k) (getD os o [])) orders-are)
@@ -228,9 +228,9 @@ module _ (S : Shifts) (L : Laws S) (m : ℕ) (os : List (List ℕ)) (t : List �
 -- ---- the same, with the width of a block as the program has it
 
 module _ (S : Shifts) (L : Laws S) (m : ℕ) (os : List (List ℕ)) (t : List ℕ) (O : Orders m os t) (set : List Float) (ls : length set ≡ size S m) (w : ℕ) (ew : inBlock m ≡ w)
-    (b : ℕ) (hb : b < room (S .nSatom) m (S .nPatom)) (bs : List ℕ) (eb : bs ≡ groupBlocks S m os b) where
-  pub fits-w : Fits (length set) w b bs t
-  fits-w = subst (λ (c : ℕ). Fits (length set) c b bs t) ew (fits-group S L m os t O set ls b hb bs eb)
+    (b : ℕ) (hb : b < timesPower (S .nSatom) m (S .nPatom)) (bs : List ℕ) (eb : bs ≡ groupBlocks S m os b) where
+  pub fits-w : BlocksFit (length set) w b bs t
+  fits-w = subst (λ (c : ℕ). BlocksFit (length set) c b bs t) ew (fits-group S L m os t O set ls b hb bs eb)
 
   module _ (k : ℕ) (e : k ≡ looked w bs t set b) where
     same-look : k ≡ looked (inBlock m) bs t set b

@@ -15,12 +15,12 @@ use borrow.Author.Tests.{eqb-true, eq-eqb, not-false, le-ltb, ltb-false}
 use Rattle.lists.specs.Tests.{some, some-at, some-of, refuted, not-both}
 use Rattle.lists.specs.Members.{In}
 use Rattle.tables.specs.Shifts.{Shifts, Laws}
-use Rattle.places.specs.Places.{Leg, Legs, stored, opened, address, place, at, readOut, size, stored-place, stored-opened, opened-legs, place-place, address-place, place-address, address-below}
-use Rattle.places.specs.Permutations.{taken, Group}
+use Rattle.places.specs.Places.{Leg, Legs, stored, legsAt, address, place, at, readOut, size, stored-place, stored-opened, opened-legs, place-place, address-place, place-address, address-below}
+use Rattle.places.specs.Permutations.{permuteLegs, Group}
 use Rattle.places.specs.Moves.{source, source-stored}
 use Rattle.audits.specs.declared.Audit.{Audit}
 use Rattle.audits.specs.declared.Audit.the-variants.{Alike, Unlike, Refused}
-use Rattle.audits.specs.Search.{search, search-is, is-search}
+use Rattle.lists.specs.Lowest.{lowest, lowest-is, is-lowest}
 use Rattle.audits.specs.Audit.{differ, reads, readsAnother, unlike, firstPlace, audited, differenceAt}
 
 -- ---- numbers with the same bits
@@ -83,52 +83,52 @@ module _ (S : Shifts) (m : ℕ) (os : List (List ℕ)) (set : List Float) where
   unfolding audited firstPlace
   none-alike h =
       let f = unlike S m os set in
-      let e : size S m ≡ search (size S m) f = is-search (size S m) f (size S m) (record { within = omega arith; passes = λ l. absurd (omega arith); before = h }) in
-      let l : ltb (search (size S m) f) (size S m) ≡ false = le-ltb (search (size S m) f) (size S m) (omega (arith, e)) in
-      ap (λ b. cond b (Unlike (differenceAt S m os set (search (size S m) f))) Alike) l
+      let e : size S m ≡ lowest (size S m) f = is-lowest (size S m) f (size S m) (record { within = omega arith; passes = λ l. absurd (omega arith); before = h }) in
+      let l : ltb (lowest (size S m) f) (size S m) ≡ false = le-ltb (lowest (size S m) f) (size S m) (omega (arith, e)) in
+      ap (λ b. cond b (Unlike (differenceAt S m os set (lowest (size S m) f))) Alike) l
 
   pub alike-none : audited S m os set ≡ Alike → (q : ℕ) → q < size S m → unlike S m os set q ≡ false
   unfolding audited firstPlace
   alike-none e q h =
       let f = unlike S m os set in
-      let p = search-is (size S m) f in
-      let l : ltb (search (size S m) f) (size S m) ≡ false = refuted (ltb (search (size S m) f) (size S m)) (λ t.
-      false≢true (sym (ap is-alike (ap (λ b. cond b (Unlike (differenceAt S m os set (search (size S m) f))) Alike) t)) ∙ ap is-alike e)) in
-      let w = ltb-false (search (size S m) f) (size S m) l in
+      let p = lowest-is (size S m) f in
+      let l : ltb (lowest (size S m) f) (size S m) ≡ false = refuted (ltb (lowest (size S m) f) (size S m)) (λ t.
+      false≢true (sym (ap is-alike (ap (λ b. cond b (Unlike (differenceAt S m os set (lowest (size S m) f))) Alike) t)) ∙ ap is-alike e)) in
+      let w = ltb-false (lowest (size S m) f) (size S m) l in
       p .before q (omega arith)
 
 -- ---- the theorem
 
 -- all permutations of any legs read out the same number: what `laws` specs/Symmetrized says of a symmetrized set
 abbrev pub SameReadOuts : Shifts → ℕ → List (List ℕ) → List Float → Type 0
-SameReadOuts S m os set = (σ : List ℕ) (xs : List Leg) → In σ os → Legs S m xs → readOut nan S set (taken σ xs) ≡ readOut nan S set xs
+SameReadOuts S m os set = (σ : List ℕ) (xs : List Leg) → In σ os → Legs S m xs → readOut nan S set (permuteLegs σ xs) ≡ readOut nan S set xs
 
 module _ (S : Shifts) (L : Laws S) (m : ℕ) (os : List (List ℕ)) (G : Group m os) (set : List Float) where
   -- the legs at a place read out the number that stands there
-  pub own-number : (q : ℕ) → q < size S m → readOut nan S set (opened S (place S m q)) ≡ getD set q nan
+  pub own-number : (q : ℕ) → q < size S m → readOut nan S set (legsAt S (place S m q)) ≡ getD set q nan
   unfolding readOut at
   own-number q h =
       ap (λ r. getD set r nan) (ap (address S) (stored-opened S L m (place S m q) (place-place S m q h)) ∙ address-place S m q h)
 
   -- the number for the legs stands at one place, and the permutations of the legs there read what those of the legs read
-  pub reads-legs : (σ : List ℕ) (xs : List Leg) → In σ os → Legs S m xs → reads S m os set (address S (stored S xs)) σ ≡ readOut nan S set (taken σ xs)
+  pub reads-legs : (σ : List ℕ) (xs : List Leg) → In σ os → Legs S m xs → reads S m os set (address S (stored S xs)) σ ≡ readOut nan S set (permuteLegs σ xs)
   unfolding reads readOut at source
   reads-legs σ xs s p =
       ap (λ r. getD set (address S r) nan)
-      (ap (λ ys. stored S (taken σ (opened S ys))) (place-address S m (stored S xs) (stored-place S L m xs p)) ∙ source-stored S L m σ xs (G .each σ s) p)
+      (ap (λ ys. stored S (permuteLegs σ (legsAt S ys))) (place-address S m (stored S xs) (stored-place S L m xs p)) ∙ source-stored S L m σ xs (G .each σ s) p)
 
   pub demanded : Doubles set → audited S m os set ≡ Alike → SameReadOuts S m os set
   unfolding readOut at
   demanded d e σ xs s p =
       let q = address S (stored S xs) in
       let h = address-below S m (stored S xs) (stored-place S L m xs p) in
-      let w : toBits binary64 (getD set q nan) ≡ toBits binary64 (getD set (address S (stored S (taken σ xs))) nan) =
+      let w : toBits binary64 (getD set q nan) ≡ toBits binary64 (getD set (address S (stored S (permuteLegs σ xs))) nan) =
       alike-at S m os set q (alike-none S m os set e q h) σ s ∙ ap (toBits binary64) (reads-legs σ xs s p) in
-      sym (same-doubles (getD set q nan) (getD set (address S (stored S (taken σ xs))) nan) (d q) (d (address S (stored S (taken σ xs)))) w)
+      sym (same-doubles (getD set q nan) (getD set (address S (stored S (permuteLegs σ xs))) nan) (d q) (d (address S (stored S (permuteLegs σ xs)))) w)
 
   pub alike-of : SameReadOuts S m os set → audited S m os set ≡ Alike
   unfolding reads
   alike-of h =
       none-alike S m os set (λ q l.
       at-alike S m os set q (λ σ s.
-      ap (toBits binary64) (sym (own-number q l) ∙ sym (h σ (opened S (place S m q)) s (opened-legs S L m (place S m q) (place-place S m q l))))))
+      ap (toBits binary64) (sym (own-number q l) ∙ sym (h σ (legsAt S (place S m q)) s (opened-legs S L m (place S m q) (place-place S m q l))))))

@@ -1,15 +1,15 @@
 -- The guards of the audits, what is known of a set that passed one, and the tables of a full set. Assumes nothing.
-use mathlib.Core.Path.{_≡_, refl, sym, ap, ap₂, _∙_, subst}
+use mathlib.Core.Path.{_≡_, sym, ap, ap₂, _∙_, subst}
 use mathlib.Core.Bool.{Bool, false, not, _||_}
 use mathlib.Core.List.{List, [], _∷_, map}
-use Prim.Native.Nat.{ℕ, _+_, _*_, _-_, _/_, _^_, _≤_, _<_}
-use native.Mathlib.Nat.{le-trans, pow-zero, mul-one, mul-div-cancel}
+use Prim.Native.Nat.{ℕ, _+_, _*_, _-_, _/_, _≤_, _<_}
+use native.Mathlib.Nat.{le-trans, mul-div-cancel}
 use native.Mathlib.Omega.{arith}
 use lib.Dec.{eqb}
 use lib.IntN.{ℤ, pos}
 use lib.ListN.{length, take, drop, replicate, length-map, length-replicate, getD-replicate}
 use lib.Ieee.{Float}
-use borrow.Author.Tests.{eq-eqb, ne-eqb, lt-ltb, le-ltb}
+use borrow.Author.Tests.{lt-ltb}
 use Rattle.lists.specs.Tab.{tab, length-tab, getD-tab, is-tab, part-tab, tab-ext}
 use Rattle.lists.specs.Elements.{Below, straight, getD-map}
 use Rattle.tables.specs.declared.Answer.{Answer}
@@ -17,39 +17,40 @@ use Rattle.tables.specs.declared.Answer.the-variants.{Done, Refused as RefusedB
 use Rattle.tables.specs.declared.Refusal.{Refusal}
 use Rattle.tables.specs.declared.Refusal.the-variants.{CountAboveLimit, WrongLength}
 use Rattle.tables.specs.Answers.{refuseIf, passed}
-use Rattle.tables.specs.Conditions.{anyAbove, anyWrong, nat, below, outOfRange, not-above, not-wrong, none-out, or-false}
+use Rattle.tables.specs.Conditions.{anyAbove, anyWrong, nat, below, outOfRange, none-out, or-false}
 use Rattle.tables.specs.Lengths.{setBlocks, setLength}
 use Rattle.tables.specs.Shifts.{Shifts, Laws}
-use Rattle.tables.specs.Compact.{ShiftTables, shiftTables, shiftsOf, Fit, tableLengths, judgedEntries, judgedTables, judgedCompact, done-tables}
-use Rattle.lists.specs.Digits.{room}
+use Rattle.tables.specs.Full.{judgedFull, done-full}
+use Rattle.tables.specs.Compact.{ShiftTables, shiftTables, shiftsOf, TablesFit, tableLengths, judgedEntries, judgedTables, judgedCompact, done-tables, judgedSet}
+use Rattle.lists.specs.Digits.{timesPower}
 use Rattle.places.specs.Places.{size, inBlock}
 use Rattle.blocks.specs.Block.{fits}
 use Rattle.orbits.specs.Transposed.{in-block-pos, size-blocks}
-use Rattle.places.specs.Whole.{whole, whole-laws}
+use Rattle.places.specs.WholeLaws.{fullShifts, whole-laws}
 use Rattle.places.specs.ReadOuts.{Tables, storedIn, stored-below}
 use Rattle.audits.specs.declared.Audit.{Audit}
 use Rattle.audits.specs.declared.Audit.the-variants.{Refused}
-use Rattle.audits.specs.Audit.{foundAfter, audited, judgedSet, judgedWhole, auditCompact, auditFull}
+use Rattle.audits.specs.Audit.{foundAfter, audited, auditCompact, auditFull}
 
 -- a set of rank m + 1 that passed
 pub record Ready (limit m len : ℕ) (T : ShiftTables) : Type 0 where
-  pub fit : Fit limit T
+  pub fit : TablesFit limit T
   pub rules : Laws (shiftsOf T)
   pub set-length : len ≡ size (shiftsOf T) m
 
 -- it has so many blocks
-pub block-count : (limit m len : ℕ) (T : ShiftTables) → Ready limit m len T → (w : ℕ) → inBlock m ≡ w → len / w ≡ room (T .nSatom) m (T .nPatom)
+pub block-count : (limit m len : ℕ) (T : ShiftTables) → Ready limit m len T → (w : ℕ) → inBlock m ≡ w → len / w ≡ timesPower (T .nSatom) m (T .nPatom)
 block-count limit m len T R w e =
-    ap (λ c. len / c) (sym e) ∙ ap (λ l. l / inBlock m) (R .set-length ∙ size-blocks (shiftsOf T) m) ∙ mul-div-cancel (room (T .nSatom) m (T .nPatom)) (in-block-pos m)
+    ap (λ c. len / c) (sym e) ∙ ap (λ l. l / inBlock m) (R .set-length ∙ size-blocks (shiftsOf T) m) ∙ mul-div-cancel (timesPower (T .nSatom) m (T .nPatom)) (in-block-pos m)
 
 -- and each lies inside it
-pub block-inside : (limit m len : ℕ) (T : ShiftTables) → Ready limit m len T → (w : ℕ) → inBlock m ≡ w → (b : ℕ) → b < room (T .nSatom) m (T .nPatom) → b * w + w ≤ len
+pub block-inside : (limit m len : ℕ) (T : ShiftTables) → Ready limit m len T → (w : ℕ) → inBlock m ≡ w → (b : ℕ) → b < timesPower (T .nSatom) m (T .nPatom) → b * w + w ≤ len
 block-inside limit m len T R w e b h =
-    subst (λ (w : ℕ). b * w + w ≤ len) e (rw (R .set-length, size-blocks (shiftsOf T) m) (fits (inBlock m) b (room (T .nSatom) m (T .nPatom)) h))
+    subst (λ (w : ℕ). b * w + w ≤ len) e (rw (R .set-length, size-blocks (shiftsOf T) m) (fits (inBlock m) b (timesPower (T .nSatom) m (T .nPatom)) h))
 
 -- the stored block of a first atom and others is one of the set of these legs
-pub stored-within : (limit : ℕ) (T : ShiftTables) → limit ≤ 1024 → Fit limit T → (i : ℕ) → i < T .nSatom → (js : List ℕ) → Below (T .nSatom) js
-    → storedIn (T .nSatom) (T .s2pp) (T .nsymList) (T .perms) i js < room (T .nSatom) (length js) (T .nPatom)
+pub stored-within : (limit : ℕ) (T : ShiftTables) → limit ≤ 1024 → TablesFit limit T → (i : ℕ) → i < T .nSatom → (js : List ℕ) → Below (T .nSatom) js
+    → storedIn (T .nSatom) (T .s2pp) (T .nsymList) (T .perms) i js < timesPower (T .nSatom) (length js) (T .nPatom)
 stored-within limit T h F i hi js b =
     let t : Tables (T .nSatom) (T .s2pp) (T .nsymList) (T .perms) = record {
       nPatom = T .nPatom;
@@ -64,17 +65,8 @@ stored-within limit T h F i hi js b =
 
 -- ---- compact sets
 
--- the guard of the calls with a work slice, where that has the stated length
-pub judged-set : (limit m len : ℕ) (T : ShiftTables) → judgedCompact limit m len 0 (T .nPatom) T ≡ judgedSet limit m len T
-unfolding judgedCompact judgedSet judgedTables setBlocks
-judged-set limit m len T =
-    let z : T .nPatom ≡ T .nPatom * T .nSatom ^ 0 = sym (ap (λ x. T .nPatom * x) (pow-zero (T .nSatom)) ∙ mul-one (T .nPatom)) in
-    ap (λ x. refuseIf (anyAbove limit (T .nSatom ∷ (T .nPatom ∷ (T .numTrans ∷ [])))) CountAboveLimit
-    (refuseIf ((not (eqb len (setLength (T .nPatom) (T .nSatom) m)) || (not x || false)) || anyWrong (tableLengths T)) WrongLength (judgedEntries T)))
-    (eq-eqb (T .nPatom) (T .nPatom * T .nSatom ^ 0) z)
-
-pub ready-compact : (limit m len : ℕ) (T : ShiftTables) → judgedSet limit m len T ≡ Done → Ready limit m len T
-unfolding judgedSet size
+pub ready-compact : (limit m len : ℕ) (T : ShiftTables) → judgedSet limit m len [] T ≡ Done → Ready limit m len T
+unfolding size
 ready-compact limit m len T e =
     let (l, F, L) = done-tables limit _ T e in
     record { fit = F; rules = L; set-length = l .0 }
@@ -83,8 +75,8 @@ ready-compact limit m len T e =
 chain : (x y t : Bool) (next : Answer) → x ≡ false → y ≡ false → t ≡ false → next ≡ Done → refuseIf x CountAboveLimit (refuseIf ((y || false) || t) WrongLength next) ≡ Done
 chain x y t next ex ey et en = rw (ex, ey, et) en
 
-pub set-done : (limit m len k lenWork : ℕ) (T : ShiftTables) → judgedCompact limit m len k lenWork T ≡ Done → judgedSet limit m len T ≡ Done
-unfolding judgedCompact judgedSet judgedTables
+pub set-done : (limit m len k lenWork : ℕ) (T : ShiftTables) → judgedCompact limit m len k lenWork T ≡ Done → judgedSet limit m len [] T ≡ Done
+unfolding judgedCompact judgedTables
 set-done limit m len k lenWork T e =
     let (q1, e1) = passed _ _ _ e in
     let (q2, e2) = passed _ _ _ e1 in
@@ -93,11 +85,11 @@ set-done limit m len k lenWork T e =
     chain (anyAbove limit (T .nSatom ∷ (T .nPatom ∷ (T .numTrans ∷ [])))) (not (eqb len (setLength (T .nPatom) (T .nSatom) m))) (anyWrong (tableLengths T)) (judgedEntries T) q1 y ht e2
 
 module _ (limit m : ℕ) (os : List (List ℕ)) (set : List Float) (T : ShiftTables) where
-  pub compact-refused : (r : Refusal) → judgedSet limit m (length set) T ≡ RefusedBy r → Refused r ≡ auditCompact limit m os set T
+  pub compact-refused : (r : Refusal) → judgedSet limit m (length set) [] T ≡ RefusedBy r → Refused r ≡ auditCompact limit m os set T
   unfolding auditCompact
   compact-refused r e = sym (ap (λ g. foundAfter g (audited (shiftsOf T) m os set)) e)
 
-  pub compact-done : judgedSet limit m (length set) T ≡ Done → {a : Audit} → a ≡ audited (shiftsOf T) m os set → a ≡ auditCompact limit m os set T
+  pub compact-done : judgedSet limit m (length set) [] T ≡ Done → {a : Audit} → a ≡ audited (shiftsOf T) m os set → a ≡ auditCompact limit m os set T
   unfolding auditCompact
   compact-done e p = p ∙ sym (ap (λ g. foundAfter g (audited (shiftsOf T) m os set)) e)
 
@@ -109,8 +101,8 @@ counted n = tab n (λ k. pos k)
 abbrev pub noughts : ℕ → List ℤ
 noughts n = replicate n (pos 0)
 
-abbrev pub wholeTables : ℕ → ShiftTables
-wholeTables n = shiftTables (counted n) (counted n) (noughts n) (counted n) n n 1
+abbrev pub fullTables : ℕ → ShiftTables
+fullTables n = shiftTables (counted n) (counted n) (noughts n) (counted n) n n 1
 
 -- the first n entries of longer ones
 pub part-counted : (N n : ℕ) → n ≤ N → take (n - 0) (drop 0 (counted N)) ≡ counted n
@@ -143,12 +135,12 @@ nat-noughts n =
 abbrev shiftsBy : ℕ → List ℕ → List ℕ → Shifts
 shiftsBy n l z = record { nSatom = n; nPatom = n; numTrans = 1; perms = l; p2s = l; s2pp = l; nsymList = z }
 
-pub whole-shifts : (n : ℕ) → shiftsOf (wholeTables n) ≡ whole n
-unfolding whole
+pub whole-shifts : (n : ℕ) → shiftsOf (fullTables n) ≡ fullShifts n
+unfolding fullShifts
 whole-shifts n =
     ap₂ (shiftsBy n) (nat-counted n) (nat-noughts n)
 
-whole-fit : (limit n : ℕ) → n ≤ limit → 1 ≤ limit → Fit limit (wholeTables n)
+whole-fit : (limit n : ℕ) → n ≤ limit → 1 ≤ limit → TablesFit limit (fullTables n)
 whole-fit limit n h l =
     let within : outOfRange n (counted n) ≡ false =
     none-out n (counted n) (λ i g.
@@ -169,41 +161,21 @@ whole-fit limit n h l =
       nsym-fit = record { has = length-replicate n (pos 0); within = nulls };
     }
 
-pub ready-whole : (limit m len n : ℕ) → 1 ≤ limit → judgedWhole limit m len n ≡ Done → Ready limit m len (wholeTables n)
-unfolding judgedWhole size
+pub ready-whole : (limit m len n : ℕ) → 1 ≤ limit → judgedFull limit m len [] n ≡ Done → Ready limit m len (fullTables n)
+unfolding size
 ready-whole limit m len n l e =
-    let (c, r) = passed (anyAbove limit (n ∷ [])) CountAboveLimit _ e in
-    let (w, _) = passed (anyWrong ((len, setLength n n m) ∷ [])) WrongLength Done r in
+    let (few, long, _) = done-full limit m len [] n e in
     record {
-      fit = whole-fit limit n (not-above limit (n ∷ []) c .0) l;
+      fit = whole-fit limit n few l;
       rules = subst Laws (sym (whole-shifts n)) (whole-laws n);
-      set-length = not-wrong ((len, setLength n n m) ∷ []) w .0;
+      set-length = long;
     }
 
-pub whole-few : (limit m len n : ℕ) → judgedWhole limit m len n ≡ Done → n ≤ limit
-unfolding judgedWhole
-whole-few limit m len n e = not-above limit (n ∷ []) (passed (anyAbove limit (n ∷ [])) CountAboveLimit _ e .0) .0
-
--- the guard step by step: x is the stated length as the program works it out
-module _ (limit m len n x : ℕ) where
-  pub whole-above : limit < n → RefusedBy CountAboveLimit ≡ judgedWhole limit m len n
-  unfolding judgedWhole
-  whole-above h = rw (lt-ltb limit n h) refl
-
-  module _ (h : n ≤ limit) (e : x ≡ setLength n n m) where
-    pub whole-wrong : (len ≡ x → ⊥) → RefusedBy WrongLength ≡ judgedWhole limit m len n
-    unfolding judgedWhole
-    whole-wrong d = rw (le-ltb limit n h, ne-eqb len (setLength n n m) (λ z. d (z ∙ sym e))) refl
-
-    pub whole-right : len ≡ x → Done ≡ judgedWhole limit m len n
-    unfolding judgedWhole
-    whole-right d = rw (le-ltb limit n h, eq-eqb len (setLength n n m) (d ∙ e)) refl
-
 module _ (limit m : ℕ) (os : List (List ℕ)) (set : List Float) (n : ℕ) where
-  pub whole-refused : (r : Refusal) → judgedWhole limit m (length set) n ≡ RefusedBy r → Refused r ≡ auditFull limit m os set n
+  pub whole-refused : (r : Refusal) → judgedFull limit m (length set) [] n ≡ RefusedBy r → Refused r ≡ auditFull limit m os set n
   unfolding auditFull
-  whole-refused r e = sym (ap (λ g. foundAfter g (audited (whole n) m os set)) e)
+  whole-refused r e = sym (ap (λ g. foundAfter g (audited (fullShifts n) m os set)) e)
 
-  pub whole-done : judgedWhole limit m (length set) n ≡ Done → {a : Audit} → a ≡ audited (shiftsOf (wholeTables n)) m os set → a ≡ auditFull limit m os set n
+  pub whole-done : judgedFull limit m (length set) [] n ≡ Done → {a : Audit} → a ≡ audited (shiftsOf (fullTables n)) m os set → a ≡ auditFull limit m os set n
   unfolding auditFull
-  whole-done e p = p ∙ ap (λ S. audited S m os set) (whole-shifts n) ∙ sym (ap (λ g. foundAfter g (audited (whole n) m os set)) e)
+  whole-done e p = p ∙ ap (λ S. audited S m os set) (whole-shifts n) ∙ sym (ap (λ g. foundAfter g (audited (fullShifts n) m os set)) e)

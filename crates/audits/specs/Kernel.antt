@@ -16,7 +16,7 @@ use Rattle.lists.specs.Cases.{lt-or-le}
 use Rattle.audits.specs.declared.Difference.{Difference}
 use Rattle.audits.specs.declared.Audit.the-variants.{Alike, Unlike, Refused}
 use Rattle.tables.specs.declared.Refusal.the-variants.{WrongLength}
-use Rattle.audits.specs.Search.{search, First, search-is}
+use Rattle.lists.specs.Lowest.{lowest, Lowest, lowest-is}
 use Rattle.audits.specs.Audit.{differ, firstDifference, sameSet}
 use Rattle.audits.specs.Demand.{words-same}
 
@@ -35,7 +35,7 @@ abbrev pub positionTo : ℕ → List ℕ → List ℕ → List Float → ℕ →
 positionTo c bs t set b i k = some i (another c bs t set b k)
 
 abbrev pub firstPosition : ℕ → List ℕ → List ℕ → List Float → ℕ → ℕ
-firstPosition c bs t set b = search c (positionTo c bs t set b (length bs))
+firstPosition c bs t set b = lowest c (positionTo c bs t set b (length bs))
 
 -- whether one of the blocks is before b
 abbrev pub seenBefore : List ℕ → ℕ → Bool
@@ -47,12 +47,12 @@ looked c bs t set b = cond (seenBefore bs b) c (firstPosition c bs t set b)
 
 unfoldable pub differenceIn : ℕ → List ℕ → List ℕ → List Float → ℕ → ℕ → Difference
 differenceIn c bs t set b k =
-    let i = search (length bs) (another c bs t set b k) in
+    let i = lowest (length bs) (another c bs t set b k) in
     record { place = b * c + k; order = i; here = getD set (b * c + k) nan; there = there c bs t set i k }
 
 -- ---- what the functions ask
 
-pub record Fits (len c b : ℕ) (bs t : List ℕ) : Type 0 where
+pub record BlocksFit (len c b : ℕ) (bs t : List ℕ) : Type 0 where
   pub width : c ≤ 81
   pub few : length bs ≤ 24
   pub more : 0 < length bs
@@ -64,7 +64,7 @@ pub record Fits (len c b : ℕ) (bs t : List ℕ) : Type 0 where
   pub first-block : getD bs 0 0 ≡ b
   pub first-row : (k : ℕ) → k < c → getD t k 0 ≡ k
 
-module _ {len c b : ℕ} {bs t : List ℕ} (F : Fits len c b bs t) where
+module _ {len c b : ℕ} {bs t : List ℕ} (F : BlocksFit len c b bs t) where
   -- the places that are read
   in-table : (i k : ℕ) → i < length bs → k < c → i * c + k < length t
   in-table i k hi hk = rw (F .table) (omega (arith, mul-le-mul-right c hi))
@@ -94,7 +94,7 @@ module _ {len c b : ℕ} {bs t : List ℕ} (F : Fits len c b bs t) where
         ap₂ (λ a p. getD set (a * c + p) nan) (F .first-block) (ap (λ r. getD t r 0) e ∙ F .first-row k h)
 
     -- the first permutation reads no other number
-    pub first-none : First c (positionTo c bs t set b 1) c
+    pub first-none : Lowest c (positionTo c bs t set b 1) c
     unfolding some another
     first-none = record {
       within = omega arith;
@@ -103,13 +103,13 @@ module _ {len c b : ℕ} {bs t : List ℕ} (F : Fits len c b bs t) where
     }
 
 -- one permutation more: r is the first position up to best at which it reads another number
-pub one-more : (c best r i : ℕ) (f : ℕ → ℕ → Bool) → First c (λ k. some i (f k)) best → r ≡ search best (λ k. f k i) → First c (λ k. some (i + 1) (f k)) r
-one-more c best r i f p e = subst (First c (λ k. some (i + 1) (f k))) (sym e) (go (search best (λ k. f k i)) (search-is best (λ k. f k i)))
+pub one-more : (c best r i : ℕ) (f : ℕ → ℕ → Bool) → Lowest c (λ k. some i (f k)) best → r ≡ lowest best (λ k. f k i) → Lowest c (λ k. some (i + 1) (f k)) r
+one-more c best r i f p e = subst (Lowest c (λ k. some (i + 1) (f k))) (sym e) (go (lowest best (λ k. f k i)) (lowest-is best (λ k. f k i)))
   where
     suc-is : (k : ℕ) → some (i + 1) (f k) ≡ (some i (f k) || f k i)
     suc-is k = unfold some in rw (add-one i)
 
-    go : (s : ℕ) → First best (λ k. f k i) s → First c (λ k. some (i + 1) (f k)) s
+    go : (s : ℕ) → Lowest best (λ k. f k i) s → Lowest c (λ k. some (i + 1) (f k)) s
     go s a = record {
       within = let w = a .within in let v = p .within in omega arith;
       passes = λ h. suc-is s ∙ by h (lt-or-le s best);
@@ -145,13 +145,13 @@ module _ (c : ℕ) (bs t : List ℕ) (set : List Float) (b : ℕ) where
   look-unseen s e = e ∙ sym (ap (λ x. cond x c (firstPosition c bs t set b)) s)
 
 -- where one passes, the first that does is there
-pub order-below : {n i : ℕ} (f : ℕ → Bool) → some n f ≡ true → i ≡ search n f → i < n
+pub order-below : {n i : ℕ} (f : ℕ → Bool) → some n f ≡ true → i ≡ lowest n f → i < n
 order-below {n} {i} f s e = go (lt-or-le i n)
   where
     go : (i < n) ⊎ (n ≤ i) → i < n
     go (inl l) = l
     go (inr l) =
-        let p = subst (First n f) (sym e) (search-is n f) in
+        let p = subst (Lowest n f) (sym e) (lowest-is n f) in
         let (k, h, y) = some-at n f s in
         absurd (not-both y (p .before k (omega arith)))
 

@@ -1,9 +1,11 @@
-pub mod Search
 pub mod Audit
 pub mod Demand
-pub mod Places
+pub mod PlaceLaws
 pub mod Kernel
 pub mod Blocks
 pub mod Guard
-pub mod Bits
-pub mod Passes
+pub mod PassLaws
+pub mod SecondScanLaws
+pub mod ThirdScanLaws
+pub mod FourthScanLaws
+pub mod Later

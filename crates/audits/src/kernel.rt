@@ -2,22 +2,22 @@
 // the position that each permutation gives to each position of a block, a row for each. The numbers are compared where they stand in the set.
 use crate::Difference;
 use crate::differ;
-use places::with_leg;
+use places::index_of;
 ghost use mathlib.Core.Path.{_≡_};
 ghost use mathlib.Core.Bool.{true};
 ghost use Prim.Native.Nat.{_+_, _*_, _≤_, _<_};
 ghost use lib.ListN.{length, getD};
 ghost use lib.Ieee.{nan};
 ghost use Rattle.lists.specs.Tests.{some};
-ghost use Rattle.audits.specs.Search.{search};
-ghost use Rattle.audits.specs.Kernel.{Fits, there, another, firstPosition, seenBefore, looked, differenceIn};
+ghost use Rattle.lists.specs.Lowest.{lowest};
+ghost use Rattle.audits.specs.Kernel.{BlocksFit, there, another, firstPosition, seenBefore, looked, differenceIn};
 
 // The number at position k of block b.
 fn own(fc: &[f64], width: usize, b: usize, k: usize) -> f64
     requires { ⌜ b * width + k < length (now fc) ⌝ }
     ensures { λ r. ⌜ r ≡ getD (now (fc .entry)) (b * width + k) nan ⌝ }
 {
-    fc[with_leg(b, width, k)]
+    fc[index_of(b, width, k)]
 }
 
 // The position that permutation i gives to position k.
@@ -25,12 +25,17 @@ fn position(t: &[u8], width: usize, i: usize, k: usize) -> usize
     requires { ⌜ (length (now t) ≤ 1944) × (i * width + k < length (now t)) × (getD (now t) (i * width + k) 0 < 81) ⌝ }
     ensures { λ r. ⌜ r ≡ getD (now (t .entry)) (i * width + k) 0 ⌝ }
 {
-    t[with_leg(i, width, k)] as usize
+    t[index_of(i, width, k)] as usize
 }
 
 // The number that permutation i reads at position k.
 fn read(fc: &[f64], bs: &[usize], t: &[u8], width: usize, i: usize, k: usize) -> f64
-    requires { ⌜ (i < length (now bs)) × (length (now t) ≤ 1944) × (i * width + k < length (now t)) × (getD (now t) (i * width + k) 0 < 81) × (getD (now bs) i 0 * width + getD (now t) (i * width + k) 0 < length (now fc)) ⌝ }
+    requires { ⌜
+        (i < length (now bs))
+        × (length (now t) ≤ 1944)
+        × (i * width + k < length (now t))
+        × (getD (now t) (i * width + k) 0 < 81)
+        × (getD (now bs) i 0 * width + getD (now t) (i * width + k) 0 < length (now fc)) ⌝ }
     ensures { λ r. ⌜ r ≡ there width (now (bs .entry)) (now (t .entry)) (now (fc .entry)) i k ⌝ }
 {
     own(fc, width, bs[i], position(t, width, i, k))
@@ -46,8 +51,8 @@ fn first_unlike(
     i: usize,
     until: usize,
 ) -> usize
-    requires { ⌜ Fits (length (now fc)) width b (now bs) (now t) × (i < length (now bs)) × (until ≤ width) ⌝ }
-    ensures { λ r. ⌜ r ≡ search until (λ k. another width (now (bs .entry)) (now (t .entry)) (now (fc .entry)) b k i) ⌝ }
+    requires { ⌜ BlocksFit (length (now fc)) width b (now bs) (now t) × (i < length (now bs)) × (until ≤ width) ⌝ }
+    ensures { λ r. ⌜ r ≡ lowest until (λ k. another width (now (bs .entry)) (now (t .entry)) (now (fc .entry)) b k i) ⌝ }
 {
     let mut k = 0;
     while k < until {
@@ -61,7 +66,7 @@ fn first_unlike(
 
 // The first position of block b at which some permutation reads another number, or width. The first permutation changes nothing.
 fn first_position(fc: &[f64], bs: &[usize], t: &[u8], width: usize, b: usize) -> usize
-    requires { ⌜ Fits (length (now fc)) width b (now bs) (now t) ⌝ }
+    requires { ⌜ BlocksFit (length (now fc)) width b (now bs) (now t) ⌝ }
     ensures { λ r. ⌜ r ≡ firstPosition width (now (bs .entry)) (now (t .entry)) (now (fc .entry)) b ⌝ }
 {
     let mut until = width;
@@ -75,8 +80,8 @@ fn first_position(fc: &[f64], bs: &[usize], t: &[u8], width: usize, b: usize) ->
 
 // The first permutation that reads another number at position k of block b, or their count.
 fn first_order(fc: &[f64], bs: &[usize], t: &[u8], width: usize, b: usize, k: usize) -> usize
-    requires { ⌜ Fits (length (now fc)) width b (now bs) (now t) × (k < width) ⌝ }
-    ensures { λ r. ⌜ r ≡ search (length (now (bs .entry))) (another width (now (bs .entry)) (now (t .entry)) (now (fc .entry)) b k) ⌝ }
+    requires { ⌜ BlocksFit (length (now fc)) width b (now bs) (now t) × (k < width) ⌝ }
+    ensures { λ r. ⌜ r ≡ lowest (length (now (bs .entry))) (another width (now (bs .entry)) (now (t .entry)) (now (fc .entry)) b k) ⌝ }
 {
     let mut i = 0;
     while i < bs.len() {
@@ -105,7 +110,7 @@ fn seen_before(bs: &[usize], b: usize) -> bool
 // Looks at block b: the first position at which some permutation reads another number, or width. Where a block of the group is before b, all numbers of
 // the group were compared there.
 pub fn look(fc: &[f64], bs: &[usize], t: &[u8], width: usize, b: usize) -> usize
-    requires { ⌜ Fits (length (now fc)) width b (now bs) (now t) ⌝ }
+    requires { ⌜ BlocksFit (length (now fc)) width b (now bs) (now t) ⌝ }
     ensures { λ r. ⌜ r ≡ looked width (now (bs .entry)) (now (t .entry)) (now (fc .entry)) b ⌝ }
 {
     if seen_before(bs, b) {
@@ -123,10 +128,13 @@ pub fn difference(
     b: usize,
     k: usize,
 ) -> Difference
-    requires { ⌜ Fits (length (now fc)) width b (now bs) (now t) × (k < width) × (some (length (now bs)) (another width (now bs) (now t) (now fc) b k) ≡ true) ⌝ }
+    requires { ⌜
+        BlocksFit (length (now fc)) width b (now bs) (now t)
+        × (k < width)
+        × (some (length (now bs)) (another width (now bs) (now t) (now fc) b k) ≡ true) ⌝ }
     ensures { λ r. ⌜ r ≡ differenceIn width (now (bs .entry)) (now (t .entry)) (now (fc .entry)) b k ⌝ }
 {
-    let place = with_leg(b, width, k);
+    let place = index_of(b, width, k);
     let i = first_order(fc, bs, t, width, b, k);
     let here = own(fc, width, b, k);
     let there = read(fc, bs, t, width, i, k);

@@ -1,13 +1,16 @@
 // What an audit says of a set, the comparison of two sets, and the parts that the audits of every order share.
-pub mod bits;
+// The audits of second order; the audits of third order; the audits of fourth order.
+pub mod fourth;
 pub mod guard;
 pub mod kernel;
+pub mod second;
+pub mod third;
 
-use records::float_word;
+use common::float_word;
 use tables::Refusal;
 ghost use mathlib.Core.Path.{_≡_};
 ghost use lib.ListN.{length};
-ghost use Rattle.audits.specs.Audit.{numberOf, differ as differBits, firstDifference, sameSet};
+ghost use Rattle.audits.specs.Audit.{auditNumber, differ as differBits, firstDifference, sameSet};
 
 // The first place at which numbers differ that are to be the same: which permutation of the legs reads the other number, and both numbers.
 pub struct Difference {
@@ -26,7 +29,7 @@ pub enum Audit {
 
 // A number for each case, beside those of the refusals.
 pub fn number(a: Audit) -> u8
-    ensures { λ r. ⌜ r ≡ numberOf a ⌝ }
+    ensures { λ r. ⌜ r ≡ auditNumber a ⌝ }
 {
     match a {
         Audit::Alike => 73,

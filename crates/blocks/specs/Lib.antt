@@ -1,3 +1,4 @@
 pub mod Block
-pub mod Nine
+pub mod Block9
 pub mod Permuted
+pub mod Inside

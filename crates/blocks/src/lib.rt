@@ -1,10 +1,12 @@
 // Blocks of 9, 27 and 81 numbers of a set as whole values: one for each pair, triple or quadruple of atoms.
 // A block is named by its number b; where it stands in the set is worked out here only.
+pub mod permute;
+
 ghost use mathlib.Core.Path.{_≡_};
 ghost use lib.ListN.{length};
 ghost use Prim.Native.Nat.{_+_, _*_, _≤_};
 ghost use Rattle.blocks.specs.Block.{block, putBlock};
-ghost use Rattle.blocks.specs.Nine.{transposed9 as transposed, joined27};
+ghost use Rattle.blocks.specs.Block9.{transposed9 as transposed, joined27};
 
 // Block b of a set of second order.
 pub fn read9(fc: &[f64], b: usize) -> [f64; 9]

@@ -18,10 +18,10 @@ use Rattle.tables.specs.Answers.{numberOf, refuseIf}
 use Rattle.tables.specs.Limits.{limit2}
 use Rattle.tables.specs.Conditions.{anyAbove}
 use Rattle.distances.specs.declared.Cell.{Cell}
-use Rattle.cells.specs.declared.Pair.{Pair}
-use Rattle.cells.specs.declared.Matching.{Matching}
-use Rattle.cells.specs.declared.Matching.the-variants.{Matched, NotMatched, NoNumber, Refused}
-use Rattle.cells.specs.Matching.{matchingNumber, computePermutation}
+use Rattle.matching.specs.declared.cells.Pair.{Pair}
+use Rattle.matching.specs.declared.cells.Matching.{Matching}
+use Rattle.matching.specs.declared.cells.Matching.the-variants.{Matched, NotMatched, NoNumber, Refused}
+use Rattle.matching.specs.Matching.{matchingNumber, computePermutation}
 
 -- what the two slots are left at: the pair that a failed match names, or what they held
 unfoldable pub pairLeft : Matching → List ℕ → List ℕ
@@ -31,8 +31,8 @@ pairLeft (NoNumber p) pair = p .position ∷ p .slot ∷ []
 pairLeft (Refused r) pair = pair
 
 -- the number of the answer, the slots that the call leaves, and the pair
-abbrev pub numbered : Matching × List ℤ → List ℕ → ℕ × List ℤ × List ℕ
-numbered (m, slots) pair = (matchingNumber m, slots, pairLeft m pair)
+abbrev pub matchingSlots : Matching × List ℤ → List ℕ → ℕ × List ℤ × List ℕ
+matchingSlots (m, slots) pair = (matchingNumber m, slots, pairLeft m pair)
 
 -- a byte for each axis: 0 where the cell does not repeat along it
 abbrev pub flagsOf : List ℕ → List Bool
@@ -53,7 +53,7 @@ callFits lenLattice lenPeriodic lenPair = cellFits lenLattice lenPeriodic && eqb
 unfoldable pub permutation : List ℤ → List Float → Float → List ℕ → List Float → List Float → List ℕ → ℕ → ℕ × List ℤ × List ℕ
 permutation slots lattice symprec periodic positions rotated pair n =
     cond (callFits (length lattice) (length periodic) (length pair))
-    (numbered (computePermutation slots (cellOf lattice symprec periodic) positions rotated n) pair)
+    (matchingSlots (computePermutation slots (cellOf lattice symprec periodic) positions rotated n) pair)
     (numberOf (refuseIf (anyAbove limit2 (n ∷ [])) CountAboveLimit (RefusedBy WrongLength)), slots, pair)
 
 -- ---- laws
@@ -95,8 +95,8 @@ module _ (slots : List ℤ) (lattice : List Float) (symprec : Float) (periodic :
       → callFits (length lattice) (length periodic) (length pair) ≡ true → cell ≡ cellOf lattice symprec periodic → (r, left, q) ≡ permutation slots lattice symprec periodic positions rotated pair n
   unfolding permutation
   matched cell m left q r p t k fit made =
-      ap (λ (x : ℕ). (x, left, q)) k ∙ ap (λ (x : List ℕ). (matchingNumber m, left, x)) t ∙ ap (λ (x : Matching × List ℤ). numbered x pair) p
-      ∙ ap (λ (x : Cell). numbered (computePermutation slots x positions rotated n) pair) made
+      ap (λ (x : ℕ). (x, left, q)) k ∙ ap (λ (x : List ℕ). (matchingNumber m, left, x)) t ∙ ap (λ (x : Matching × List ℤ). matchingSlots x pair) p
+      ∙ ap (λ (x : Cell). matchingSlots (computePermutation slots x positions rotated n) pair) made
       ∙ rw fit refl
 
   -- other lengths: refusal 1 comes before refusal 2

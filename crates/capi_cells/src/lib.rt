@@ -1,4 +1,6 @@
 // C names over the crates common, tables and cells. A slice is passed as a pointer and its length; include/gullyfork.h says the rest.
+pub mod capi_finding;
+
 ghost use mathlib.Core.Path.{_≡_};
 ghost use lib.Ieee.{binary64};
 ghost use Rattle.common.specs.Root.{sqrt};
@@ -9,9 +11,9 @@ ghost use Rattle.tables.specs.Limits.{limit2};
 ghost use Rattle.tables.specs.Compact.{shiftTables, judgedTables};
 ghost use lib.ListN.{length};
 ghost use Rattle.capi_cells.specs.Cells.{flagsOf, cellOf, cellFits, callFits, pairLeft, permutation};
-use cells::Matching;
-use cells::Pair;
 use distances::Cell;
+use matching::cells::Matching;
+use matching::cells::Pair;
 use tables::limits::LIMIT2;
 
 // The nearest whole number as an integer.
@@ -49,7 +51,9 @@ pub extern "C" fn gf_check_shift_tables(
     n_patom: usize,
     num_trans: usize,
 ) -> u8
-    ensures { λ r. ⌜ r ≡ numberOf (judgedTables limit2 [] (shiftTables (now (p2s .entry)) (now (s2pp .entry)) (now («nsym_list» .entry)) (now (perms .entry)) «n_satom» «n_patom» «num_trans»)) ⌝ }
+    ensures { λ r. ⌜
+        (let T = shiftTables (now (p2s .entry)) (now (s2pp .entry)) (now («nsym_list» .entry)) (now (perms .entry)) «n_satom» «n_patom» «num_trans» in
+        r ≡ numberOf (judgedTables limit2 [] T)) ⌝ }
 {
     let a = shifts::check_shift_tables(p2s, s2pp, nsym_list, perms, n_satom, n_patom, num_trans);
     tables::number(a)
@@ -141,13 +145,16 @@ pub extern "C" fn gf_compute_permutation(
     pair: &mut [usize],
     num_pos: usize,
 ) -> u8
-    ensures { λ r. ⌜ (r, now («rot_atom» .exit), now (pair .exit)) ≡ permutation (now («rot_atom» .entry)) (now (lattice .entry)) symprec (now (periodic .entry)) (now (pos .entry)) (now («rot_pos» .entry)) (now (pair .entry)) «num_pos» ⌝ }
+    ensures { λ r. ⌜
+        (r, now («rot_atom» .exit), now (pair .exit))
+        ≡ permutation (now («rot_atom» .entry)) (now (lattice .entry)) symprec (now (periodic .entry)) (now (pos .entry)) (now («rot_pos» .entry))
+        (now (pair .entry)) «num_pos» ⌝ }
 {
     if call_fits(lattice.len(), periodic.len(), pair.len()) {
         let cell = cell_of(lattice, symprec, periodic);
-        let m = cells::compute_permutation(rot_atom, cell, pos, rot_pos, num_pos);
+        let m = matching::cells::compute_permutation(rot_atom, cell, pos, rot_pos, num_pos);
         tell(m, pair);
-        return cells::matching_number(m);
+        return matching::cells::matching_number(m);
     }
     if num_pos > LIMIT2 {
         return 1;

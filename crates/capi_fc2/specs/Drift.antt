@@ -20,22 +20,22 @@ use Rattle.drift.specs.declared.Drift.the-variants.{Still, Worst, NoNumber}
 use Rattle.drift.specs.declared.DriftReport.{DriftReport}
 use Rattle.drift.specs.declared.DriftAnswer.{DriftAnswer}
 use Rattle.drift.specs.declared.DriftAnswer.the-variants.{Report, Refused}
-use Rattle.drift.specs.Drift.{numberOf as driftNumber, valueOf, alongNumber, driftReport}
+use Rattle.drift.specs.Drift.{driftNumber, valueOf, alongNumber, driftReport}
 
 -- An answer as C gets it: 65 still, 66 worst, 67 no number, with the value and the place in the slots; or the number of a refusal, which leaves the slots.
-unfoldable pub reported : DriftAnswer → List Float → List ℕ → ℕ × List Float × List ℕ
-reported (Report r) value place = (65 + driftNumber (r .drift), valueOf (r .drift) ∷ [], alongNumber (r .along) ∷ r .atom ∷ r .k ∷ r .l ∷ [])
-reported (Refused r) value place = (refusalNumber r, value, place)
+unfoldable pub driftSlots : DriftAnswer → List Float → List ℕ → ℕ × List Float × List ℕ
+driftSlots (Report r) value place = (65 + driftNumber (r .drift), valueOf (r .drift) ∷ [], alongNumber (r .along) ∷ r .atom ∷ r .k ∷ r .l ∷ [])
+driftSlots (Refused r) value place = (refusalNumber r, value, place)
 
 -- one slot for the value, four for the place: 0 for rows or 1 for columns, the atom and two directions
-abbrev pub slotsFit : ℕ → ℕ → Bool
-slotsFit lenValue lenPlace = eqb lenValue 1 && eqb lenPlace 4
+abbrev pub driftSlotsFit : ℕ → ℕ → Bool
+driftSlotsFit lenValue lenPlace = eqb lenValue 1 && eqb lenPlace 4
 
 -- Slots of other lengths are refusal 2, which comes after refusal 1.
 unfoldable pub driftCall : List Float → ℕ → List Float → List ℕ → ℕ × List Float × List ℕ
 driftCall fc n value place =
-    cond (slotsFit (length value) (length place))
-    (reported (driftReport fc n) value place)
+    cond (driftSlotsFit (length value) (length place))
+    (driftSlots (driftReport fc n) value place)
     (numberOf (refuseIf (anyAbove limit2 (n ∷ [])) CountAboveLimit (RefusedBy WrongLength)), value, place)
 
 -- ---- laws
@@ -45,7 +45,7 @@ few Still = omega arith
 few (Worst x) = omega arith
 few NoNumber = omega arith
 
-pub fits : (v p : ℕ) → slotsFit v p ≡ true → (v ≡ 1) × (p ≡ 4)
+pub fits : (v p : ℕ) → driftSlotsFit v p ≡ true → (v ≡ 1) × (p ≡ 4)
 fits v p e = (eqb-true v 1 (and-fst (eqb v 1) (eqb p 4) e), eqb-true p 4 (and-snd (eqb v 1) (eqb p 4) e))
 
 -- the slots after their writes
@@ -66,30 +66,30 @@ module _ (value : List Float) (place : List ℕ) where
   -- a report, written: x is its value, k its number, and w says rows or columns
   pub put : (q : DriftReport) (a : DriftAnswer) (x : Float) (w k : ℕ) → (length value ≡ 1) × (length place ≡ 4) → a ≡ Report q
       → x ≡ valueOf (q .drift) → w ≡ alongNumber (q .along) → k ≡ driftNumber (q .drift)
-      → (65 + k, set value 0 x, set (set (set (set place 0 w) 1 (q .atom)) 2 (q .k)) 3 (q .l)) ≡ reported a value place
-  unfolding reported
+      → (65 + k, set value 0 x, set (set (set (set place 0 w) 1 (q .atom)) 2 (q .k)) 3 (q .l)) ≡ driftSlots a value place
+  unfolding driftSlots
   put q a x w k (hv, hp) e ex ew ek =
       let v = one-slot value x hv in
       let p = four-slots place w (q .atom) (q .k) (q .l) hp in
       rw (v, p, ex, ew, ek, e) refl
 
   -- a refusal leaves the slots
-  pub kept : (a : DriftAnswer) (refusal : Refusal) (r : ℕ) → a ≡ Refused refusal → r ≡ refusalNumber refusal → (r, value, place) ≡ reported a value place
-  unfolding reported
+  pub kept : (a : DriftAnswer) (refusal : Refusal) (r : ℕ) → a ≡ Refused refusal → r ≡ refusalNumber refusal → (r, value, place) ≡ driftSlots a value place
+  unfolding driftSlots
   kept a refusal r e er = rw (er, e) refl
 
   module _ (fc : List Float) (n : ℕ) where
     -- the call, step by step: a is the drift's answer, told what `report` made of it
-    pub told-of : (a : DriftAnswer) (told : ℕ × List Float × List ℕ) → slotsFit (length value) (length place) ≡ true → a ≡ driftReport fc n → told ≡ reported a value place
+    pub told-of : (a : DriftAnswer) (told : ℕ × List Float × List ℕ) → driftSlotsFit (length value) (length place) ≡ true → a ≡ driftReport fc n → told ≡ driftSlots a value place
         → told ≡ driftCall fc n value place
     unfolding driftCall
-    told-of a told fit d e = e ∙ ap (λ x. reported x value place) d ∙ rw fit refl
+    told-of a told fit d e = e ∙ ap (λ x. driftSlots x value place) d ∙ rw fit refl
 
     -- slots of other lengths: refusal 1 comes before refusal 2
-    pub above : slotsFit (length value) (length place) ≡ false → limit2 < n → (1, value, place) ≡ driftCall fc n value place
+    pub above : driftSlotsFit (length value) (length place) ≡ false → limit2 < n → (1, value, place) ≡ driftCall fc n value place
     unfolding driftCall
     above fit h = rw (fit, lt-ltb limit2 n h) refl
 
-    pub wrong : slotsFit (length value) (length place) ≡ false → n ≤ limit2 → (2, value, place) ≡ driftCall fc n value place
+    pub wrong : driftSlotsFit (length value) (length place) ≡ false → n ≤ limit2 → (2, value, place) ≡ driftCall fc n value place
     unfolding driftCall
     wrong fit h = rw (fit, le-ltb limit2 n h) refl

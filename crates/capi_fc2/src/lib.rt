@@ -1,13 +1,15 @@
 // C names of second order. A slice is passed as a pointer and its length; include/gullyfork.h says the rest.
+pub mod sums;
+
 ghost use mathlib.Core.Path.{_≡_};
 ghost use lib.ListN.{length};
 ghost use Rattle.tables.specs.Compact.{shiftTables};
 ghost use Rattle.fc2.specs.Full.{permTransSymmetrizeFc};
 ghost use Rattle.fc2_compact.specs.Compact.{setIndexPermutationSymmetryCompactFc, permTransSymmetrizeCompactFc};
-ghost use Rattle.half_shifts.specs.TrueTransposes.{trueTransposeCompactFc2};
-ghost use Rattle.capi_numbers.specs.Numbered.{numbered, numberedWith};
-ghost use Rattle.capi_fc2.specs.Drift.{slotsFit, reported, driftCall};
-ghost use Rattle.distribute_fc2.specs.Fc2.{distributeFc2};
+ghost use Rattle.orbits.specs.TrueTransposes.{trueTransposeCompactFc2};
+ghost use Rattle.tables.specs.Numbered.{numbered, numberedWith};
+ghost use Rattle.capi_fc2.specs.Drift.{driftSlotsFit, driftSlots, driftCall};
+ghost use Rattle.distribute.specs.Fc2.{distribution, distributeFc2};
 use drift::DriftAnswer;
 use tables::limits::LIMIT2;
 
@@ -34,7 +36,9 @@ pub extern "C" fn gf_perm_trans_symmetrize_compact_fc(
     num_trans: usize,
     level: usize,
 ) -> u8
-    ensures { λ r. ⌜ (r, now (fc .exit), now (done .exit)) ≡ numberedWith (permTransSymmetrizeCompactFc (now (fc .entry)) (shiftTables (now (p2s .entry)) (now (s2pp .entry)) (now («nsym_list» .entry)) (now (perms .entry)) «n_satom» «n_patom» «num_trans») (now (done .entry)) level) ⌝ }
+    ensures { λ r. ⌜
+        (let T = shiftTables (now (p2s .entry)) (now (s2pp .entry)) (now («nsym_list» .entry)) (now (perms .entry)) «n_satom» «n_patom» «num_trans» in
+        (r, now (fc .exit), now (done .exit)) ≡ numberedWith (permTransSymmetrizeCompactFc (now (fc .entry)) T (now (done .entry)) level)) ⌝ }
 {
     let a = fc2_compact::compact::perm_trans_symmetrize_compact_fc(
         fc,
@@ -65,7 +69,9 @@ pub extern "C" fn gf_set_index_permutation_symmetry_compact_fc(
     num_trans: usize,
     transpose: bool,
 ) -> u8
-    ensures { λ r. ⌜ (r, now (fc .exit), now (done .exit)) ≡ numberedWith (setIndexPermutationSymmetryCompactFc (now (fc .entry)) (shiftTables (now (p2s .entry)) (now (s2pp .entry)) (now («nsym_list» .entry)) (now (perms .entry)) «n_satom» «n_patom» «num_trans») (now (done .entry)) transpose) ⌝ }
+    ensures { λ r. ⌜
+        (let T = shiftTables (now (p2s .entry)) (now (s2pp .entry)) (now («nsym_list» .entry)) (now (perms .entry)) «n_satom» «n_patom» «num_trans» in
+        (r, now (fc .exit), now (done .exit)) ≡ numberedWith (setIndexPermutationSymmetryCompactFc (now (fc .entry)) T (now (done .entry)) transpose)) ⌝ }
 {
     let a = fc2_compact::compact::set_index_permutation_symmetry_compact_fc(
         fc,
@@ -95,7 +101,9 @@ pub extern "C" fn gf_true_transpose_compact_fc2(
     n_patom: usize,
     num_trans: usize,
 ) -> u8
-    ensures { λ r. ⌜ (r, now (fc .exit), now (done .exit)) ≡ numberedWith (trueTransposeCompactFc2 (now (fc .entry)) (shiftTables (now (p2s .entry)) (now (s2pp .entry)) (now («nsym_list» .entry)) (now (perms .entry)) «n_satom» «n_patom» «num_trans») (now (done .entry))) ⌝ }
+    ensures { λ r. ⌜
+        (let T = shiftTables (now (p2s .entry)) (now (s2pp .entry)) (now («nsym_list» .entry)) (now (perms .entry)) «n_satom» «n_patom» «num_trans» in
+        (r, now (fc .exit), now (done .exit)) ≡ numberedWith (trueTransposeCompactFc2 (now (fc .entry)) T (now (done .entry)))) ⌝ }
 {
     let a = fc2_compact::compact::true_transpose_compact_fc2(
         fc,
@@ -113,7 +121,7 @@ pub extern "C" fn gf_true_transpose_compact_fc2(
 
 // Whether the slots have the stated lengths, one for the value and four for the place.
 pub fn slots_fit(len_value: usize, len_place: usize) -> bool
-    ensures { λ r. ⌜ r ≡ slotsFit «len_value» «len_place» ⌝ }
+    ensures { λ r. ⌜ r ≡ driftSlotsFit «len_value» «len_place» ⌝ }
 {
     len_value == 1 && len_place == 4
 }
@@ -121,7 +129,7 @@ pub fn slots_fit(len_value: usize, len_place: usize) -> bool
 // Puts a drift's answer into the slots: its value, and its place, rows or columns, the atom and two directions. A refusal leaves them.
 pub fn report(a: DriftAnswer, value: &mut [f64], place: &mut [usize]) -> u8
     requires { ⌜ (length (now value) ≡ 1) × (length (now place) ≡ 4) ⌝ }
-    ensures { λ r. ⌜ (r, now (value .exit), now (place .exit)) ≡ reported a (now (value .entry)) (now (place .entry)) ⌝ }
+    ensures { λ r. ⌜ (r, now (value .exit), now (place .exit)) ≡ driftSlots a (now (value .entry)) (now (place .entry)) ⌝ }
 {
     match a {
         DriftAnswer::Report(q) => {
@@ -150,7 +158,7 @@ pub extern "C" fn gf_drift_report(
     ensures { λ r. ⌜ (r, now (value .exit), now (place .exit)) ≡ driftCall (now (fc .entry)) «n_satom» (now (value .entry)) (now (place .entry)) ⌝ }
 {
     if slots_fit(value.len(), place.len()) {
-        let a = drift_fc2::drift_report(fc, n_satom);
+        let a = drift::full::drift_report(fc, n_satom);
         return report(a, value, place);
     }
     if n_satom > LIMIT2 {
@@ -174,9 +182,13 @@ pub extern "C" fn gf_distribute_fc2(
     num_first: usize,
     num_rot: usize,
 ) -> u8
-    ensures { λ r. ⌜ (r, now (fc2 .exit), now («atom_list_reverse» .exit)) ≡ numberedWith (distributeFc2 (record { atomList = now («atom_list» .entry); fcIndices = now («fc_indices_of_atom_list» .entry); rCarts = now («r_carts» .entry); permutations = now (permutations .entry); mapAtoms = now («map_atoms» .entry); mapSyms = now («map_syms» .entry); numPos = «num_pos» }) «num_first» «num_rot» (now (fc2 .entry)) (now («atom_list_reverse» .entry))) ⌝ }
+    ensures { λ r. ⌜
+        (let D = distribution (now («atom_list» .entry)) (now («fc_indices_of_atom_list» .entry)) (now («r_carts» .entry))
+        (now (permutations .entry)) (now («map_atoms» .entry)) (now («map_syms» .entry)) «num_pos» in
+        (r, now (fc2 .exit), now («atom_list_reverse» .exit))
+        ≡ numberedWith (distributeFc2 D «num_first» «num_rot» (now (fc2 .entry)) (now («atom_list_reverse» .entry)))) ⌝ }
 {
-    let a = distribute_fc2::distribute_fc2(
+    let a = distribute::fc2::distribute_fc2(
         fc2,
         atom_list,
         fc_indices_of_atom_list,

@@ -3,10 +3,10 @@ ghost use mathlib.Core.Path.{_≡_};
 ghost use Rattle.tables.specs.Compact.{shiftTables};
 ghost use Rattle.fc3.specs.Symmetrize.{setPermutationSymmetryFc3, setPermutationSymmetryCompactFc3};
 ghost use Rattle.transposes_fc3.specs.Fc3.{transposeCompactFc3};
-ghost use Rattle.half_shifts.specs.TrueTransposes.{trueTransposeCompactFc3};
-ghost use Rattle.capi_numbers.specs.Numbered.{numbered, numberedWith};
+ghost use Rattle.orbits.specs.TrueTransposes.{trueTransposeCompactFc3};
+ghost use Rattle.tables.specs.Numbered.{numbered, numberedWith};
 ghost use Rattle.distribute.specs.Fc3.{distributeFc3};
-ghost use Rattle.deltas.specs.RotateDelta.{rotateDeltaFc2s};
+ghost use Rattle.deltas.specs.RotateDelta.{deltasOf, rotateDeltaFc2s};
 
 // Symmetrizes a full set of third order.
 #[no_mangle]
@@ -30,7 +30,9 @@ pub extern "C" fn gf_set_permutation_symmetry_compact_fc3(
     n_patom: usize,
     num_trans: usize,
 ) -> u8
-    ensures { λ r. ⌜ (r, now (fc3 .exit), now (done .exit)) ≡ numberedWith (setPermutationSymmetryCompactFc3 (now (fc3 .entry)) (shiftTables (now (p2s .entry)) (now (s2pp .entry)) (now («nsym_list» .entry)) (now (perms .entry)) «n_satom» «n_patom» «num_trans») (now (done .entry))) ⌝ }
+    ensures { λ r. ⌜
+        (let T = shiftTables (now (p2s .entry)) (now (s2pp .entry)) (now («nsym_list» .entry)) (now (perms .entry)) «n_satom» «n_patom» «num_trans» in
+        (r, now (fc3 .exit), now (done .exit)) ≡ numberedWith (setPermutationSymmetryCompactFc3 (now (fc3 .entry)) T (now (done .entry)))) ⌝ }
 {
     let a = fc3::compact::set_permutation_symmetry_compact_fc3(
         fc3,
@@ -60,7 +62,9 @@ pub extern "C" fn gf_transpose_compact_fc3(
     num_trans: usize,
     t_type: i64,
 ) -> u8
-    ensures { λ r. ⌜ (r, now (fc3 .exit), now (done .exit)) ≡ numberedWith (transposeCompactFc3 (now (fc3 .entry)) (shiftTables (now (p2s .entry)) (now (s2pp .entry)) (now («nsym_list» .entry)) (now (perms .entry)) «n_satom» «n_patom» «num_trans») (now (done .entry)) «t_type») ⌝ }
+    ensures { λ r. ⌜
+        (let T = shiftTables (now (p2s .entry)) (now (s2pp .entry)) (now («nsym_list» .entry)) (now (perms .entry)) «n_satom» «n_patom» «num_trans» in
+        (r, now (fc3 .exit), now (done .exit)) ≡ numberedWith (transposeCompactFc3 (now (fc3 .entry)) T (now (done .entry)) «t_type»)) ⌝ }
 {
     let a = transposes_fc3::transpose_compact_fc3(
         fc3,
@@ -91,7 +95,9 @@ pub extern "C" fn gf_true_transpose_compact_fc3(
     num_trans: usize,
     t_type: i64,
 ) -> u8
-    ensures { λ r. ⌜ (r, now (fc3 .exit), now (done .exit)) ≡ numberedWith (trueTransposeCompactFc3 (now (fc3 .entry)) (shiftTables (now (p2s .entry)) (now (s2pp .entry)) (now («nsym_list» .entry)) (now (perms .entry)) «n_satom» «n_patom» «num_trans») (now (done .entry)) «t_type») ⌝ }
+    ensures { λ r. ⌜
+        (let T = shiftTables (now (p2s .entry)) (now (s2pp .entry)) (now («nsym_list» .entry)) (now (perms .entry)) «n_satom» «n_patom» «num_trans» in
+        (r, now (fc3 .exit), now (done .exit)) ≡ numberedWith (trueTransposeCompactFc3 (now (fc3 .entry)) T (now (done .entry)) «t_type»)) ⌝ }
 {
     let a = transposes_fc3::true_transpose_compact_fc3(
         fc3,
@@ -119,7 +125,9 @@ pub extern "C" fn gf_distribute_fc3(
     rot_cart: &[f64],
     num_first: usize,
 ) -> u8
-    ensures { λ r. ⌜ (r, now (fc3 .exit)) ≡ numbered (distributeFc3 (now (fc3 .entry)) target source (now («atom_mapping» .entry)) «num_atom» (now («rot_cart» .entry)) «num_first») ⌝ }
+    ensures { λ r. ⌜
+        (r, now (fc3 .exit))
+        ≡ numbered (distributeFc3 (now (fc3 .entry)) target source (now («atom_mapping» .entry)) «num_atom» (now («rot_cart» .entry)) «num_first») ⌝ }
 {
     let a = distribute::fc3::distribute_fc3(
         fc3,
@@ -146,9 +154,12 @@ pub extern "C" fn gf_rotate_delta_fc2s(
     num_site_sym: usize,
     num_disp: usize,
 ) -> u8
-    ensures { λ r. ⌜ (r, now (fc3 .exit), now («rot_delta» .exit)) ≡ numberedWith (rotateDeltaFc2s (record { deltas = now («delta_fc2s» .entry); invU = now («inv_u» .entry); siteSymCart = now («site_sym_cart» .entry); rotMapSyms = now («rot_map_syms» .entry); numAtom = «num_atom»; numSiteSym = «num_site_sym»; numDisp = «num_disp» }) (now (fc3 .entry)) (now («rot_delta» .entry))) ⌝ }
+    ensures { λ r. ⌜
+        (let D = deltasOf (now («delta_fc2s» .entry)) (now («inv_u» .entry)) (now («site_sym_cart» .entry))
+        (now («rot_map_syms» .entry)) «num_atom» «num_site_sym» «num_disp» in
+        (r, now (fc3 .exit), now («rot_delta» .exit)) ≡ numberedWith (rotateDeltaFc2s D (now (fc3 .entry)) (now («rot_delta» .entry)))) ⌝ }
 {
-    let a = deltas_fc2s::rotate_delta_fc2s(
+    let a = deltas::fc2s::rotate_delta_fc2s(
         fc3,
         delta_fc2s,
         inv_u,

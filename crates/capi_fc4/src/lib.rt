@@ -3,11 +3,11 @@ ghost use mathlib.Core.Path.{_≡_};
 ghost use Rattle.tables.specs.Compact.{shiftTables};
 ghost use Rattle.fc4.specs.Symmetrize.{setPermutationSymmetryFc4, setPermutationSymmetryCompactFc4};
 ghost use Rattle.transposes_fc4.specs.Fc4.{transposeCompactFc4};
-ghost use Rattle.half_shifts.specs.TrueTransposes.{trueTransposeCompactFc4};
-ghost use Rattle.swaps_fc4.specs.Swaps.{swapPairsCompactFc4};
-ghost use Rattle.capi_numbers.specs.Numbered.{numberedWith, numbered};
+ghost use Rattle.orbits.specs.TrueTransposes.{trueTransposeCompactFc4};
+ghost use Rattle.transposes_fc4.specs.Swaps.{swapPairsCompactFc4};
+ghost use Rattle.tables.specs.Numbered.{numberedWith, numbered};
 ghost use Rattle.distribute.specs.Fc4.{distributeFc4};
-ghost use Rattle.deltas.specs.RotateDelta.{rotateDeltaFc3s};
+ghost use Rattle.deltas.specs.RotateDelta.{deltasOf, rotateDeltaFc3s};
 
 // Symmetrizes a full set of fourth order.
 #[no_mangle]
@@ -35,7 +35,9 @@ pub extern "C" fn gf_set_permutation_symmetry_compact_fc4(
     n_patom: usize,
     num_trans: usize,
 ) -> u8
-    ensures { λ r. ⌜ (r, now (fc4 .exit), now (done .exit)) ≡ numberedWith (setPermutationSymmetryCompactFc4 (now (fc4 .entry)) (shiftTables (now (p2s .entry)) (now (s2pp .entry)) (now («nsym_list» .entry)) (now (perms .entry)) «n_satom» «n_patom» «num_trans») (now (done .entry))) ⌝ }
+    ensures { λ r. ⌜
+        (let T = shiftTables (now (p2s .entry)) (now (s2pp .entry)) (now («nsym_list» .entry)) (now (perms .entry)) «n_satom» «n_patom» «num_trans» in
+        (r, now (fc4 .exit), now (done .exit)) ≡ numberedWith (setPermutationSymmetryCompactFc4 (now (fc4 .entry)) T (now (done .entry)))) ⌝ }
 {
     let a = fc4::compact::set_permutation_symmetry_compact_fc4(
         fc4,
@@ -65,7 +67,9 @@ pub extern "C" fn gf_transpose_compact_fc4(
     num_trans: usize,
     t_type: i64,
 ) -> u8
-    ensures { λ r. ⌜ (r, now (fc4 .exit), now (done .exit)) ≡ numberedWith (transposeCompactFc4 (now (fc4 .entry)) (shiftTables (now (p2s .entry)) (now (s2pp .entry)) (now («nsym_list» .entry)) (now (perms .entry)) «n_satom» «n_patom» «num_trans») (now (done .entry)) «t_type») ⌝ }
+    ensures { λ r. ⌜
+        (let T = shiftTables (now (p2s .entry)) (now (s2pp .entry)) (now («nsym_list» .entry)) (now (perms .entry)) «n_satom» «n_patom» «num_trans» in
+        (r, now (fc4 .exit), now (done .exit)) ≡ numberedWith (transposeCompactFc4 (now (fc4 .entry)) T (now (done .entry)) «t_type»)) ⌝ }
 {
     let a = transposes_fc4::transpose_compact_fc4(
         fc4,
@@ -96,7 +100,9 @@ pub extern "C" fn gf_true_transpose_compact_fc4(
     num_trans: usize,
     t_type: i64,
 ) -> u8
-    ensures { λ r. ⌜ (r, now (fc4 .exit), now (done .exit)) ≡ numberedWith (trueTransposeCompactFc4 (now (fc4 .entry)) (shiftTables (now (p2s .entry)) (now (s2pp .entry)) (now («nsym_list» .entry)) (now (perms .entry)) «n_satom» «n_patom» «num_trans») (now (done .entry)) «t_type») ⌝ }
+    ensures { λ r. ⌜
+        (let T = shiftTables (now (p2s .entry)) (now (s2pp .entry)) (now («nsym_list» .entry)) (now (perms .entry)) «n_satom» «n_patom» «num_trans» in
+        (r, now (fc4 .exit), now (done .exit)) ≡ numberedWith (trueTransposeCompactFc4 (now (fc4 .entry)) T (now (done .entry)) «t_type»)) ⌝ }
 {
     let a = transposes_fc4::true_transpose_compact_fc4(
         fc4,
@@ -128,9 +134,11 @@ pub extern "C" fn gf_swap_pairs_compact_fc4(
     leg_a: usize,
     leg_b: usize,
 ) -> u8
-    ensures { λ r. ⌜ (r, now (fc4 .exit), now (done .exit)) ≡ numberedWith (swapPairsCompactFc4 (now (fc4 .entry)) (shiftTables (now (p2s .entry)) (now (s2pp .entry)) (now («nsym_list» .entry)) (now (perms .entry)) «n_satom» «n_patom» «num_trans») (now (done .entry)) «leg_a» «leg_b») ⌝ }
+    ensures { λ r. ⌜
+        (let T = shiftTables (now (p2s .entry)) (now (s2pp .entry)) (now («nsym_list» .entry)) (now (perms .entry)) «n_satom» «n_patom» «num_trans» in
+        (r, now (fc4 .exit), now (done .exit)) ≡ numberedWith (swapPairsCompactFc4 (now (fc4 .entry)) T (now (done .entry)) «leg_a» «leg_b»)) ⌝ }
 {
-    let a = swaps_fc4::swap_pairs_compact_fc4(
+    let a = transposes_fc4::swaps::swap_pairs_compact_fc4(
         fc4,
         p2s,
         s2pp,
@@ -157,7 +165,9 @@ pub extern "C" fn gf_distribute_fc4(
     rot_cart: &[f64],
     num_first: usize,
 ) -> u8
-    ensures { λ r. ⌜ (r, now (fc4 .exit)) ≡ numbered (distributeFc4 (now (fc4 .entry)) target source (now («atom_mapping» .entry)) «num_atom» (now («rot_cart» .entry)) «num_first») ⌝ }
+    ensures { λ r. ⌜
+        (r, now (fc4 .exit))
+        ≡ numbered (distributeFc4 (now (fc4 .entry)) target source (now («atom_mapping» .entry)) «num_atom» (now («rot_cart» .entry)) «num_first») ⌝ }
 {
     let a = distribute::fc4::distribute_fc4(
         fc4,
@@ -184,9 +194,12 @@ pub extern "C" fn gf_rotate_delta_fc3s(
     num_site_sym: usize,
     num_disp: usize,
 ) -> u8
-    ensures { λ r. ⌜ (r, now (fc4 .exit), now («rot_delta» .exit)) ≡ numberedWith (rotateDeltaFc3s (record { deltas = now («delta_fc3s» .entry); invU = now («inv_u» .entry); siteSymCart = now («site_sym_cart» .entry); rotMapSyms = now («rot_map_syms» .entry); numAtom = «num_atom»; numSiteSym = «num_site_sym»; numDisp = «num_disp» }) (now (fc4 .entry)) (now («rot_delta» .entry))) ⌝ }
+    ensures { λ r. ⌜
+        (let D = deltasOf (now («delta_fc3s» .entry)) (now («inv_u» .entry)) (now («site_sym_cart» .entry))
+        (now («rot_map_syms» .entry)) «num_atom» «num_site_sym» «num_disp» in
+        (r, now (fc4 .exit), now («rot_delta» .exit)) ≡ numberedWith (rotateDeltaFc3s D (now (fc4 .entry)) (now («rot_delta» .entry)))) ⌝ }
 {
-    let a = deltas_fc3s::rotate_delta_fc3s(
+    let a = deltas::fc3s::rotate_delta_fc3s(
         fc4,
         delta_fc3s,
         inv_u,

@@ -5,17 +5,16 @@ use mathlib.Core.List.{List, [], _∷_}
 use Prim.Native.Nat.{ℕ, _+_}
 use lib.Dec.{eqb}
 use lib.ListN.{length}
-use Rattle.tables.specs.Answers.{refusalNumber}
 use Rattle.roll.specs.Format.{Entry}
 use Rattle.roll.specs.Reading.{entryAt, sizeAt, rollBytes, holdsRoll}
-use Rattle.roll_read.specs.Calls.{itemNumber, readAt, readAtFormer}
-use Rattle.roll_read.specs.declared.Item.{Item}
-use Rattle.roll_read.specs.declared.Item.the-variants.{Record, End, Refused}
-use Rattle.roll_append.specs.Calls.{numberOfAppended, judgedAppend, appended}
-use Rattle.roll_append.specs.declared.Appended.{Appended}
-use Rattle.roll_append.specs.declared.Appended.the-variants.{Count, Refused as RefusedBy}
+use Rattle.roll.specs.ReadCalls.{itemNumber, readAt, readAtFormer}
+use Rattle.roll.specs.declared.read.Item.{Item}
+use Rattle.roll.specs.declared.read.Item.the-variants.{Record, End, Refused}
+use Rattle.roll.specs.AppendCalls.{numberOfAppended, judgedAppend, appended}
+use Rattle.roll.specs.declared.append.Appended.{Appended}
+use Rattle.roll.specs.declared.append.Appended.the-variants.{Count, Refused as RefusedBy}
 use Rattle.standing.specs.Register.{standingNumber, standsNow}
-use Rattle.retire.specs.Press.{pressed}
+use Rattle.standing.specs.RetireAll.{retireAll}
 use Rattle.standing.specs.declared.Standing.{Standing}
 use Rattle.standing.specs.declared.Standing.the-variants.{Unknown, Retired, Current, Refused as NotSaid}
 
@@ -31,12 +30,12 @@ slotsOf b at End slots = slots
 slotsOf b at (Refused r) slots = slots
 
 -- the number of what the reader said, and the slots
-unfoldable pub told : List ℕ → ℕ → Item → List ℕ → ℕ × List ℕ
-told b at a slots = (itemNumber a, slotsOf b at a slots)
+unfoldable pub itemSlots : List ℕ → ℕ → Item → List ℕ → ℕ × List ℕ
+itemSlots b at a slots = (itemNumber a, slotsOf b at a slots)
 
 -- the same where there may be another number of slots
 unfoldable pub toldIn : List ℕ → ℕ → Item → List ℕ → ℕ × List ℕ
-toldIn b at a slots = cond (eqb (length slots) 6) (told b at a slots) (sevenOrTwo (itemNumber a), slots)
+toldIn b at a slots = cond (eqb (length slots) 6) (itemSlots b at a slots) (sevenOrTwo (itemNumber a), slots)
 
 -- the number of what stands at a position, 0 for a record, 68 for the end, 7; and the slots
 unfoldable pub readRoll : List ℕ → ℕ → ℕ → List ℕ → ℕ × List ℕ
@@ -47,31 +46,31 @@ unfoldable pub readRollFormer : List ℕ → ℕ → ℕ → List ℕ → ℕ ×
 readRollFormer s count at slots = let b = rollBytes s count in toldIn b at (readAtFormer b at) slots
 
 -- the appender's answer as C gets it: 0 with the new count in the slot; or the number of a refusal, which leaves the slot
-unfoldable pub reported : Appended → List ℕ → ℕ × List ℕ
-reported (Count n) slot = (0, n ∷ [])
-reported (RefusedBy r) slot = (refusalNumber r, slot)
+unfoldable pub appendedSlots : Appended → List ℕ → ℕ × List ℕ
+appendedSlots (Count n) slot = (numberOfAppended (Count n), n ∷ [])
+appendedSlots (RefusedBy r) slot = (numberOfAppended (RefusedBy r), slot)
 
 -- the number of the answer, the lent slice and the slot
 unfoldable pub appendRoll : List ℕ → ℕ → Entry → List ℕ → ℕ × List ℕ × List ℕ
 appendRoll s count r slot =
     let (a, left) = appended s count r in
-    let (number, new) = reported a slot in
+    let (number, new) = appendedSlots a slot in
     cond (eqb (length slot) 1) (number, left, new) (sevenOrTwo (numberOfAppended (judgedAppend s count r)), s, slot)
 
 -- the answer for a set as C gets it: its number; the set to use goes to the slot, every other answer leaves it
-unfoldable pub named : Standing → List ℕ → ℕ × List ℕ
-named (Current n) slot = (0, n ∷ [])
-named Unknown slot = (70, slot)
-named Retired slot = (71, slot)
-named (NotSaid r) slot = (refusalNumber r, slot)
+unfoldable pub standingSlots : Standing → List ℕ → ℕ × List ℕ
+standingSlots (Current n) slot = (standingNumber (Current n), n ∷ [])
+standingSlots Unknown slot = (standingNumber Unknown, slot)
+standingSlots Retired slot = (standingNumber Retired, slot)
+standingSlots (NotSaid r) slot = (standingNumber (NotSaid r), slot)
 
 unfoldable pub setNow : List ℕ → ℕ → ℕ → List ℕ → ℕ × List ℕ
 setNow s count x slot =
     let a = standsNow (rollBytes s count) x in
-    cond (eqb (length slot) 1) (named a slot) (sevenOrTwo (standingNumber a), slot)
+    cond (eqb (length slot) 1) (standingSlots a slot) (sevenOrTwo (standingNumber a), slot)
 
-unfoldable pub retireAll : List ℕ → ℕ → ℕ → List ℕ → ℕ × List ℕ × List ℕ
-retireAll s count x slot =
-    let (a, left) = pressed s count x in
-    let (number, new) = reported a slot in
+unfoldable pub retireAllSlots : List ℕ → ℕ → ℕ → List ℕ → ℕ × List ℕ × List ℕ
+retireAllSlots s count x slot =
+    let (a, left) = retireAll s count x in
+    let (number, new) = appendedSlots a slot in
     cond (eqb (length slot) 1) (number, left, new) (cond (holdsRoll s count) 2 7, s, slot)

@@ -13,18 +13,18 @@ use Rattle.tables.specs.declared.Refusal.the-variants.{NotARoll}
 use Rattle.tables.specs.Answers.{refusalNumber}
 use Rattle.roll.specs.Format.{Entry}
 use Rattle.roll.specs.Reading.{framed, trailerAt, entryAt, sizeAt, rollBytes, holdsRoll}
-use Rattle.roll_read.specs.Calls.{itemNumber, readEntry, holdsRecord, readBy, readAt, readAtFormer}
-use Rattle.roll_read.specs.Steps.{record-room}
-use Rattle.roll_read.specs.declared.Item.{Item}
-use Rattle.roll_read.specs.declared.Item.the-variants.{Record, End, Refused}
-use Rattle.roll_append.specs.Calls.{numberOfAppended, judgedAppend, appended}
-use Rattle.roll_append.specs.declared.Appended.{Appended}
-use Rattle.roll_append.specs.declared.Appended.the-variants.{Count, Refused as RefusedBy}
+use Rattle.roll.specs.ReadCalls.{itemNumber, readEntry, holdsRecord, readBy, readAt, readAtFormer}
+use Rattle.roll.specs.StepLaws.{record-room}
+use Rattle.roll.specs.declared.read.Item.{Item}
+use Rattle.roll.specs.declared.read.Item.the-variants.{Record, End, Refused}
+use Rattle.roll.specs.AppendCalls.{numberOfAppended, judgedAppend, appended}
+use Rattle.roll.specs.declared.append.Appended.{Appended}
+use Rattle.roll.specs.declared.append.Appended.the-variants.{Count, Refused as RefusedBy}
 use Rattle.standing.specs.Register.{standingNumber, standsNow}
-use Rattle.retire.specs.Press.{pressed}
+use Rattle.standing.specs.RetireAll.{retireAll}
 use Rattle.standing.specs.declared.Standing.{Standing}
 use Rattle.standing.specs.declared.Standing.the-variants.{Unknown, Retired, Current, Refused as NotSaid}
-use Rattle.capi_roll.specs.Roll.{sevenOrTwo, slotsOf, told, toldIn, readRoll, readRollFormer, reported, appendRoll, named, setNow, retireAll}
+use Rattle.capi_roll.specs.Roll.{sevenOrTwo, slotsOf, itemSlots, toldIn, readRoll, readRollFormer, appendedSlots, appendRoll, standingSlots, setNow, retireAllSlots}
 
 pub is-seven : {n : ℕ} → n ≡ 7 → 7 ≡ sevenOrTwo n
 unfolding sevenOrTwo
@@ -53,8 +53,8 @@ one-slot (_ ∷ (_ ∷ _)) n h = absurd (omega (arith, h))
 -- ---- the reader
 
 -- a record that was read lies in the bytes
-abbrev pub Within : List ℕ → ℕ → Item → Type 0
-Within b at a = (k s e : ℕ) → a ≡ Record k s e → (at + (10 + getD b (at + 9) 0) ≤ length b) × (length b ≤ 65536)
+abbrev pub ItemFits : List ℕ → ℕ → Item → Type 0
+ItemFits b at a = (k s e : ℕ) → a ≡ Record k s e → (at + (10 + getD b (at + 9) 0) ≤ length b) × (length b ≤ 65536)
 
 pick : (h e : Bool) (x : Item) {k s l : ℕ} → cond h x (cond e End (Refused NotARoll)) ≡ Record k s l → h ≡ true
 pick true e x p = refl
@@ -62,30 +62,30 @@ pick false true x p = let z : _≡_ {A = ℕ} 68 0 = ap itemNumber p in absurd (
 pick false false x p = let z : _≡_ {A = ℕ} 7 0 = ap itemNumber p in absurd (omega (arith, z))
 
 -- by either rule, whose answer ok is
-pub read-within : (ok : Bool) (b : List ℕ) (at : ℕ) {a : Item} → (ok ≡ true → framed b ≡ true) → a ≡ readBy ok b at → Within b at a
+pub read-within : (ok : Bool) (b : List ℕ) (at : ℕ) {a : Item} → (ok ≡ true → framed b ≡ true) → a ≡ readBy ok b at → ItemFits b at a
 unfolding readBy
 read-within ok b at F p k s e q = record-room ok b at (pick (holdsRecord ok b at) (ok && eqb at (trailerAt b)) (readEntry (entryAt b at)) (sym p ∙ q)) F
 
 module _ (b : List ℕ) (at : ℕ) (slots : List ℕ) {a : Item} where
-  pub told-record : {k s e n p : ℕ} {z : List ℕ} → Within b at a → a ≡ Record k s e → n ≡ getD b (at + 9) 0 → p ≡ at + sizeAt b at → z ≡ (k ∷ s ∷ e ∷ (at + 10) ∷ n ∷ p ∷ [])
-      → (0, z) ≡ told b at a slots
-  unfolding told slotsOf entryAt sizeAt
+  pub told-record : {k s e n p : ℕ} {z : List ℕ} → ItemFits b at a → a ≡ Record k s e → n ≡ getD b (at + 9) 0 → p ≡ at + sizeAt b at → z ≡ (k ∷ s ∷ e ∷ (at + 10) ∷ n ∷ p ∷ [])
+      → (0, z) ≡ itemSlots b at a slots
+  unfolding itemSlots slotsOf entryAt sizeAt
   told-record {k} {s} {e} {n} W q l m h =
       let L = getD b (at + 9) 0 in
       let long : length (take L (drop (at + 10) b)) ≡ L = length-take-le L (drop (at + 10) b) (omega (arith, W k s e q .0, length-drop (at + 10) b)) in
       ap (λ (x : List ℕ). (0, x)) (h ∙ ap (λ (x : ℕ). k ∷ s ∷ e ∷ (at + 10) ∷ n ∷ x ∷ []) m ∙ ap (λ (x : ℕ). k ∷ s ∷ e ∷ (at + 10) ∷ x ∷ (at + (10 + L)) ∷ []) (l ∙ sym long))
-      ∙ ap (λ (x : Item). told b at x slots) (sym q)
+      ∙ ap (λ (x : Item). itemSlots b at x slots) (sym q)
 
-  pub told-end : a ≡ End → (68, slots) ≡ told b at a slots
-  unfolding told slotsOf
-  told-end q = ap (λ (x : Item). told b at x slots) (sym q)
+  pub told-end : a ≡ End → (68, slots) ≡ itemSlots b at a slots
+  unfolding itemSlots slotsOf
+  told-end q = ap (λ (x : Item). itemSlots b at x slots) (sym q)
 
-  pub told-refused : {r : Refusal} {n : ℕ} → a ≡ Refused r → n ≡ refusalNumber r → (n, slots) ≡ told b at a slots
-  unfolding told slotsOf
-  told-refused q h = ap (λ (x : ℕ). (x, slots)) h ∙ ap (λ (x : Item). told b at x slots) (sym q)
+  pub told-refused : {r : Refusal} {n : ℕ} → a ≡ Refused r → n ≡ refusalNumber r → (n, slots) ≡ itemSlots b at a slots
+  unfolding itemSlots slotsOf
+  told-refused q h = ap (λ (x : ℕ). (x, slots)) h ∙ ap (λ (x : Item). itemSlots b at x slots) (sym q)
 
 module _ (b : List ℕ) (at : ℕ) (slots : List ℕ) (a : Item) where
-  pub told-six : {n : ℕ} {z : List ℕ} → length slots ≡ 6 → (n, z) ≡ told b at a slots → (n, z) ≡ toldIn b at a slots
+  pub told-six : {n : ℕ} {z : List ℕ} → length slots ≡ 6 → (n, z) ≡ itemSlots b at a slots → (n, z) ≡ toldIn b at a slots
   unfolding toldIn
   told-six l h = rw (eq-eqb (length slots) 6 l) h
 
@@ -105,20 +105,20 @@ module _ (s : List ℕ) (count at : ℕ) (slots : List ℕ) {b : List ℕ} {a : 
 -- ---- the appender
 
 module _ (slot : List ℕ) (l : length slot ≡ 1) {a : Appended} where
-  pub reported-count : {n : ℕ} → a ≡ Count n → (0, set slot 0 n) ≡ reported a slot
-  unfolding reported
-  reported-count {n} q = ap (λ x. (0, x)) (one-slot slot n l) ∙ ap (λ x. reported x slot) (sym q)
+  pub reported-count : {n : ℕ} → a ≡ Count n → (0, set slot 0 n) ≡ appendedSlots a slot
+  unfolding appendedSlots
+  reported-count {n} q = ap (λ x. (0, x)) (one-slot slot n l) ∙ ap (λ x. appendedSlots x slot) (sym q)
 
-  pub reported-refused : {r : Refusal} {n : ℕ} → a ≡ RefusedBy r → n ≡ refusalNumber r → (n, slot) ≡ reported a slot
-  unfolding reported
-  reported-refused q h = ap (λ x. (x, slot)) h ∙ ap (λ x. reported x slot) (sym q)
+  pub reported-refused : {r : Refusal} {n : ℕ} → a ≡ RefusedBy r → n ≡ refusalNumber r → (n, slot) ≡ appendedSlots a slot
+  unfolding appendedSlots
+  reported-refused q h = ap (λ x. (x, slot)) h ∙ ap (λ x. appendedSlots x slot) (sym q)
 
 module _ (s : List ℕ) (count : ℕ) (r : Entry) (slot : List ℕ) where
-  pub append-told : {a : Appended} {left : List ℕ} {n : ℕ} {z : List ℕ} → length slot ≡ 1 → (a, left) ≡ appended s count r → (n, z) ≡ reported a slot
+  pub append-told : {a : Appended} {left : List ℕ} {n : ℕ} {z : List ℕ} → length slot ≡ 1 → (a, left) ≡ appended s count r → (n, z) ≡ appendedSlots a slot
       → (n, left, z) ≡ appendRoll s count r slot
   unfolding appendRoll
   append-told {a} {left} l p q =
-      rw (eq-eqb (length slot) 1 l) (ap (λ (x : ℕ × List ℕ). (x .0, left, x .1)) q ∙ ap (λ (x : Appended × List ℕ). (reported (x .0) slot .0, x .1, reported (x .0) slot .1)) p)
+      rw (eq-eqb (length slot) 1 l) (ap (λ (x : ℕ × List ℕ). (x .0, left, x .1)) q ∙ ap (λ (x : Appended × List ℕ). (appendedSlots (x .0) slot .0, x .1, appendedSlots (x .0) slot .1)) p)
 
   pub append-slot : {n m : ℕ} {a : Appended} → (length slot ≡ 1 → ⊥) → a ≡ judgedAppend s count r → m ≡ numberOfAppended a → n ≡ sevenOrTwo m → (n, s, slot) ≡ appendRoll s count r slot
   unfolding appendRoll
@@ -127,26 +127,26 @@ module _ (s : List ℕ) (count : ℕ) (r : Entry) (slot : List ℕ) where
 -- ---- which set stands now
 
 module _ (slot : List ℕ) {a : Standing} where
-  pub named-current : {n : ℕ} → length slot ≡ 1 → a ≡ Current n → (0, set slot 0 n) ≡ named a slot
-  unfolding named
-  named-current {n} l q = ap (λ (x : List ℕ). (0, x)) (one-slot slot n l) ∙ ap (λ (x : Standing). named x slot) (sym q)
+  pub named-current : {n : ℕ} → length slot ≡ 1 → a ≡ Current n → (0, set slot 0 n) ≡ standingSlots a slot
+  unfolding standingSlots
+  named-current {n} l q = ap (λ (x : List ℕ). (0, x)) (one-slot slot n l) ∙ ap (λ (x : Standing). standingSlots x slot) (sym q)
 
-  pub named-unknown : a ≡ Unknown → (70, slot) ≡ named a slot
-  unfolding named
-  named-unknown q = ap (λ (x : Standing). named x slot) (sym q)
+  pub named-unknown : a ≡ Unknown → (70, slot) ≡ standingSlots a slot
+  unfolding standingSlots
+  named-unknown q = ap (λ (x : Standing). standingSlots x slot) (sym q)
 
-  pub named-retired : a ≡ Retired → (71, slot) ≡ named a slot
-  unfolding named
-  named-retired q = ap (λ (x : Standing). named x slot) (sym q)
+  pub named-retired : a ≡ Retired → (71, slot) ≡ standingSlots a slot
+  unfolding standingSlots
+  named-retired q = ap (λ (x : Standing). standingSlots x slot) (sym q)
 
-  pub named-refused : {r : Refusal} {n : ℕ} → a ≡ NotSaid r → n ≡ refusalNumber r → (n, slot) ≡ named a slot
-  unfolding named
-  named-refused q h = ap (λ (x : ℕ). (x, slot)) h ∙ ap (λ (x : Standing). named x slot) (sym q)
+  pub named-refused : {r : Refusal} {n : ℕ} → a ≡ NotSaid r → n ≡ refusalNumber r → (n, slot) ≡ standingSlots a slot
+  unfolding standingSlots
+  named-refused q h = ap (λ (x : ℕ). (x, slot)) h ∙ ap (λ (x : Standing). standingSlots x slot) (sym q)
 
 module _ (s : List ℕ) (count x : ℕ) (slot : List ℕ) {a : Standing} (e : a ≡ standsNow (rollBytes s count) x) where
-  pub set-told : {n : ℕ} {z : List ℕ} → length slot ≡ 1 → (n, z) ≡ named a slot → (n, z) ≡ setNow s count x slot
+  pub set-told : {n : ℕ} {z : List ℕ} → length slot ≡ 1 → (n, z) ≡ standingSlots a slot → (n, z) ≡ setNow s count x slot
   unfolding setNow
-  set-told l h = rw (eq-eqb (length slot) 1 l) (h ∙ ap (λ (y : Standing). named y slot) e)
+  set-told l h = rw (eq-eqb (length slot) 1 l) (h ∙ ap (λ (y : Standing). standingSlots y slot) e)
 
   pub set-slot : {n m : ℕ} → (length slot ≡ 1 → ⊥) → m ≡ standingNumber a → n ≡ sevenOrTwo m → (n, slot) ≡ setNow s count x slot
   unfolding setNow
@@ -155,17 +155,17 @@ module _ (s : List ℕ) (count x : ℕ) (slot : List ℕ) {a : Standing} (e : a 
 -- ---- a set retired everywhere
 
 module _ (s : List ℕ) (count x : ℕ) (slot : List ℕ) where
-  pub retire-told : {a : Appended} {left : List ℕ} {n : ℕ} {z : List ℕ} → length slot ≡ 1 → (a, left) ≡ pressed s count x → (n, z) ≡ reported a slot
-      → (n, left, z) ≡ retireAll s count x slot
-  unfolding retireAll
+  pub retire-told : {a : Appended} {left : List ℕ} {n : ℕ} {z : List ℕ} → length slot ≡ 1 → (a, left) ≡ retireAll s count x → (n, z) ≡ appendedSlots a slot
+      → (n, left, z) ≡ retireAllSlots s count x slot
+  unfolding retireAllSlots
   retire-told {a} {left} l p q =
-      rw (eq-eqb (length slot) 1 l) (ap (λ (y : ℕ × List ℕ). (y .0, left, y .1)) q ∙ ap (λ (y : Appended × List ℕ). (reported (y .0) slot .0, y .1, reported (y .0) slot .1)) p)
+      rw (eq-eqb (length slot) 1 l) (ap (λ (y : ℕ × List ℕ). (y .0, left, y .1)) q ∙ ap (λ (y : Appended × List ℕ). (appendedSlots (y .0) slot .0, y .1, appendedSlots (y .0) slot .1)) p)
 
   module _ (l : length slot ≡ 1 → ⊥) {t : Bool} (h : t ≡ holdsRoll s count) where
-    pub retire-slot : t ≡ true → (2, s, slot) ≡ retireAll s count x slot
-    unfolding retireAll
+    pub retire-slot : t ≡ true → (2, s, slot) ≡ retireAllSlots s count x slot
+    unfolding retireAllSlots
     retire-slot q = let e : holdsRoll s count ≡ true = sym h ∙ q in rw (ne-eqb (length slot) 1 l, e) refl
 
-    pub retire-seven : t ≡ false → (7, s, slot) ≡ retireAll s count x slot
-    unfolding retireAll
+    pub retire-seven : t ≡ false → (7, s, slot) ≡ retireAllSlots s count x slot
+    unfolding retireAllSlots
     retire-seven q = let e : holdsRoll s count ≡ false = sym h ∙ q in rw (ne-eqb (length slot) 1 l, e) refl

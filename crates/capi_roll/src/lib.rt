@@ -5,12 +5,12 @@ ghost use Prim.Native.Nat.{_+_};
 ghost use lib.ListN.{length};
 ghost use Rattle.roll.specs.Format.{entry};
 ghost use Rattle.roll.specs.Reading.{holdsRoll, holdsFormerRoll};
-ghost use Rattle.capi_roll.specs.Roll.{sevenOrTwo, told, toldIn, reported, named, readRoll, readRollFormer, appendRoll, setNow, retireAll};
-ghost use Rattle.capi_roll.specs.Told.{Within};
+ghost use Rattle.capi_roll.specs.Roll.{sevenOrTwo, itemSlots, toldIn, appendedSlots, standingSlots, readRoll, readRollFormer, appendRoll, setNow, retireAllSlots};
+ghost use Rattle.capi_roll.specs.Told.{ItemFits};
+use roll::append::Appended;
 use roll::layout::record_end;
 use roll::numbers::wide;
-use roll_append::Appended;
-use roll_read::Item;
+use roll::read::Item;
 use standing::Standing;
 
 // Whether the first count bytes of the lent slice are there and are a roll.
@@ -63,8 +63,8 @@ fn fill(
 // Puts what the reader said at a position of the roll b into the slots: kind, set number, earlier set number, where the label begins,
 // its length, where the record ends. The end and a refusal leave them.
 fn tell(b: &[u8], at: usize, a: Item, slots: &mut [usize]) -> u8
-    requires { ⌜ (length (now slots) ≡ 6) × Within (now b) at a ⌝ }
-    ensures { λ r. ⌜ (r, now (slots .exit)) ≡ told (now (b .entry)) at a (now (slots .entry)) ⌝ }
+    requires { ⌜ (length (now slots) ≡ 6) × ItemFits (now b) at a ⌝ }
+    ensures { λ r. ⌜ (r, now (slots .exit)) ≡ itemSlots (now (b .entry)) at a (now (slots .entry)) ⌝ }
 {
     match a {
         Item::Record { kind, set, earlier } => {
@@ -86,13 +86,13 @@ fn tell(b: &[u8], at: usize, a: Item, slots: &mut [usize]) -> u8
 
 // The same where there may be another number of slots.
 fn tell_in(b: &[u8], at: usize, a: Item, slots: &mut [usize]) -> u8
-    requires { ⌜ Within (now b) at a ⌝ }
+    requires { ⌜ ItemFits (now b) at a ⌝ }
     ensures { λ r. ⌜ (r, now (slots .exit)) ≡ toldIn (now (b .entry)) at a (now (slots .entry)) ⌝ }
 {
     if slots.len() == 6 {
         return tell(b, at, a, slots);
     }
-    seven_or_two(roll_read::item_number(a))
+    seven_or_two(roll::read::item_number(a))
 }
 
 // What stands at a position of the roll in the first count bytes of the lent slice: 0 for a record, 68 for the end, 7. slots has six
@@ -102,7 +102,7 @@ pub extern "C" fn gf_read_roll(lent: &[u8], count: usize, at: usize, slots: &mut
     ensures { λ r. ⌜ (r, now (slots .exit)) ≡ readRoll (now (lent .entry)) count at (now (slots .entry)) ⌝ }
 {
     let b = roll::roll_bytes(lent, count);
-    let a = roll_read::reading::read_at(b, at);
+    let a = roll::reading::read_at(b, at);
     tell_in(b, at, a, slots)
 }
 
@@ -117,14 +117,14 @@ pub extern "C" fn gf_read_roll_former(
     ensures { λ r. ⌜ (r, now (slots .exit)) ≡ readRollFormer (now (lent .entry)) count at (now (slots .entry)) ⌝ }
 {
     let b = roll::roll_bytes(lent, count);
-    let a = roll_read::reading::read_at_former(b, at);
+    let a = roll::reading::read_at_former(b, at);
     tell_in(b, at, a, slots)
 }
 
 // Puts the appender's answer into the slot: how many bytes the roll has now. A refusal leaves it.
 fn report(a: Appended, slot: &mut [usize]) -> u8
     requires { ⌜ length (now slot) ≡ 1 ⌝ }
-    ensures { λ r. ⌜ (r, now (slot .exit)) ≡ reported a (now (slot .entry)) ⌝ }
+    ensures { λ r. ⌜ (r, now (slot .exit)) ≡ appendedSlots a (now (slot .entry)) ⌝ }
 {
     match a {
         Appended::Count(n) => {
@@ -150,17 +150,17 @@ pub extern "C" fn gf_append_roll(
     ensures { λ r. ⌜ (r, now (lent .exit), now («new_count» .exit)) ≡ appendRoll (now (lent .entry)) count (entry kind set earlier (now (label .entry))) (now («new_count» .entry)) ⌝ }
 {
     if new_count.len() == 1 {
-        let a = roll_append::append(lent, count, kind, set, earlier, label);
+        let a = roll::append::append(lent, count, kind, set, earlier, label);
         return report(a, new_count);
     }
-    let a = roll_append::judge_append(lent, count, kind, set as usize, earlier as usize, label);
-    seven_or_two(roll_append::number_of_appended(a))
+    let a = roll::append::judge_append(lent, count, kind, set as usize, earlier as usize, label);
+    seven_or_two(roll::append::number_of_appended(a))
 }
 
 // Puts the set to use into the slot. Every other answer leaves it.
 fn name_set(a: Standing, slot: &mut [usize]) -> u8
     requires { ⌜ length (now slot) ≡ 1 ⌝ }
-    ensures { λ r. ⌜ (r, now (slot .exit)) ≡ named a (now (slot .entry)) ⌝ }
+    ensures { λ r. ⌜ (r, now (slot .exit)) ≡ standingSlots a (now (slot .entry)) ⌝ }
 {
     match a {
         Standing::Unknown => 70,
@@ -195,10 +195,10 @@ pub extern "C" fn gf_retire_all(
     set: u32,
     new_count: &mut [usize],
 ) -> u8
-    ensures { λ r. ⌜ (r, now (lent .exit), now («new_count» .exit)) ≡ retireAll (now (lent .entry)) count set (now («new_count» .entry)) ⌝ }
+    ensures { λ r. ⌜ (r, now (lent .exit), now («new_count» .exit)) ≡ retireAllSlots (now (lent .entry)) count set (now («new_count» .entry)) ⌝ }
 {
     if new_count.len() == 1 {
-        let a = retire::retire_all(lent, count, set);
+        let a = standing::retire::retire_all(lent, count, set);
         return report(a, new_count);
     }
     if roll::judge::is_roll(lent, count) {

@@ -7,14 +7,14 @@ use lib.Dec.{leb, eqb}
 use lib.Ieee.{Float, nan, inf, fin, Format, up, down, low, size, round}
 
 -- The whole part of the root of an n below 4 ^ d, a binary digit at a time: the largest r with r * r ≤ n.
-unfoldable pub digits : ℕ → ℕ → ℕ
-digits zero n = 0
-digits (suc d) n = let r = 2 * digits d (n / 4) in cond (leb ((r + 1) * (r + 1)) n) (r + 1) r
+unfoldable pub rootDigits : ℕ → ℕ → ℕ
+rootDigits zero n = 0
+rootDigits (suc d) n = let r = 2 * rootDigits d (n / 4) in cond (leb ((r + 1) * (r + 1)) n) (r + 1) r
 
 -- The whole part of the root of n, which has `size n` binary digits. RootLaws.antt proves that it is that.
 unfoldable pub root : ℕ → ℕ
-unfolding digits
-root n = digits (size n) n
+unfolding rootDigits
+root n = rootDigits (size n) n
 
 -- The root of n / 4 ^ k, rounded to the format. Its whole part in units of 2 ^ -k is r. One binary digit more, 1 where the root is no whole number of units,
 -- is all that `round` has to know of the rest: `round` rounds the fraction (2 * r + 1) / 2 ^ (k + 1) as it would the root.

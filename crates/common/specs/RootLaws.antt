@@ -7,7 +7,7 @@ use native.Mathlib.Omega.{arith}
 use lib.Dec.{T, leb, leb→le, nleb→lt, lit≤}
 use lib.Ieee.{size}
 use lib.Ieee.Digits.{size-lt}
-use Rattle.common.specs.Root.{digits, root}
+use Rattle.common.specs.Root.{rootDigits, root}
 
 -- r is the whole part of n's root
 abbrev pub WholeRoot : ℕ → ℕ → Type 0
@@ -23,14 +23,14 @@ step n r false w h k = go (k tt) (w .0) (w .1)
     go : n < (2 * r + 1) * (2 * r + 1) → r * r ≤ n / 4 → n / 4 < (r + 1) * (r + 1) → WholeRoot n (2 * r)
     go a b c = omega arith
 
-digits-root : (d n : ℕ) → n < 4 ^ d → WholeRoot n (digits d n)
-unfolding digits
+digits-root : (d n : ℕ) → n < 4 ^ d → WholeRoot n (rootDigits d n)
+unfolding rootDigits
 digits-root zero n h = go h
   where
     go : n < 1 → WholeRoot n 0
     go h = omega arith
 digits-root (suc d) n h =
-    let r = digits d (n / 4) in
+    let r = rootDigits d (n / 4) in
     step n r (leb ((2 * r + 1) * (2 * r + 1)) n) (digits-root d (n / 4) (div-lt-iff-lt-mul (zero-lt-suc 3) .1 (subst (λ (z : ℕ). n < z) (pow-suc 4 d) h)))
     (leb→le ((2 * r + 1) * (2 * r + 1)) n) (nleb→lt ((2 * r + 1) * (2 * r + 1)) n)
 

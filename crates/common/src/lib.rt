@@ -1,9 +1,9 @@
-// Rounding and the square root of an f64, worked out from its bits.
+// Rounding and the square root of an f64, worked out from its bits, and the bits themselves.
 mod root;
 
 ghost use mathlib.Core.Path.{_≡_};
 ghost use Prim.Native.Nat.{_^_, _≤_, _<_};
-ghost use lib.Ieee.{binary64};
+ghost use lib.Ieee.{binary64, toBits};
 ghost use Rattle.common.specs.Root.{sqrt as rootOf};
 ghost use Rattle.common.specs.Whole.{halfUp, nearestWhole, nint as toNint};
 ghost use Rattle.common.specs.Laws.Fields.{unitsOf, fieldOf, digitsOf};
@@ -84,4 +84,14 @@ pub fn sqrt(x: f64) -> f64
         return x;
     }
     0.0 / 0.0
+}
+
+// The pattern of a float, one for every NaN.
+pub fn float_word(x: f64) -> u64
+    ensures { λ r. ⌜ r ≡ toBits binary64 x ⌝ }
+{
+    if x != x {
+        return 0x7ff8_0000_0000_0000;
+    }
+    f64::to_bits(x)
 }

@@ -9,12 +9,12 @@ use Rattle.lists.specs.Digits.{in-row}
 use Rattle.blocks.specs.Block.{block, block-of, place-of}
 use Rattle.tables.specs.Lengths.{setLength, slab-length}
 use Rattle.rotations.specs.Rotation.{rotated}
-use Rattle.deltas.specs.RotateDelta.{Deltas, total, rotatedDelta, summed, number, rotatedDeltas}
+use Rattle.deltas.specs.RotateDelta.{Deltas, deltaTotal, rotatedDelta, summed, number, rotatedDeltas}
 use Rattle.deltas.specs.Rows.{imageOf, source-next, source-of-one}
 
 -- Number (k, p) of block b, k the direction of the displaced atom: row k of invU times number p of the rotated deltas, summed over the pairs.
 pub result-number : (D : Deltas) (m b k p : ℕ) → b < D .numAtom ^ m → k < 3 → p < 3 ^ m
-    → getD (rotatedDeltas D m) (b * (3 * 3 ^ m) + (k * 3 ^ m + p)) nan ≡ summed D m (total D) b k p
+    → getD (rotatedDeltas D m) (b * (3 * 3 ^ m) + (k * 3 ^ m + p)) nan ≡ summed D m (deltaTotal D) b k p
 unfolding rotatedDeltas
 result-number D m b k p hb hk hp =
     let w = 3 ^ m in

@@ -16,8 +16,9 @@ use Rattle.lists.specs.Cases.{eq-or-ne, lt-or-le}
 use Rattle.blocks.specs.Block.{block, putBlock, length-putBlock, getD-block, put-inside, put-outside, block-of, place-of}
 use Rattle.tables.specs.Conditions.{indexAt}
 use Rattle.tables.specs.Lengths.{setLength, slab-length}
-use Rattle.rotations.specs.Rotation.{plusZero, rotated}
-use Rattle.deltas.specs.RotateDelta.{Deltas, total, source, rotatedDelta, summed, numberIn, number, rotatedDeltas}
+use Rattle.lists.specs.Floats.{plusZero}
+use Rattle.rotations.specs.Rotation.{rotated}
+use Rattle.deltas.specs.RotateDelta.{Deltas, deltaTotal, deltaSource, rotatedDelta, summed, numberIn, number, rotatedDeltas}
 
 -- ---- definitions
 
@@ -48,7 +49,7 @@ column invU t n = tab 3 (λ k. getD invU (k * t + n) nan)
 
 -- the share of pair n in block b
 abbrev pub pairShare : Deltas → ℕ → ℕ → ℕ → List Float → List Float
-pairShare D m n b = share (3 ^ m) b (column (D .invU) (total D) n) (rotatedDelta D m n b)
+pairShare D m n b = share (3 ^ m) b (column (D .invU) (deltaTotal D) n) (rotatedDelta D m n b)
 
 -- the share of pair n in row i, whose blocks have k more atoms
 unfoldable pub addPair : Deltas → ℕ → ℕ → ℕ → List Float → List Float
@@ -195,23 +196,23 @@ module _ (D : Deltas) (m k size : ℕ) (pos : 0 < 3 ^ m) where
   -- row i is reached: n pairs are added to all its blocks, and pair n to its first j
   pub record Passed (i n j : ℕ) (fc : List Float) : Type 0 where
     pub len : length fc ≡ size
-    pub before : (q : ℕ) → q < size → q / (3 * w) < i * k → getD fc q nan ≡ upTo (total D) q
+    pub before : (q : ℕ) → q < size → q / (3 * w) < i * k → getD fc q nan ≡ upTo (deltaTotal D) q
     pub done : (q : ℕ) → q < size → i * k ≤ q / (3 * w) → q / (3 * w) < i * k + j → getD fc q nan ≡ upTo (suc n) q
     pub todo : (q : ℕ) → q < size → i * k + j ≤ q / (3 * w) → q / (3 * w) < i * k + k → getD fc q nan ≡ upTo n q
     pub after : (q : ℕ) → q < size → i * k + k ≤ q / (3 * w) → getD fc q nan ≡ upTo 0 q
 
   one-more : (n q b : ℕ) → q / (3 * w) ≡ b → (y : Float) → y ≡ upTo n q
-      → add binary64 y (mul binary64 (getD (column (D .invU) (total D) n) (q % (3 * w) / w) nan) (getD (rotatedDelta D m n b) (q % (3 * w) % w) nan)) ≡ upTo (suc n) q
+      → add binary64 y (mul binary64 (getD (column (D .invU) (deltaTotal D) n) (q % (3 * w) / w) nan) (getD (rotatedDelta D m n b) (q % (3 * w) % w) nan)) ≡ upTo (suc n) q
   unfolding summed times
   one-more n q b e y ey =
       let l : q % (3 * w) / w < 3 = div-lt-iff-lt-mul pos .1 (mod-lt q (omega arith)) in
       ap₂ (add binary64) ey
-      (ap₂ (mul binary64) (in-column (D .invU) (total D) n (q % (3 * w) / w) l) (ap (λ c. getD (rotatedDelta D m n c) (q % (3 * w) % w) nan) (sym e)))
+      (ap₂ (mul binary64) (in-column (D .invU) (deltaTotal D) n (q % (3 * w) / w) l) (ap (λ c. getD (rotatedDelta D m n c) (q % (3 * w) % w) nan) (sym e)))
 
   block-more : (i n j : ℕ) (fc : List Float) → j < k → Passed i n j fc → Passed i n (suc j) (pairShare D m n (i * k + j) fc)
   block-more i n j fc hj P =
       let b = i * k + j in
-      let u = column (D .invU) (total D) n in
+      let u = column (D .invU) (deltaTotal D) n in
       let x = rotatedDelta D m n b in
       let there : (q : ℕ) → q < size → q < length fc = λ q l. subst (λ (z : ℕ). q < z) (sym (P .len)) l in
       record {
@@ -240,9 +241,9 @@ module _ (D : Deltas) (m k size : ℕ) (pos : 0 < 3 ^ m) where
         after = Q .after;
       }
 
-  row-more : (i : ℕ) (fc : List Float) → Passed i 0 0 fc → Passed (suc i) 0 0 (times (total D) (λ n. times k (λ j. pairShare D m n (i * k + j))) fc)
+  row-more : (i : ℕ) (fc : List Float) → Passed i 0 0 fc → Passed (suc i) 0 0 (times (deltaTotal D) (λ n. times k (λ j. pairShare D m n (i * k + j))) fc)
   row-more i fc P =
-      let Q = times-keeps (λ n. Passed i n 0) (total D) (λ n. times k (λ j. pairShare D m n (i * k + j))) fc P (λ n y l. pair-more i n y) in
+      let Q = times-keeps (λ n. Passed i n 0) (deltaTotal D) (λ n. times k (λ j. pairShare D m n (i * k + j))) fc P (λ n y l. pair-more i n y) in
       let e : suc i * k ≡ i * k + k = omega arith in
       record {
         len = Q .len;
@@ -265,12 +266,12 @@ module _ (D : Deltas) (m k size : ℕ) (pos : 0 < 3 ^ m) where
         after = λ q l g. z q l;
       }
 
-  all-rows : (rows : ℕ) → Passed rows 0 0 (times rows (λ i. times (total D) (λ n. times k (λ j. pairShare D m n (i * k + j)))) (replicate size plusZero))
+  all-rows : (rows : ℕ) → Passed rows 0 0 (times rows (λ i. times (deltaTotal D) (λ n. times k (λ j. pairShare D m n (i * k + j)))) (replicate size plusZero))
   all-rows rows = times-keeps (λ i. Passed i 0 0) rows _ (replicate size plusZero) start (λ i y l. row-more i y)
 
 -- the rows of a result of rank k + 2 are the result
 pub rows-all : (D : Deltas) (k size : ℕ) → 0 < 3 ^ suc k → size ≡ D .numAtom ^ suc k * (3 * 3 ^ suc k)
-    → times (D .numAtom) (λ i. times (total D) (addPair D k i)) (replicate size plusZero) ≡ rotatedDeltas D (suc k)
+    → times (D .numAtom) (λ i. times (deltaTotal D) (addPair D k i)) (replicate size plusZero) ≡ rotatedDeltas D (suc k)
 unfolding rotatedDeltas addPair
 rows-all D k size pos e =
     let a = D .numAtom in
@@ -290,29 +291,29 @@ module _ (D : Deltas) (n : ℕ) where
   imageOf a = indexAt (D .rotMapSyms) (n % D .numSiteSym * D .numAtom + a)
 
   -- the source of a block, from that of the atoms before its last
-  pub source-next : (m c j : ℕ) → j < D .numAtom → source D n (suc m) (c * D .numAtom + j) ≡ source D n m c * D .numAtom + imageOf j
-  unfolding source
+  pub source-next : (m c j : ℕ) → j < D .numAtom → deltaSource D n (suc m) (c * D .numAtom + j) ≡ deltaSource D n m c * D .numAtom + imageOf j
+  unfolding deltaSource
   source-next m c j h = rw (block-of (D .numAtom) c j h, place-of (D .numAtom) c j h) refl
 
   -- one atom
-  pub source-of-one : (i : ℕ) → i < D .numAtom → n / D .numSiteSym * D .numAtom + imageOf i ≡ source D n 1 i
-  unfolding source
+  pub source-of-one : (i : ℕ) → i < D .numAtom → n / D .numSiteSym * D .numAtom + imageOf i ≡ deltaSource D n 1 i
+  unfolding deltaSource
   source-of-one i h = ap (λ a. n / D .numSiteSym * D .numAtom + imageOf a) (sym (mod-eq-of-lt h))
 
 -- the loops over the last atoms give each block of the row its share
-module _ (D : Deltas) (m n : ℕ) (u : List Float) (eu : u ≡ column (D .invU) (total D) n) where
+module _ (D : Deltas) (m n : ℕ) (u : List Float) (eu : u ≡ column (D .invU) (deltaTotal D) n) where
   abbrev R : List Float
   R = block 9 (n % D .numSiteSym) (D .siteSymCart)
 
-  share-of : (M t s : ℕ) (fc : List Float) → M ≡ m → s ≡ source D n M t → share (3 ^ m) t u (rotated R m (block (3 ^ m) s (D .deltas))) fc ≡ pairShare D m n t fc
+  share-of : (M t s : ℕ) (fc : List Float) → M ≡ m → s ≡ deltaSource D n M t → share (3 ^ m) t u (rotated R m (block (3 ^ m) s (D .deltas))) fc ≡ pairShare D m n t fc
   unfolding rotatedDelta
-  share-of M t s fc em es = ap₂ (λ v z. share (3 ^ m) t v (rotated R m (block (3 ^ m) z (D .deltas))) fc) eu (es ∙ ap (λ l. source D n l t) em)
+  share-of M t s fc em es = ap₂ (λ v z. share (3 ^ m) t v (rotated R m (block (3 ^ m) z (D .deltas))) fc) eu (es ∙ ap (λ l. deltaSource D n l t) em)
 
   once : (f : ℕ → List Float → List Float) (fc : List Float) → f 0 fc ≡ times (D .numAtom ^ 0) f fc
   unfolding times
   once f fc = rw (pow-zero (D .numAtom)) refl
 
-  pub spread-shares : (M k t s : ℕ) (fc : List Float) → M + k ≡ m → s ≡ source D n M t
+  pub spread-shares : (M k t s : ℕ) (fc : List Float) → M + k ≡ m → s ≡ deltaSource D n M t
       → spread (imageOf D n) (D .numAtom) (3 ^ m) u (rotated R m) (D .deltas) k t s fc
       ≡ times (D .numAtom ^ k) (λ j. pairShare D m n (t * D .numAtom ^ k + j)) fc
   unfolding spread

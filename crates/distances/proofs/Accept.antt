@@ -18,7 +18,7 @@ use borrow.Author.Tests.{ltb-true, lt-ltb, eq-eqb, ne-eqb}
 use Rattle.lists.specs.Cases.{eq-or-ne, lt-or-le}
 use Rattle.common.specs.Root.{root, roundedRoot, sqrt}
 use Rattle.common.specs.RootLaws.{root-is}
-use Rattle.distances.specs.Reach.{plus}
+use Rattle.distances.specs.Reach.{isPositive}
 use Rattle.distances.proofs.Rounded.{le-cross, round-plus}
 
 -- ---- natural numbers: the root's digits, with one more for what is left over
@@ -54,7 +54,7 @@ sticky-mono n k h = go (eq-or-lt-of-le (root-le (root n) (root k) (lt-of-le-of-l
 -- ---- floats
 
 -- u ≤ v < s
-le-lt : (u v s : Float) → T (plus u) → T (plus v) → T (le u v) → lt v s ≡ true → lt u s ≡ true
+le-lt : (u v s : Float) → T (isPositive u) → T (isPositive v) → T (le u v) → lt v s ≡ true → lt u s ≡ true
 unfolding le lt
 le-lt nan v s U W h k = absurd h
 le-lt (inf true) v s U W h k = absurd U
@@ -86,7 +86,7 @@ le-lt (fin false m e) (fin false n d) (fin false a b) U W h k =
         (lt-of-lt-of-le (mul-lt-mul-of-pos-right k P) (le-of-eq (mul-right-comm z q p))))))
 
 module _ (f : Format) where
-  pub sqrt-plus : (x : Float) → T (plus x) → T (plus (sqrt f x))
+  pub sqrt-plus : (x : Float) → T (isPositive x) → T (isPositive (sqrt f x))
   unfolding sqrt roundedRoot
   sqrt-plus nan p = tt
   sqrt-plus (inf true) p = absurd p
@@ -106,7 +106,7 @@ module _ (f : Format) where
       (mul-le-mul-right K (sticky-mono (suc m * up e * F / down e) (suc n * up d * F / down d) (div-mono (suc m * up e * F) (down e) (suc n * up d * F) (down d) (down-pos e) (down-pos d) a)))
 
   -- a zero is below whatever a root is below
-  zero-below : (v s : Float) (e : ℤ) → T (plus v) → lt v s ≡ true → lt (fin false zero e) s ≡ true
+  zero-below : (v s : Float) (e : ℤ) → T (isPositive v) → lt v s ≡ true → lt (fin false zero e) s ≡ true
   unfolding lt
   zero-below nan s e W k = absurd (false≢true k)
   zero-below (inf true) s e W k = absurd W
@@ -128,7 +128,7 @@ module _ (f : Format) where
   below-nothing (inf t) k = false≢true k
   below-nothing (fin t a b) k = false≢true k
 
-  up-to : (s x lim : Float) → T (plus x) → T (plus lim) → T (le x lim) → lt (sqrt f lim) s ≡ true → lt (sqrt f x) s ≡ true
+  up-to : (s x lim : Float) → T (isPositive x) → T (isPositive lim) → T (le x lim) → lt (sqrt f lim) s ≡ true → lt (sqrt f x) s ≡ true
   up-to s nan lim X L h k = absurd (unfold le in h)
   up-to s (inf true) lim X L h k = absurd X
   up-to s (inf false) nan X L h k = absurd (unfold le in h)
@@ -149,5 +149,5 @@ module _ (f : Format) where
       (root-mono m e n d (le-cross (suc m * up e * down d) (suc n * up d * down e) (unfold le in h))) k
 
   -- the claim
-  pub accept : (s x lim : Float) → T (plus x) → T (plus lim) → le x lim ≡ true → lt (sqrt f lim) s ≡ true → lt (sqrt f x) s ≡ true
+  pub accept : (s x lim : Float) → T (isPositive x) → T (isPositive lim) → le x lim ≡ true → lt (sqrt f lim) s ≡ true → lt (sqrt f x) s ≡ true
   accept s x lim X L h k = up-to s x lim X L (subst T (sym h) tt) k

@@ -19,21 +19,21 @@ use Rattle.common.specs.Whole.{nearestWhole}
 use Rattle.common.specs.NearestWhole.{gap, whole-is-nearest}
 use Rattle.common.specs.Root.{roundedRoot, sqrt}
 use Rattle.distances.specs.declared.Distance.the-variants.{Near, Far, NoNumber}
-use Rattle.distances.specs.Near.{wrapped, difference, dot, squares, told}
-use Rattle.distances.specs.Reach.{plus, Rest, Rests, Plain, Early, EarlyOf, everywhere, OnlyIf, Reaches}
+use Rattle.distances.specs.Near.{wrapped, difference, dot, squares, classified}
+use Rattle.distances.specs.Reach.{isPositive, Rest, Rests, Finite, Early, EarlyOf, everywhere, OnlyIf, Reaches}
 use Rattle.distances.proofs.Rounded.{le-cross, own-round, round-plus, number, round-number}
 use Rattle.distances.proofs.Sums.{mul-plus, add-plus}
 use Rattle.distances.proofs.Squares.{zero-plus, sum-plus, first-row, too-long}
 
 -- ---- what is told of a distance
 
-pub told-none : (d s : Float) → isNan d ≡ true → NoNumber ≡ told d s
+pub told-none : (d s : Float) → isNan d ≡ true → NoNumber ≡ classified d s
 told-none d s h = rw h
 
-pub told-far : (d s : Float) → isNan d ≡ false → lt d s ≡ false → Far ≡ told d s
+pub told-far : (d s : Float) → isNan d ≡ false → lt d s ≡ false → Far ≡ classified d s
 told-far d s h g = rw (h, g)
 
-pub told-near : (d s : Float) → lt d s ≡ true → Near ≡ told d s
+pub told-near : (d s : Float) → lt d s ≡ true → Near ≡ classified d s
 unfolding lt isNan
 told-near nan s g = absurd (false≢true g)
 told-near (inf t) s g = sym (ap (λ b. cond b Near Far) g)
@@ -66,7 +66,7 @@ pub differs-none : (x : Float) → ne x x ≡ true → x ≡ nan
 differs-none x h = differs-from-itself x (subst T (sym h) tt)
 
 -- the root of a number without a minus sign is a number
-pub root-number : (x : Float) → T (plus x) → T (number x) → T (number (sqrt binary64 x))
+pub root-number : (x : Float) → T (isPositive x) → T (number x) → T (number (sqrt binary64 x))
 unfolding sqrt roundedRoot
 root-number nan p n = absurd n
 root-number (inf true) p n = absurd p
@@ -119,7 +119,7 @@ module _ (f : Format) where
   add-number (fin s m e) (fin t n d) h g = sum-number s (m * up e * down d) t (n * up d * down e) (down e * down d)
 
   -- two numbers without a minus sign
-  add-pluses : (x y : Float) → T (plus x) → T (plus y) → T (number x) → T (number y) → T (number (add f x y))
+  add-pluses : (x y : Float) → T (isPositive x) → T (isPositive y) → T (number x) → T (number y) → T (number (add f x y))
   unfolding add
   add-pluses nan y p q h g = absurd h
   add-pluses (inf true) y p q h g = absurd p
@@ -166,7 +166,7 @@ module _ (f : Format) where
       subst (λ x. T (finite x)) (sym (round-is f s a c)) (units-finite s _ _ (subst (λ x. T (finite x)) (round-is f false a c) h))
 
 -- what is no more than a finite number is finite, both without a minus sign
-no-more : (x y : Float) → T (number x) → T (plus x) → T (finite y) → T (le x y) → T (finite x)
+no-more : (x y : Float) → T (number x) → T (isPositive x) → T (finite y) → T (le x y) → T (finite x)
 unfolding le
 no-more nan y n p g h = absurd n
 no-more (inf true) y n p g h = absurd p
@@ -177,7 +177,7 @@ no-more (fin s m e) y n p g h = tt
 
 -- ---- the rest of an axis difference
 
-rest-le : (x r : Float) → T (plus x) → T (number x) → HasValue r false 1 1 → T (le x r) → Rest x
+rest-le : (x r : Float) → T (isPositive x) → T (number x) → HasValue r false 1 1 → T (le x r) → Rest x
 unfolding le
 rest-le nan r p n v h = tt
 rest-le (inf true) r p n v h = absurd p
@@ -278,7 +278,7 @@ rests-of f x y z a b c d g h X Y Z e =
 -- ---- rows of finite numbers
 
 -- a finite number times a rest that is a number
-product-finite : (l x : Float) → Plain l → Rest x → T (number x) → T (finite (mul binary64 l x))
+product-finite : (l x : Float) → Finite l → Rest x → T (number x) → T (finite (mul binary64 l x))
 unfolding mul fits
 product-finite nan x (F, p) r n = absurd p
 product-finite (inf s) x (F, p) r n = absurd p
@@ -318,12 +318,12 @@ module _ (x y z : Float) (X : Rest x) (Y : Rest y) (Z : Rest z) where
       let (h0, hx) = add-parts binary64 _ (mul binary64 a x) h1 in
       (mul-parts binary64 a x hx .1, mul-parts binary64 b y hy .1, mul-parts binary64 c z hz .1)
 
-  row-number : (a b c : Float) → Plain a × Plain b × Plain c → T (number x) × T (number y) × T (number z) → T (number (dot a b c x y z))
+  row-number : (a b c : Float) → Finite a × Finite b × Finite c → T (number x) × T (number y) × T (number z) → T (number (dot a b c x y z))
   row-number a b c (A, B, C) (hx, hy, hz) =
       add-number binary64 _ _ (add-number binary64 _ _ (add-number binary64 _ _ zero-number (product-finite a x A X hx)) (product-finite b y B Y hy)) (product-finite c z C Z hz)
 
   -- the first row's square is above `early`: the whole sum is a number
-  pub first-decides : (a b c p q r s t u : Float) → (Plain p × Plain q × Plain r) × (Plain s × Plain t × Plain u)
+  pub first-decides : (a b c p q r s t u : Float) → (Finite p × Finite q × Finite r) × (Finite s × Finite t × Finite u)
       → (w : Float) → lt w (add binary64 (ofBits binary64 0) (mul binary64 (dot a b c x y z) (dot a b c x y z))) ≡ true
       → T (number (dot (dot a b c x y z) (dot p q r x y z) (dot s t u x y z) (dot a b c x y z) (dot p q r x y z) (dot s t u x y z)))
   first-decides a b c p q r s t u (P, S) w h =
@@ -381,6 +381,14 @@ pub never-only : (repeats : Bool) → OnlyIf repeats (div binary64 (ofBits binar
 unfolding div ofBits
 never-only repeats = λ x h. absurd (nan-below x h)
 
+-- a number by a test, or 0.0 / 0.0, which is NaN
+pub if-so : {e : Float} (b : Bool) (x : Float) → b ≡ true → e ≡ x → e ≡ cond b x nan
+if-so b x h g = g ∙ sym (ap (λ b. cond b x nan) h)
+
+pub if-not : (b : Bool) (x : Float) → b ≡ false → div binary64 (ofBits binary64 0) (ofBits binary64 0) ≡ cond b x nan
+unfolding div ofBits
+if-not b x h = sym (ap (λ b. cond b x nan) h)
+
 -- ---- what the squares tell
 
 -- NaN has the root NaN
@@ -389,21 +397,21 @@ unfolding sqrt isNan
 root-none x h = ap (λ (y : Float). isNan (sqrt binary64 y)) (differs-none x h)
 
 module _ (s square sure : Float) (S : T (fits binary64 s)) (R : Reaches s square sure) where
-  pub squares-far : (x : Float) → T (fits binary64 x) → T (plus x) → lt square x ≡ true → Far ≡ told (sqrt binary64 x) s
+  pub squares-far : (x : Float) → T (fits binary64 x) → T (isPositive x) → lt square x ≡ true → Far ≡ classified (sqrt binary64 x) s
   squares-far x X p h = told-far (sqrt binary64 x) s (is-number _ (root-number x p (above-number square x h))) (too-long s square sure S R x X h)
 
-  pub root-far : (x y : Float) → T (plus x) → ne x x ≡ false → y ≡ sqrt binary64 x → lt y s ≡ false → Far ≡ told (sqrt binary64 x) s
+  pub root-far : (x y : Float) → T (isPositive x) → ne x x ≡ false → y ≡ sqrt binary64 x → lt y s ≡ false → Far ≡ classified (sqrt binary64 x) s
   root-far x y p n e h = told-far (sqrt binary64 x) s (is-number _ (root-number x p (same-number x n))) (ap (λ (z : Float). lt z s) (sym e) ∙ h)
 
   sum-number-of : (l : List Float) (x y z : Float) → Rest x → Rest y → Rest z → (early : Float) → EarlyOf l square early
       → lt early (add binary64 (ofBits binary64 0) (mul binary64 (dot (getD l 0 nan) (getD l 1 nan) (getD l 2 nan) x y z) (dot (getD l 0 nan) (getD l 1 nan) (getD l 2 nan) x y z))) ≡ true
-      → T (plus (squares l x y z)) × T (number (squares l x y z))
+      → T (isPositive (squares l x y z)) × T (number (squares l x y z))
   unfolding squares
   sum-number-of l x y z X Y Z early E h = (sum-plus _ _ _, first-decides x y z X Y Z _ _ _ _ _ _ _ _ _ (E .decides _ h .1, E .decides _ h .2) early h)
 
   -- the first row alone is too long
   pub first-far : (l : List Float) (x y z a early : Float) → EarlyOf l square early → Rests early x y z → a ≡ dot (getD l 0 nan) (getD l 1 nan) (getD l 2 nan) x y z
-      → lt early (add binary64 (ofBits binary64 0) (mul binary64 a a)) ≡ true → Far ≡ told (sqrt binary64 (squares l x y z)) s
+      → lt early (add binary64 (ofBits binary64 0) (mul binary64 a a)) ≡ true → Far ≡ classified (sqrt binary64 (squares l x y z)) s
   first-far l x y z a early E R′ e h =
       let q = E .decides _ h .0 in
       let (X, Y, Z) = R′ _ h in

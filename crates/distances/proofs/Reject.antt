@@ -14,7 +14,7 @@ use borrow.Author.Tests.{le-ltb}
 use Rattle.lists.specs.Tests.{not-both}
 use Rattle.common.specs.Root.{root, roundedRoot, sqrt}
 use Rattle.common.specs.RootLaws.{WholeRoot, root-is}
-use Rattle.distances.specs.Reach.{plus}
+use Rattle.distances.specs.Reach.{isPositive}
 use Rattle.distances.proofs.Rounded.{scaled, no-finer, round-plus, rounds-above}
 
 -- ---- natural numbers
@@ -60,7 +60,7 @@ module _ (a c S L b g r : ℕ) (C : 0 < c) (G : 0 < g) (P : 0 < L) (same : a * L
 no-less : (b u v : ℕ) → ltb b (zero * u * v) ≡ false
 no-less b u v = le-ltb b (zero * u * v) (le-trans (le-of-eq (ap (λ (z : ℕ). z * v) (zero-mul u) ∙ zero-mul v)) (omega arith))
 
-plus-over : (y : Float) (m : ℕ) (e : ℤ) → T (plus y) → lt y (fin true m e) ≡ false
+plus-over : (y : Float) (m : ℕ) (e : ℤ) → T (isPositive y) → lt y (fin true m e) ≡ false
 unfolding lt
 plus-over nan m e p = refl
 plus-over (inf true) m e p = absurd p
@@ -68,7 +68,7 @@ plus-over (inf false) m e p = refl
 plus-over (fin true n d) m e p = absurd p
 plus-over (fin false n d) m e p = refl
 
-over-zero : (y : Float) (b : Bool) (d : ℤ) → T (plus y) → lt y (fin b zero d) ≡ false
+over-zero : (y : Float) (b : Bool) (d : ℤ) → T (isPositive y) → lt y (fin b zero d) ≡ false
 unfolding lt
 over-zero nan b d p = refl
 over-zero (inf true) b d p = absurd p
@@ -128,7 +128,7 @@ module _ (f : Format) where
   root-plus (fin true (suc n) d) m e = refl
   root-plus (fin false (suc n) d) m e = plus-over (round f false _ _) m e (round-plus f _ _)
 
-  square-plus : (m : ℕ) (e : ℤ) → T (plus (mul f (fin false m e) (fin false m e)))
+  square-plus : (m : ℕ) (e : ℤ) → T (isPositive (mul f (fin false m e) (fin false m e)))
   unfolding mul
   square-plus m e = round-plus f (m * up e * (m * up e)) (down e * down e)
 

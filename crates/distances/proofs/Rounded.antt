@@ -13,7 +13,7 @@ use lib.Ieee.Exact.{HasValue, round-exact}
 use lib.Ieee.Order.{round-mono, transfer}
 use lib.Ieee.Positive.{num, den}
 use borrow.Author.Tests.{ltb-false, le-ltb}
-use Rattle.distances.specs.Reach.{plus}
+use Rattle.distances.specs.Reach.{isPositive}
 
 -- finite, with no minus sign
 abbrev pub plain : Float → Bool
@@ -62,17 +62,17 @@ module _ (f : Format) (s : Bool) where
 
 -- ---- rounding keeps the sign
 
-units-plus : (f : Format) (q k : ℕ) → T (plus (units f false q k))
+units-plus : (f : Format) (q k : ℕ) → T (isPositive (units f false q k))
 unfolding units odd
 units-plus f q k = go (ltb (q * 2 ^ k) (2 ^ (low f + suc (emax f)))) q
   where
-    go : (b : Bool) (q : ℕ) → T (plus (cond b (odd (suc (prec f)) false q k (low f)) (inf false)))
+    go : (b : Bool) (q : ℕ) → T (isPositive (cond b (odd (suc (prec f)) false q k (low f)) (inf false)))
     go true zero = tt
     go true (suc q) = tt
     go false q = tt
 
-pub round-plus : (f : Format) (a c : ℕ) → T (plus (round f false a c))
-round-plus f a c = subst (λ (x : Float). T (plus x)) (sym (round-is f false a c)) (units-plus f _ _)
+pub round-plus : (f : Format) (a c : ℕ) → T (isPositive (round f false a c))
+round-plus f a c = subst (λ (x : Float). T (isPositive x)) (sym (round-is f false a c)) (units-plus f _ _)
 
 -- rounding gives no NaN
 abbrev pub number : Float → Bool
@@ -106,7 +106,7 @@ le-cross a b t = refuted-lt (ltb b a) (ltb→lt b a) (ltb-false b a) (λ l. clas
     clash false true h k l t = let g = k tt in omega arith
     clash false false h k l t = t
 
-pub not-above : (x r y : Float) → T (plain x) → T (plus y) → HasValue r false (num x) (den x) → T (le r y) → lt y x ≡ false
+pub not-above : (x r y : Float) → T (plain x) → T (isPositive y) → HasValue r false (num x) (den x) → T (le r y) → lt y x ≡ false
 unfolding le lt
 not-above nan r y p q v h = absurd p
 not-above (inf s) r y p q v h = absurd p

@@ -10,7 +10,7 @@ use lib.Ieee.{Float, nan, inf, fin, binary64, up, down, ofBits, add, mul, div, l
 use lib.Ieee.Fits.{add-fits}
 use Rattle.common.specs.Root.{sqrt}
 use Rattle.distances.specs.Near.{dot, squares}
-use Rattle.distances.specs.Reach.{plus, Reaches}
+use Rattle.distances.specs.Reach.{isPositive, Reaches}
 use Rattle.distances.proofs.Rounded.{round-plus}
 use Rattle.distances.proofs.Reject.{reject}
 use Rattle.distances.proofs.Accept.{accept}
@@ -19,12 +19,12 @@ use Rattle.distances.proofs.Sums.{Far, mul-plus, add-plus, still-far}
 abbrev zero64 : Float
 zero64 = ofBits binary64 0
 
-pub zero-plus : T (plus zero64)
+pub zero-plus : T (isPositive zero64)
 unfolding ofBits
 zero-plus = tt
 
 -- 0.0 + a² + b² + c² has no minus sign
-pub sum-plus : (a b c : Float) → T (plus (dot a b c a b c))
+pub sum-plus : (a b c : Float) → T (isPositive (dot a b c a b c))
 sum-plus a b c =
     let p1 = add-plus binary64 zero64 (mul binary64 a a) zero-plus (mul-plus binary64 a) in
     let p2 = add-plus binary64 _ (mul binary64 b b) p1 (mul-plus binary64 b) in
@@ -64,7 +64,7 @@ module _ (s square sure : Float) (S : T (fits binary64 s)) (R : Reaches s square
 
 -- ---- the two ways in which `sure` is chosen
 
-product-plus : (x y : Float) → T (plus x) → T (plus y) → T (plus (mul binary64 x y))
+product-plus : (x y : Float) → T (isPositive x) → T (isPositive y) → T (isPositive (mul binary64 x y))
 unfolding mul
 product-plus nan y p q = tt
 product-plus (inf true) y p q = absurd p
@@ -74,7 +74,7 @@ product-plus (inf false) (inf false) p q = tt
 product-plus (inf false) (fin true n d) p q = absurd q
 product-plus (inf false) (fin false n d) p q = go (eqb n 0)
   where
-    go : (b : Bool) → T (plus (cond b nan (inf false)))
+    go : (b : Bool) → T (isPositive (cond b nan (inf false)))
     go true = tt
     go false = tt
 product-plus (fin true m e) y p q = absurd p
@@ -82,13 +82,13 @@ product-plus (fin false m e) nan p q = tt
 product-plus (fin false m e) (inf true) p q = absurd q
 product-plus (fin false m e) (inf false) p q = go (eqb m 0)
   where
-    go : (b : Bool) → T (plus (cond b nan (inf false)))
+    go : (b : Bool) → T (isPositive (cond b nan (inf false)))
     go true = tt
     go false = tt
 product-plus (fin false m e) (fin true n d) p q = absurd q
 product-plus (fin false m e) (fin false n d) p q = round-plus binary64 (m * up e * (n * up d)) (down e * down d)
 
-pub tested : (s c : Float) → T (plus c) → lt (sqrt binary64 (mul binary64 (mul binary64 s s) c)) s ≡ true → Reaches s (mul binary64 s s) (mul binary64 (mul binary64 s s) c)
+pub tested : (s c : Float) → T (isPositive c) → lt (sqrt binary64 (mul binary64 (mul binary64 s s) c)) s ≡ true → Reaches s (mul binary64 s s) (mul binary64 (mul binary64 s s) c)
 tested s c C h = record { squared = refl; near = λ x X l. accept binary64 s x _ X (product-plus (mul binary64 s s) c (mul-plus binary64 s) C) l h }
 
 le-nan : (x : Float) → le x nan ≡ false

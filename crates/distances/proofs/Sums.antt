@@ -10,7 +10,7 @@ use lib.Dec.{T}
 use lib.Ieee.{Float, nan, inf, fin, Format, up, down, round, sum, add, mul, fits, lt}
 use lib.Ieee.Fits.{down-pos}
 use borrow.Author.Tests.{ltb-true, ltb-false, lt-ltb}
-use Rattle.distances.specs.Reach.{plus}
+use Rattle.distances.specs.Reach.{isPositive}
 use Rattle.distances.proofs.Rounded.{plain, round-plus, rounds-above, number, round-number}
 
 -- x / p < y / q ≤ z / r
@@ -25,7 +25,7 @@ through-lt x y z p q r Q R h k =
     chain f g h = omega arith
 
 module _ (f : Format) where
-  pub mul-plus : (x : Float) → T (plus (mul f x x))
+  pub mul-plus : (x : Float) → T (isPositive (mul f x x))
   unfolding mul
   mul-plus nan = tt
   mul-plus (inf true) = tt
@@ -33,7 +33,7 @@ module _ (f : Format) where
   mul-plus (fin true m e) = round-plus f _ _
   mul-plus (fin false m e) = round-plus f _ _
 
-  pub add-plus : (x y : Float) → T (plus x) → T (plus y) → T (plus (add f x y))
+  pub add-plus : (x y : Float) → T (isPositive x) → T (isPositive y) → T (isPositive (add f x y))
   unfolding add sum
   add-plus nan y p q = tt
   add-plus (inf true) y p q = absurd p
@@ -52,7 +52,7 @@ abbrev pub Far : Float → Float → Type 0
 Far lim x = (lt lim x ≡ true) ⊎ (x ≡ nan)
 
 -- lim < x and not y < x: lim < y
-raised : (lim x y : Float) → T (plus lim) → T (plain x) → T (plus y) → T (number y) → lt lim x ≡ true → lt y x ≡ false → lt lim y ≡ true
+raised : (lim x y : Float) → T (isPositive lim) → T (plain x) → T (isPositive y) → T (number y) → lt lim x ≡ true → lt y x ≡ false → lt lim y ≡ true
 unfolding lt
 raised nan x y L X p q h k = absurd (false≢true h)
 raised (inf true) x y L X p q h k = absurd L
@@ -89,7 +89,7 @@ module _ (f : Format) where
   infinite (inf false) m e h = h
   infinite (fin t n d) m e h = refl
 
-  pub still-far : (lim x y : Float) → T (plus lim) → T (fits f x) → T (plus x) → T (plus y) → Far lim x → Far lim (add f x y)
+  pub still-far : (lim x y : Float) → T (isPositive lim) → T (fits f x) → T (isPositive x) → T (isPositive y) → Far lim x → Far lim (add f x y)
   unfolding add sum
   still-far lim nan y L F p q h = inr refl
   still-far lim (inf true) y L F p q h = absurd p

@@ -18,7 +18,7 @@ use borrow.Author.Tests.{ltb-true, ltb-false, le-ltb}
 use Rattle.lists.specs.Cases.{lt-or-le}
 use Rattle.lists.specs.Tests.{not-both}
 use Rattle.common.specs.Whole.{halfUp, nearestWhole}
-use Rattle.distances.specs.Reach.{plus}
+use Rattle.distances.specs.Reach.{isPositive}
 use Rattle.distances.proofs.Rounded.{digits-fit, own-round, round-plus, number, round-number, rounds-above}
 
 -- ---- from 2 ^ 52 on a float is a whole number
@@ -35,7 +35,7 @@ big (suc k) (negsuc j) t h = absurd (finer (2 ^ j) (suc k) (pow-pos j) (subst (�
 abbrev Whole : Float → Bool → ℕ → Type 0
 Whole x s r = HasValue x s r 1
 
-at-most : (x : Float) → T (plus x) → T (number x) → T (fits binary64 x) → lt x (fin false 1 (pos 53)) ≡ false → (x ≡ inf false) ⊎ ((r : ℕ) × (0 < r) × Whole x false r)
+at-most : (x : Float) → T (isPositive x) → T (number x) → T (fits binary64 x) → lt x (fin false 1 (pos 53)) ≡ false → (x ≡ inf false) ⊎ ((r : ℕ) × (0 < r) × Whole x false r)
 unfolding lt
 at-most nan p q t h = absurd q
 at-most (inf true) p q t h = absurd p
@@ -97,7 +97,7 @@ half = fin false 1 (negsuc 0)
 minus-half : Float
 minus-half = fin true 1 (negsuc 0)
 
-mirrored : (y : Float) → T (plus y) → lt minus-half (neg y) ≡ true → lt y half ≡ true
+mirrored : (y : Float) → T (isPositive y) → lt minus-half (neg y) ≡ true → lt y half ≡ true
 unfolding lt neg half minus-half
 mirrored nan p h = absurd (false≢true h)
 mirrored (inf true) p h = absurd p

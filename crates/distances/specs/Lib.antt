@@ -1,4 +1,4 @@
 pub mod Near
-pub mod Told
+pub mod ToldLaws
 pub mod Reach
 pub mod Slabs

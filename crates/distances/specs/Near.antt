@@ -36,12 +36,12 @@ distance2 cell pos rot i j =
     squares (cell .lattice) (axis 0) (axis 1) (axis 2)
 
 -- What a distance d is to a tolerance. `lt` is false where a NaN stands, so against a NaN tolerance every distance that is a number is far.
-abbrev pub told : Float → Float → Distance
-told d symprec = cond (isNan d) NoNumber (cond (lt d symprec) Near Far)
+abbrev pub classified : Float → Float → Distance
+classified d symprec = cond (isNan d) NoNumber (cond (lt d symprec) Near Far)
 
 -- what the distance of position i of pos and position j of rot is to the tolerance
 unfoldable pub distance : Cell → List Float → List Float → ℕ → ℕ → Distance
-distance cell pos rot i j = told (sqrt binary64 (distance2 cell pos rot i j)) (cell .symprec)
+distance cell pos rot i j = classified (sqrt binary64 (distance2 cell pos rot i j)) (cell .symprec)
 
 abbrev pub isNear : Distance → Bool
 isNear Near = true

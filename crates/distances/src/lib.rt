@@ -5,9 +5,9 @@ ghost use lib.Dec.{T};
 ghost use lib.ListN.{length};
 ghost use lib.Ieee.{binary64, mul, lt};
 ghost use Rattle.common.specs.Root.{sqrt as rootOf};
-ghost use Rattle.distances.specs.Near.{wrapped as wrappedOf, difference as differenceOf, dot as dotOf, squares, told, isNear, near as nearOf, distance as distanceOf};
-ghost use Rattle.distances.specs.Reach.{plus, Rests, Early, EarlyOf, everywhere as everywhereOf, OnlyIf, Reaches, Fit};
-use places::with_leg;
+ghost use Rattle.distances.specs.Near.{wrapped as wrappedOf, difference as differenceOf, dot as dotOf, squares, classified, isNear, near as nearOf, distance as distanceOf};
+ghost use Rattle.distances.specs.Reach.{isPositive, Rests, Early, EarlyOf, everywhere as everywhereOf, OnlyIf, Reaches, ReachFits, earlyOf, earlyIn, sureOf, reachOf};
+use places::index_of;
 
 // A crystal's cell: the lattice's nine numbers, row after row, the tolerance, and along which axes the cell repeats. Component k of a difference is row k times the
 // difference of the coordinates, so the basis vectors stand in the columns; axis k is coordinate k.
@@ -93,7 +93,7 @@ fn everywhere(periodic: [bool; 3]) -> bool
 // The tolerance's square where the second and the third row of the lattice hold finite numbers only, so that no component of a difference is NaN by them;
 // otherwise NaN, which nothing is above. An infinity or a NaN times 0.0 is NaN.
 fn early_of(square: f64, p: f64, q: f64, r: f64, s: f64, t: f64, u: f64) -> f64
-    ensures { λ e. ⌜ Early square e p q r s t u ⌝ }
+    ensures { λ e. ⌜ (e ≡ earlyOf square p q r s t u) × Early square e p q r s t u ⌝ }
 {
     let zero = p * 0.0 + q * 0.0 + r * 0.0 + s * 0.0 + t * 0.0 + u * 0.0;
     if zero == 0.0 {
@@ -104,7 +104,7 @@ fn early_of(square: f64, p: f64, q: f64, r: f64, s: f64, t: f64, u: f64) -> f64
 
 // `early_of` in a cell that repeats along all axes, where no difference is larger than 1; NaN in any other.
 fn early_in(repeats: bool, square: f64, l: [f64; 9]) -> f64
-    ensures { λ e. ⌜ EarlyOf l square e × OnlyIf repeats e ⌝ }
+    ensures { λ e. ⌜ (e ≡ earlyIn repeats square l) × EarlyOf l square e × OnlyIf repeats e ⌝ }
 {
     if repeats {
         return early_of(square, l[3], l[4], l[5], l[6], l[7], l[8]);
@@ -116,7 +116,7 @@ fn early_in(repeats: bool, square: f64, l: [f64; 9]) -> f64
 // The squares of a tolerance, with `early`.
 fn with_sure(symprec: f64, square: f64, early: f64) -> Reach
     requires { ⌜ square ≡ mul binary64 symprec symprec ⌝ }
-    ensures { λ r. ⌜ Reaches symprec (r .square) (r .sure) × (r .square ≡ square) × (r .early ≡ early) ⌝ }
+    ensures { λ r. ⌜ (r ≡ record { square = square; sure = sureOf symprec square; early = early }) × Reaches symprec (r .square) (r .sure) ⌝ }
 {
     // a little less than the square; no matter how little, since its own root is tested
     let sure = square * 0.9999999999999991;
@@ -136,7 +136,7 @@ fn with_sure(symprec: f64, square: f64, early: f64) -> Reach
 
 // What is worked out once from a cell.
 pub fn reach_of(cell: Cell) -> Reach
-    ensures { λ r. ⌜ Fit cell r ⌝ }
+    ensures { λ r. ⌜ (r ≡ reachOf cell) × ReachFits cell r ⌝ }
 {
     let l = cell.lattice;
     let square = cell.symprec * cell.symprec;
@@ -148,8 +148,8 @@ pub fn reach_of(cell: Cell) -> Reach
 // What the root of d2 is to the tolerance. The root is worked out only where the two squares leave it open: above the tolerance's square nothing is near, and up
 // to `sure`, whose own root was found below the tolerance, everything is. Neither holds of NaN.
 fn below(d2: f64, symprec: f64, reach: Reach) -> Distance
-    requires { ⌜ T (plus d2) × Reaches symprec (reach .square) (reach .sure) ⌝ }
-    ensures { λ r. ⌜ r ≡ told (rootOf binary64 d2) symprec ⌝ }
+    requires { ⌜ T (isPositive d2) × Reaches symprec (reach .square) (reach .sure) ⌝ }
+    ensures { λ r. ⌜ r ≡ classified (rootOf binary64 d2) symprec ⌝ }
 {
     if d2 > reach.square {
         return Distance::Far;
@@ -170,7 +170,7 @@ fn below(d2: f64, symprec: f64, reach: Reach) -> Distance
 // too long, and in a cell that repeats along all axes, with a lattice that is finite below its first row, no other one makes the length NaN then.
 fn short(l: [f64; 9], symprec: f64, reach: Reach, x: f64, y: f64, z: f64) -> Distance
     requires { ⌜ Reaches symprec (reach .square) (reach .sure) × EarlyOf l (reach .square) (reach .early) × Rests (reach .early) x y z ⌝ }
-    ensures { λ r. ⌜ r ≡ told (rootOf binary64 (squares l x y z)) symprec ⌝ }
+    ensures { λ r. ⌜ r ≡ classified (rootOf binary64 (squares l x y z)) symprec ⌝ }
 {
     let a = dot(l[0], l[1], l[2], x, y, z);
     let first = 0.0 + a * a;
@@ -191,20 +191,20 @@ pub fn distance_of(
     i: usize,
     j: usize,
 ) -> Distance
-    requires { ⌜ (i * 3 + 3 ≤ length (now pos)) × (j * 3 + 3 ≤ length (now «rot_pos»)) × Fit cell reach ⌝ }
+    requires { ⌜ (i * 3 + 3 ≤ length (now pos)) × (j * 3 + 3 ≤ length (now «rot_pos»)) × ReachFits cell reach ⌝ }
     ensures { λ r. ⌜ r ≡ distanceOf cell (now (pos .entry)) (now («rot_pos» .entry)) i j ⌝ }
 {
     let f = cell.periodic;
-    let x = difference(f[0], pos[with_leg(i, 3, 0)], rot_pos[with_leg(j, 3, 0)]);
-    let y = difference(f[1], pos[with_leg(i, 3, 1)], rot_pos[with_leg(j, 3, 1)]);
-    let z = difference(f[2], pos[with_leg(i, 3, 2)], rot_pos[with_leg(j, 3, 2)]);
+    let x = difference(f[0], pos[index_of(i, 3, 0)], rot_pos[index_of(j, 3, 0)]);
+    let y = difference(f[1], pos[index_of(i, 3, 1)], rot_pos[index_of(j, 3, 1)]);
+    let z = difference(f[2], pos[index_of(i, 3, 2)], rot_pos[index_of(j, 3, 2)]);
     let l = cell.lattice;
     short(l, cell.symprec, reach, x, y, z)
 }
 
 // Whether the root of a sum of squares is below the tolerance: the two squares decide as in `below`, and the root where they leave it open.
 fn root_below(q: f64, symprec: f64, reach: Reach) -> bool
-    requires { ⌜ T (plus q) × Reaches symprec (reach .square) (reach .sure) ⌝ }
+    requires { ⌜ T (isPositive q) × Reaches symprec (reach .square) (reach .sure) ⌝ }
     ensures { λ r. ⌜ r ≡ lt (rootOf binary64 q) symprec ⌝ }
 {
     if q > reach.square {
@@ -230,13 +230,13 @@ fn shorter(l: [f64; 9], symprec: f64, reach: Reach, x: f64, y: f64, z: f64) -> b
 // Whether position i of pos is near position j of rot_pos. A distance that is no number is not near. It stands apart from `distance_of`, so that greedy's loop is the
 // one that calls that: the compiler makes a call for each pair of a function that two loops share, and greedy took three times as long.
 pub fn near(cell: Cell, reach: Reach, pos: &[f64], rot_pos: &[f64], i: usize, j: usize) -> bool
-    requires { ⌜ (i * 3 + 3 ≤ length (now pos)) × (j * 3 + 3 ≤ length (now «rot_pos»)) × Fit cell reach ⌝ }
+    requires { ⌜ (i * 3 + 3 ≤ length (now pos)) × (j * 3 + 3 ≤ length (now «rot_pos»)) × ReachFits cell reach ⌝ }
     ensures { λ r. ⌜ r ≡ nearOf cell (now (pos .entry)) (now («rot_pos» .entry)) i j ⌝ }
 {
     let f = cell.periodic;
-    let x = difference(f[0], pos[with_leg(i, 3, 0)], rot_pos[with_leg(j, 3, 0)]);
-    let y = difference(f[1], pos[with_leg(i, 3, 1)], rot_pos[with_leg(j, 3, 1)]);
-    let z = difference(f[2], pos[with_leg(i, 3, 2)], rot_pos[with_leg(j, 3, 2)]);
+    let x = difference(f[0], pos[index_of(i, 3, 0)], rot_pos[index_of(j, 3, 0)]);
+    let y = difference(f[1], pos[index_of(i, 3, 1)], rot_pos[index_of(j, 3, 1)]);
+    let z = difference(f[2], pos[index_of(i, 3, 2)], rot_pos[index_of(j, 3, 2)]);
     let l = cell.lattice;
     shorter(l, cell.symprec, reach, x, y, z)
 }

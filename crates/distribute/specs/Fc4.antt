@@ -5,7 +5,7 @@ use lib.IntN.{ℤ}
 use lib.Ieee.{Float}
 use Rattle.tables.specs.declared.Answer.{Answer}
 use Rattle.tables.specs.Limits.{limit4}
-use Rattle.slabs.specs.Slab.{distributeSlab}
+use Rattle.distribute.specs.Slab.{distributeSlab}
 
 -- the set, target, source, the mapping, num_atom, the rotation, num_first: the answer and the set
 abbrev pub distributeFc4 : List Float → ℕ → ℕ → List ℤ → ℕ → List Float → ℕ → Answer × List Float

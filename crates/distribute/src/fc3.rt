@@ -6,16 +6,16 @@ ghost use Prim.Native.Nat.{_+_, _*_, _≤_};
 ghost use lib.ListN.{length};
 ghost use lib.Ieee.{Float};
 ghost use Rattle.tables.specs.Conditions.{IndexTable};
-ghost use Rattle.tables.specs.Lengths.{setLength};
 ghost use Rattle.rotations.specs.Rotation.{coefficients, rotated};
-ghost use Rattle.slabs.specs.Slab.{moveBlock, move};
-ghost use Rattle.slabs.specs.SlabLaws.{Inside};
+ghost use Rattle.distribute.specs.Slab.{moveBlock, move};
+ghost use Rattle.blocks.specs.Inside.{BlocksIn};
 ghost use Rattle.distribute.specs.Fc3.{distributeFc3};
 
 // Block target is block source, rotated: c has the rotation's coefficients.
 fn fill_block(fc3: &mut [f64], c: &[f64; 729], target: usize, source: usize)
     requires { ⌜ (target * 27 + 27 ≤ length (now fc3)) × (source * 27 + 27 ≤ length (now fc3)) ⌝ }
-    ensures { λ _. ⌜ ((m : List Float) → now (c .entry) ≡ coefficients m 3 27 → now (fc3 .exit) ≡ moveBlock 27 (rotated m 3) target source (now (fc3 .entry))) ⌝ }
+    ensures { λ _. ⌜
+        ((m : List Float) → now (c .entry) ≡ coefficients m 3 27 → now (fc3 .exit) ≡ moveBlock 27 (rotated m 3) target source (now (fc3 .entry))) ⌝ }
 {
     let r = rotations::rotated27(c, blocks::read27(fc3, source));
     blocks::write27(fc3, target, r);
@@ -31,13 +31,16 @@ fn fill_row(
     source: usize,
 )
     requires { ⌜ IndexTable «num_atom» «num_atom» (now «atom_mapping») ⌝ }
-    requires { ⌜ Inside «num_atom» 27 1 target (length (now fc3)) × Inside «num_atom» 27 1 source (length (now fc3)) ⌝ }
-    ensures { λ _. ⌜ ((m : List Float) → now (c .entry) ≡ coefficients m 3 27 → now (fc3 .exit) ≡ move (now («atom_mapping» .entry)) «num_atom» 27 (rotated m 3) 1 target source (now (fc3 .entry))) ⌝ }
+    requires { ⌜ BlocksIn «num_atom» 27 1 target (length (now fc3)) × BlocksIn «num_atom» 27 1 source (length (now fc3)) ⌝ }
+    ensures { λ _. ⌜
+        ((m : List Float)
+        → now (c .entry) ≡ coefficients m 3 27
+        → now (fc3 .exit) ≡ move (now («atom_mapping» .entry)) «num_atom» 27 (rotated m 3) 1 target source (now (fc3 .entry))) ⌝ }
 {
     for i in 0..num_atom {
         let image = tables::index::entry(atom_mapping, i);
-        let t = places::with_leg(target, num_atom, i);
-        let s = places::with_leg(source, num_atom, image);
+        let t = places::index_of(target, num_atom, i);
+        let s = places::index_of(source, num_atom, image);
         fill_block(fc3, c, t, s);
     }
 }
@@ -52,28 +55,18 @@ fn fill_slab(
     source: usize,
 )
     requires { ⌜ IndexTable «num_atom» «num_atom» (now «atom_mapping») ⌝ }
-    requires { ⌜ Inside «num_atom» 27 2 target (length (now fc3)) × Inside «num_atom» 27 2 source (length (now fc3)) ⌝ }
-    ensures { λ _. ⌜ ((m : List Float) → now (c .entry) ≡ coefficients m 3 27 → now (fc3 .exit) ≡ move (now («atom_mapping» .entry)) «num_atom» 27 (rotated m 3) 2 target source (now (fc3 .entry))) ⌝ }
+    requires { ⌜ BlocksIn «num_atom» 27 2 target (length (now fc3)) × BlocksIn «num_atom» 27 2 source (length (now fc3)) ⌝ }
+    ensures { λ _. ⌜
+        ((m : List Float)
+        → now (c .entry) ≡ coefficients m 3 27
+        → now (fc3 .exit) ≡ move (now («atom_mapping» .entry)) «num_atom» 27 (rotated m 3) 2 target source (now (fc3 .entry))) ⌝ }
 {
     for i in 0..num_atom {
         let image = tables::index::entry(atom_mapping, i);
-        let t = places::with_leg(target, num_atom, i);
-        let s = places::with_leg(source, num_atom, image);
+        let t = places::index_of(target, num_atom, i);
+        let s = places::index_of(source, num_atom, image);
         fill_row(fc3, c, atom_mapping, num_atom, t, s);
     }
-}
-
-// The length stated for the set, where the counts are within the limit.
-fn stated_length(num_atom: usize, num_first: usize) -> usize
-    ensures { λ r. ⌜ («num_atom» ≤ 256 → «num_first» ≤ 256 → r ≡ setLength «num_first» «num_atom» 2) ⌝ }
-{
-    if num_atom > tables::limits::LIMIT3 {
-        return 0;
-    }
-    if num_first > tables::limits::LIMIT3 {
-        return 0;
-    }
-    num_first * num_atom * num_atom * 27
 }
 
 // Fills slab target of fc3 from slab source: block by block at the images of the atoms, rotated. fc3 has num_first slabs.
@@ -86,12 +79,13 @@ pub fn distribute_fc3(
     rot_cart: &[f64],
     num_first: usize,
 ) -> Answer
-    ensures { λ r. ⌜ (r, now (fc3 .exit)) ≡ distributeFc3 (now (fc3 .entry)) target source (now («atom_mapping» .entry)) «num_atom» (now («rot_cart» .entry)) «num_first» ⌝ }
+    ensures { λ r. ⌜
+        (r, now (fc3 .exit))
+        ≡ distributeFc3 (now (fc3 .entry)) target source (now («atom_mapping» .entry)) «num_atom» (now («rot_cart» .entry)) «num_first» ⌝ }
 {
-    let stated = stated_length(num_atom, num_first);
-    let a = slabs::judge_slabs(
+    let a = crate::slabs::judge_slabs(
         tables::limits::LIMIT3,
-        stated,
+        2,
         fc3.len(),
         atom_mapping,
         num_atom,

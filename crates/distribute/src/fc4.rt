@@ -6,16 +6,16 @@ ghost use Prim.Native.Nat.{_+_, _*_, _≤_};
 ghost use lib.ListN.{length};
 ghost use lib.Ieee.{Float};
 ghost use Rattle.tables.specs.Conditions.{IndexTable};
-ghost use Rattle.tables.specs.Lengths.{setLength};
 ghost use Rattle.rotations.specs.Rotation.{coefficients, rotated};
-ghost use Rattle.slabs.specs.Slab.{moveBlock, move};
-ghost use Rattle.slabs.specs.SlabLaws.{Inside};
+ghost use Rattle.distribute.specs.Slab.{moveBlock, move};
+ghost use Rattle.blocks.specs.Inside.{BlocksIn};
 ghost use Rattle.distribute.specs.Fc4.{distributeFc4};
 
 // Block target is block source, rotated: c has the rotation's coefficients.
 fn fill_block(fc4: &mut [f64], c: &[f64; 6561], target: usize, source: usize)
     requires { ⌜ (target * 81 + 81 ≤ length (now fc4)) × (source * 81 + 81 ≤ length (now fc4)) ⌝ }
-    ensures { λ _. ⌜ ((m : List Float) → now (c .entry) ≡ coefficients m 4 81 → now (fc4 .exit) ≡ moveBlock 81 (rotated m 4) target source (now (fc4 .entry))) ⌝ }
+    ensures { λ _. ⌜
+        ((m : List Float) → now (c .entry) ≡ coefficients m 4 81 → now (fc4 .exit) ≡ moveBlock 81 (rotated m 4) target source (now (fc4 .entry))) ⌝ }
 {
     let r = rotations::rotated81(c, blocks::read81(fc4, source));
     blocks::write81(fc4, target, r);
@@ -31,13 +31,16 @@ fn fill_row(
     source: usize,
 )
     requires { ⌜ IndexTable «num_atom» «num_atom» (now «atom_mapping») ⌝ }
-    requires { ⌜ Inside «num_atom» 81 1 target (length (now fc4)) × Inside «num_atom» 81 1 source (length (now fc4)) ⌝ }
-    ensures { λ _. ⌜ ((m : List Float) → now (c .entry) ≡ coefficients m 4 81 → now (fc4 .exit) ≡ move (now («atom_mapping» .entry)) «num_atom» 81 (rotated m 4) 1 target source (now (fc4 .entry))) ⌝ }
+    requires { ⌜ BlocksIn «num_atom» 81 1 target (length (now fc4)) × BlocksIn «num_atom» 81 1 source (length (now fc4)) ⌝ }
+    ensures { λ _. ⌜
+        ((m : List Float)
+        → now (c .entry) ≡ coefficients m 4 81
+        → now (fc4 .exit) ≡ move (now («atom_mapping» .entry)) «num_atom» 81 (rotated m 4) 1 target source (now (fc4 .entry))) ⌝ }
 {
     for i in 0..num_atom {
         let image = tables::index::entry(atom_mapping, i);
-        let t = places::with_leg(target, num_atom, i);
-        let s = places::with_leg(source, num_atom, image);
+        let t = places::index_of(target, num_atom, i);
+        let s = places::index_of(source, num_atom, image);
         fill_block(fc4, c, t, s);
     }
 }
@@ -52,13 +55,16 @@ fn fill_plane(
     source: usize,
 )
     requires { ⌜ IndexTable «num_atom» «num_atom» (now «atom_mapping») ⌝ }
-    requires { ⌜ Inside «num_atom» 81 2 target (length (now fc4)) × Inside «num_atom» 81 2 source (length (now fc4)) ⌝ }
-    ensures { λ _. ⌜ ((m : List Float) → now (c .entry) ≡ coefficients m 4 81 → now (fc4 .exit) ≡ move (now («atom_mapping» .entry)) «num_atom» 81 (rotated m 4) 2 target source (now (fc4 .entry))) ⌝ }
+    requires { ⌜ BlocksIn «num_atom» 81 2 target (length (now fc4)) × BlocksIn «num_atom» 81 2 source (length (now fc4)) ⌝ }
+    ensures { λ _. ⌜
+        ((m : List Float)
+        → now (c .entry) ≡ coefficients m 4 81
+        → now (fc4 .exit) ≡ move (now («atom_mapping» .entry)) «num_atom» 81 (rotated m 4) 2 target source (now (fc4 .entry))) ⌝ }
 {
     for i in 0..num_atom {
         let image = tables::index::entry(atom_mapping, i);
-        let t = places::with_leg(target, num_atom, i);
-        let s = places::with_leg(source, num_atom, image);
+        let t = places::index_of(target, num_atom, i);
+        let s = places::index_of(source, num_atom, image);
         fill_row(fc4, c, atom_mapping, num_atom, t, s);
     }
 }
@@ -73,28 +79,18 @@ fn fill_slab(
     source: usize,
 )
     requires { ⌜ IndexTable «num_atom» «num_atom» (now «atom_mapping») ⌝ }
-    requires { ⌜ Inside «num_atom» 81 3 target (length (now fc4)) × Inside «num_atom» 81 3 source (length (now fc4)) ⌝ }
-    ensures { λ _. ⌜ ((m : List Float) → now (c .entry) ≡ coefficients m 4 81 → now (fc4 .exit) ≡ move (now («atom_mapping» .entry)) «num_atom» 81 (rotated m 4) 3 target source (now (fc4 .entry))) ⌝ }
+    requires { ⌜ BlocksIn «num_atom» 81 3 target (length (now fc4)) × BlocksIn «num_atom» 81 3 source (length (now fc4)) ⌝ }
+    ensures { λ _. ⌜
+        ((m : List Float)
+        → now (c .entry) ≡ coefficients m 4 81
+        → now (fc4 .exit) ≡ move (now («atom_mapping» .entry)) «num_atom» 81 (rotated m 4) 3 target source (now (fc4 .entry))) ⌝ }
 {
     for i in 0..num_atom {
         let image = tables::index::entry(atom_mapping, i);
-        let t = places::with_leg(target, num_atom, i);
-        let s = places::with_leg(source, num_atom, image);
+        let t = places::index_of(target, num_atom, i);
+        let s = places::index_of(source, num_atom, image);
         fill_plane(fc4, c, atom_mapping, num_atom, t, s);
     }
-}
-
-// The length stated for the set, where the counts are within the limit.
-fn stated_length(num_atom: usize, num_first: usize) -> usize
-    ensures { λ r. ⌜ («num_atom» ≤ 64 → «num_first» ≤ 64 → r ≡ setLength «num_first» «num_atom» 3) ⌝ }
-{
-    if num_atom > tables::limits::LIMIT4 {
-        return 0;
-    }
-    if num_first > tables::limits::LIMIT4 {
-        return 0;
-    }
-    num_first * num_atom * num_atom * num_atom * 81
 }
 
 // Fills slab target of fc4 from slab source: block by block at the images of the atoms, rotated. fc4 has num_first slabs.
@@ -107,12 +103,13 @@ pub fn distribute_fc4(
     rot_cart: &[f64],
     num_first: usize,
 ) -> Answer
-    ensures { λ r. ⌜ (r, now (fc4 .exit)) ≡ distributeFc4 (now (fc4 .entry)) target source (now («atom_mapping» .entry)) «num_atom» (now («rot_cart» .entry)) «num_first» ⌝ }
+    ensures { λ r. ⌜
+        (r, now (fc4 .exit))
+        ≡ distributeFc4 (now (fc4 .entry)) target source (now («atom_mapping» .entry)) «num_atom» (now («rot_cart» .entry)) «num_first» ⌝ }
 {
-    let stated = stated_length(num_atom, num_first);
-    let a = slabs::judge_slabs(
+    let a = crate::slabs::judge_slabs(
         tables::limits::LIMIT4,
-        stated,
+        3,
         fc4.len(),
         atom_mapping,
         num_atom,

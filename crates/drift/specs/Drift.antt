@@ -1,5 +1,5 @@
 -- The drift report of a full set (document 01, "Drift report"; document 02, A.4). Definitions only.
-use mathlib.Core.List.{List, [], _∷_}
+use mathlib.Core.List.{List, []}
 use mathlib.Core.Bool.{Bool, false, cond}
 use Prim.Native.Nat.{ℕ, zero, suc, _-_, _*_, _/_, _%_}
 use lib.Dec.{eqb, ltb}
@@ -9,12 +9,9 @@ use Rattle.lists.specs.Tab.{times}
 use Rattle.lists.specs.Tests.{every, some}
 use Rattle.tables.specs.declared.Answer.{Answer}
 use Rattle.tables.specs.declared.Answer.the-variants.{Done, Refused as RefusedBy}
-use Rattle.tables.specs.declared.Refusal.the-variants.{CountAboveLimit, WrongLength}
-use Rattle.tables.specs.Answers.{refuseIf}
-use Rattle.tables.specs.Conditions.{anyAbove, anyWrong}
-use Rattle.tables.specs.Lengths.{setLength}
+use Rattle.tables.specs.Full.{judgedFull}
 use Rattle.tables.specs.Limits.{limit2}
-use Rattle.lines.specs.Nine.{plusZero}
+use Rattle.lists.specs.Floats.{plusZero}
 use Rattle.fc2.specs.Full.{rowSum, columnSum}
 use Rattle.drift.specs.declared.Drift.{Drift}
 use Rattle.drift.specs.declared.Drift.the-variants.{Still, Worst, NoNumber}
@@ -26,10 +23,10 @@ use Rattle.drift.specs.declared.DriftAnswer.the-variants.{Report, Refuse
 
 -- ---- the cases: a number for each, and its value
 
-abbrev pub numberOf : Drift → ℕ
-numberOf Still = 0
-numberOf (Worst x) = 1
-numberOf NoNumber = 2
+abbrev pub driftNumber : Drift → ℕ
+driftNumber Still = 0
+driftNumber (Worst x) = 1
+driftNumber NoNumber = 2
 
 abbrev pub valueOf : Drift → Float
 valueOf Still = plusZero
@@ -86,8 +83,8 @@ atomOf n q = cond (ltb q n) q (q - n)
 unfoldable pub sumAt : ℕ → List Float → ℕ → Float
 sumAt n xs r = lineSum n xs (alongOf n (r / 9)) (atomOf n (r / 9)) (r % 9 / 3) (r % 9 % 3)
 
-abbrev pub sums : ℕ → ℕ
-sums n = n * 2 * 9
+abbrev pub sumCount : ℕ → ℕ
+sumCount n = n * 2 * 9
 
 -- the first number below n that passes the test, where one does
 unfoldable pub firstOf : ℕ → (ℕ → Bool) → ℕ
@@ -115,7 +112,7 @@ placedBy still at c S NoNumber = at NoNumber (firstOf c (λ r. isNan (S r)))
 -- ---- the report of a full set of second order
 
 abbrev pub driftOf : ℕ → List Float → Drift
-driftOf n xs = driftIn (sums n) (sumAt n xs)
+driftOf n xs = driftIn (sumCount n) (sumAt n xs)
 
 -- the report whose place is that of sum r
 abbrev pub reportAt : ℕ → Drift → ℕ → DriftReport
@@ -124,13 +121,9 @@ reportAt n d r = record { drift = d; along = alongOf n (r / 9); atom = atomOf n 
 abbrev pub stillReport : DriftReport
 stillReport = record { drift = Still; along = Rows; atom = 0; k = 0; l = 0 }
 
-abbrev pub placed : ℕ → List Float → Drift → DriftReport
-placed n xs d = placedBy stillReport (reportAt n) (sums n) (sumAt n xs) d
-
--- what is refused: more than 1,024 atoms; a set of another length than n × n × 9
-abbrev pub judgedDrift : ℕ → ℕ → Answer
-judgedDrift len n = refuseIf (anyAbove limit2 (n ∷ [])) CountAboveLimit (refuseIf (anyWrong ((len, setLength n n 1) ∷ [])) WrongLength Done)
+abbrev pub placedReport : ℕ → List Float → Drift → DriftReport
+placedReport n xs d = placedBy stillReport (reportAt n) (sumCount n) (sumAt n xs) d
 
 -- the call's answer
 unfoldable pub driftReport : List Float → ℕ → DriftAnswer
-driftReport xs n = reportedAfter (judgedDrift (length xs) n) (placed n xs (driftOf n xs))
+driftReport xs n = reportedAfter (judgedFull limit2 1 (length xs) [] n) (placedReport n xs (driftOf n xs))

@@ -9,9 +9,9 @@ use lib.Dec.{T, eqb, ltb, eqb·suc-zero, eqb→eq}
 use lib.Ieee.{Float, nan, inf, fin, binary64, neg, lt, eq, ne, fits, isNan, ofBits, up, down}
 use lib.Pow.{pow-pos}
 use lib.Ieee.Fits.{up-pos, down-pos}
-use borrow.Author.Tests.{lt-ltb, le-ltb, ltb-true, ltb-false, eq-eqb, ne-eqb, eqb-true}
-use Rattle.lists.specs.Tests.{and-fst}
-use Rattle.lines.specs.Nine.{plusZero}
+use borrow.Author.Tests.{lt-ltb, le-ltb, ltb-true, ltb-false, eq-eqb, ne-eqb, eqb-true, not-true}
+use Rattle.lists.specs.Tests.{and-fst, and-snd}
+use Rattle.lists.specs.Floats.{plusZero}
 use Rattle.drift.specs.Drift.{absolute, isZero}
 
 -- only NaN differs from itself
@@ -33,13 +33,13 @@ below-nan w (inf t) h = absurd (false≢true h)
 below-nan w (fin t n d) h = absurd (false≢true h)
 
 -- a number that is not negative, by its sign
-unfoldable pub plus : Float → Bool
-plus nan = false
-plus (inf s) = not s
-plus (fin s m e) = not s
+unfoldable pub notNegative : Float → Bool
+notNegative nan = false
+notNegative (inf s) = not s
+notNegative (fin s m e) = not s
 
-pub plus-absolute : (x : Float) → isNan x ≡ false → plus (absolute x) ≡ true
-unfolding plus absolute isNan
+pub plus-absolute : (x : Float) → isNan x ≡ false → notNegative (absolute x) ≡ true
+unfolding notNegative absolute isNan
 plus-absolute nan h = absurd (true≢false h)
 plus-absolute (inf s) h = refl
 plus-absolute (fin s m e) h = refl
@@ -58,8 +58,8 @@ scaled-zero : (e d : ℤ) → 0 * up e * down d ≡ 0
 scaled-zero e d = omega arith
 
 -- what is above a number that is not negative is not zero
-pub above-plus : (w a : Float) → plus w ≡ true → plus a ≡ true → lt w a ≡ true → isZero a ≡ false
-unfolding plus lt isZero
+pub above-plus : (w a : Float) → notNegative w ≡ true → notNegative a ≡ true → lt w a ≡ true → isZero a ≡ false
+unfolding notNegative lt isZero
 above-plus nan a p q h = absurd (false≢true p)
 above-plus (inf true) a p q h = absurd (false≢true p)
 above-plus (inf false) nan p q h = absurd (false≢true h)
@@ -74,8 +74,8 @@ above-plus (fin false m e) (fin false zero d) p q h =
 above-plus (fin false m e) (fin false (suc n) d) p q h = eqb·suc-zero n
 
 -- what is not above zero, and not negative, is zero
-pub not-above-zero : (w a : Float) → plus a ≡ true → isZero w ≡ true → plus w ≡ true → lt w a ≡ false → isZero a ≡ true
-unfolding plus lt isZero
+pub not-above-zero : (w a : Float) → notNegative a ≡ true → isZero w ≡ true → notNegative w ≡ true → lt w a ≡ false → isZero a ≡ true
+unfolding notNegative lt isZero
 not-above-zero nan a q z p h = absurd (false≢true p)
 not-above-zero (inf s) a q z p h = absurd (false≢true z)
 not-above-zero (fin true m e) a q z p h = absurd (false≢true p)
@@ -92,11 +92,21 @@ not-above-zero (fin false m e) (fin false (suc n) d) q z p h =
     absurd (omega arith)
 
 -- x is a number, and neither above w nor below -w
-abbrev pub Within : Float → Float → Type 0
-Within w x = (lt w x ≡ false) × (lt x (neg w) ≡ false) × (ne x x ≡ false)
+abbrev pub AtMost : Float → Float → Type 0
+AtMost w x = (lt w x ≡ false) × (lt x (neg w) ≡ false) × (ne x x ≡ false)
+
+-- the same as a test
+abbrev pub atMost : Float → Float → Bool
+atMost w x = not (lt w x) && (not (lt x (neg w)) && eq x x)
+
+pub at-most-says : (w x : Float) → atMost w x ≡ true → AtMost w x
+unfolding ne
+at-most-says w x e =
+    let r = and-snd (not (lt w x)) (not (lt x (neg w)) && eq x x) e in
+    (not-true (lt w x) (and-fst (not (lt w x)) (not (lt x (neg w)) && eq x x) e), not-true (lt x (neg w)) (and-fst (not (lt x (neg w))) (eq x x) r), ap not (and-snd (not (lt x (neg w))) (eq x x) r))
 
 -- then its absolute value is not above w
-pub within-absolute : (w x : Float) → Within w x → lt w (absolute x) ≡ false
+pub within-absolute : (w x : Float) → AtMost w x → lt w (absolute x) ≡ false
 unfolding lt absolute neg ne eq
 within-absolute w nan h = absurd (true≢false (h .2))
 within-absolute w (inf false) h = h .0
@@ -119,8 +129,8 @@ through W M N C E D hE hD h k =
     lt-of-mul-lt-mul-right E (omega arith)
 
 -- what is above a number that is above w is above w, for numbers that are not negative
-pub above-above : (w a b : Float) → plus w ≡ true → plus a ≡ true → plus b ≡ true → lt w a ≡ true → lt a b ≡ true → lt w b ≡ true
-unfolding plus lt
+pub above-above : (w a b : Float) → notNegative w ≡ true → notNegative a ≡ true → notNegative b ≡ true → lt w a ≡ true → lt a b ≡ true → lt w b ≡ true
+unfolding notNegative lt
 above-above nan a b p q r h k = absurd (false≢true p)
 above-above (inf true) a b p q r h k = absurd (false≢true p)
 above-above (inf false) nan b p q r h k = absurd (false≢true h)
@@ -143,8 +153,8 @@ above-above (fin false m e) (fin false i c) (fin false n d) p q r h k =
     lt-ltb (m * up e * down d) (n * up d * down e) (through (m * up e) (i * up c) (n * up d) (down e) (down c) (down d) (down-pos c) (down-pos d) g (omega arith))
 
 -- and so is what equals it
-pub above-equal : (w a b : Float) → plus w ≡ true → plus a ≡ true → plus b ≡ true → lt w a ≡ true → eq b a ≡ true → lt w b ≡ true
-unfolding plus lt eq
+pub above-equal : (w a b : Float) → notNegative w ≡ true → notNegative a ≡ true → notNegative b ≡ true → lt w a ≡ true → eq b a ≡ true → lt w b ≡ true
+unfolding notNegative lt eq
 above-equal nan a b p q r h k = absurd (false≢true p)
 above-equal (inf true) a b p q r h k = absurd (false≢true p)
 above-equal (inf false) nan b p q r h k = absurd (false≢true h)

@@ -1,7 +1,7 @@
 -- The sums that the loops make are those of the definition, one after another, and so is the call's answer. Assumes nothing.
 use mathlib.Core.Path.{_≡_, sym, ap, ap₂, _∙_, subst}
 use mathlib.Core.Bool.{cond}
-use mathlib.Core.List.{List, [], _∷_}
+use mathlib.Core.List.{List, []}
 use Prim.Native.Nat.{ℕ, _+_, _-_, _*_, _/_, _%_, _<_}
 use native.Mathlib.Nat.{div-add-mod'}
 use native.Mathlib.Omega.{arith}
@@ -12,22 +12,21 @@ use Rattle.lists.specs.Tab.{times, times-same, times-add, times-nest}
 use Rattle.blocks.specs.Block.{block-of, place-of}
 use Rattle.tables.specs.declared.Answer.the-variants.{Done, Refused as RefusedBy}
 use Rattle.tables.specs.declared.Refusal.{Refusal}
-use Rattle.tables.specs.declared.Refusal.the-variants.{CountAboveLimit, WrongLength}
-use Rattle.tables.specs.Answers.{passed}
-use Rattle.tables.specs.Conditions.{anyAbove, anyWrong, not-above, not-wrong}
-use Rattle.tables.specs.Lengths.{setLength, set-length2}
+use Rattle.tables.specs.Full.{judgedFull, done-full}
+use Rattle.tables.specs.Lengths.{set-length2}
 use Rattle.tables.specs.Limits.{limit2}
-use Rattle.lines.specs.Nine.{Sums, plusZero, zeros, sumIn}
+use Rattle.lists.specs.Floats.{plusZero}
+use Rattle.lines.specs.Sums3x3.{Sums, zeros, sumIn}
 use Rattle.lines.specs.Lines.{lineSums, Sized}
-use Rattle.lines.specs.Drifts.{line-sum, row-sums, zeros-in}
+use Rattle.lines.specs.DriftLaws.{line-sum, row-sums, zeros-in}
 use Rattle.fc2.specs.Full.{rowSum, columnSum}
-use Rattle.fc2.specs.FullPlaces.{entry-at}
-use Rattle.fc2.specs.FullDrifts.{row-sum}
+use Rattle.fc2.specs.FullPlaceLaws.{entry-at}
+use Rattle.fc2.specs.FullDriftLaws.{row-sum}
 use Rattle.drift.specs.declared.Along.the-variants.{Rows, Columns}
 use Rattle.drift.specs.declared.DriftAnswer.the-variants.{Report, Refused}
 use Rattle.drift.specs.declared.seen.Seen.{Seen}
-use Rattle.drift.specs.Drift.{lineSum, alongOf, atomOf, sumAt, sums, driftOf, reportAt, stillReport, placed, judgedDrift, reportedAfter, driftReport}
-use Rattle.drift.specs.Loops.{look, start, lookLine, lookLines, scanned, concluded}
+use Rattle.drift.specs.Drift.{lineSum, alongOf, atomOf, sumAt, sumCount, driftOf, reportAt, stillReport, placedReport, reportedAfter, driftReport}
+use Rattle.drift.specs.Loops.{look, nothingSeen, lookLine, lookLines, scanned, concluded}
 use Rattle.drift.specs.Seen.{State, all-seen, reported}
 
 -- ---- the sums of a line by directions
@@ -91,34 +90,33 @@ module _ (n : ℕ) (xs : List Float) where
       let e : j * 1 ≡ j = omega arith in
       ap (λ a. lookLine (n + j) (lineSums a n n xs zeros) t) e ∙ by-sums (sumAt n xs) (n + j) (lineSums j n n xs zeros) (λ p hp. column-at n xs j p hp) t)
 
-  scanned-sums : scanned n xs ≡ times (sums n) (λ r. look r (sumAt n xs r)) start
+  scanned-sums : scanned n xs ≡ times (sumCount n) (λ r. look r (sumAt n xs r)) nothingSeen
   unfolding scanned
   scanned-sums =
       let e : n + n ≡ n * 2 = omega arith in
-      ap (lookLines n 1 n n xs) (rows-looked start)
-      ∙ columns-looked (times n (lineOf (sumAt n xs)) start)
-      ∙ sym (times-add n n (lineOf (sumAt n xs)) start)
-      ∙ ap (λ m. times m (lineOf (sumAt n xs)) start) e
-      ∙ sym (times-nest (n * 2) 9 (λ r. look r (sumAt n xs r)) start)
+      ap (lookLines n 1 n n xs) (rows-looked nothingSeen)
+      ∙ columns-looked (times n (lineOf (sumAt n xs)) nothingSeen)
+      ∙ sym (times-add n n (lineOf (sumAt n xs)) nothingSeen)
+      ∙ ap (λ m. times m (lineOf (sumAt n xs)) nothingSeen) e
+      ∙ sym (times-nest (n * 2) 9 (λ r. look r (sumAt n xs r)) nothingSeen)
 
 -- ---- the answer
 
 module _ (xs : List Float) (n : ℕ) where
   -- what is known of a set that is reported on
-  pub sized : judgedDrift (length xs) n ≡ Done → Sized n n (length xs)
+  pub sized : judgedFull limit2 1 (length xs) [] n ≡ Done → Sized n n (length xs)
   sized e =
-      let (c, r) = passed (anyAbove limit2 (n ∷ [])) CountAboveLimit _ e in
-      let (l, _) = passed (anyWrong ((length xs, setLength n n 1) ∷ [])) WrongLength Done r in
-      record { few = not-above limit2 (n ∷ []) c .0; small = not-above limit2 (n ∷ []) c .0; long = not-wrong ((length xs, setLength n n 1) ∷ []) l .0 ∙ set-length2 n n }
+      let (few, long, _) = done-full limit2 1 (length xs) [] n e in
+      record { few = few; small = few; long = long ∙ set-length2 n n }
 
-  pub report-refused : (a : Refusal) → judgedDrift (length xs) n ≡ RefusedBy a → Refused a ≡ driftReport xs n
+  pub report-refused : (a : Refusal) → judgedFull limit2 1 (length xs) [] n ≡ RefusedBy a → Refused a ≡ driftReport xs n
   unfolding driftReport
-  report-refused a e = sym (ap (λ g. reportedAfter g (placed n xs (driftOf n xs))) e)
+  report-refused a e = sym (ap (λ g. reportedAfter g (placedReport n xs (driftOf n xs))) e)
 
-  pub all-looked : (c : Seen) → c ≡ scanned n xs → State (sumAt n xs) (sums n) c
-  all-looked c g = subst (State (sumAt n xs) (sums n)) (sym (g ∙ scanned-sums n xs)) (all-seen (sumAt n xs) (sums n))
+  pub all-looked : (c : Seen) → c ≡ scanned n xs → State (sumAt n xs) (sumCount n) c
+  all-looked c g = subst (State (sumAt n xs) (sumCount n)) (sym (g ∙ scanned-sums n xs)) (all-seen (sumAt n xs) (sumCount n))
 
-  pub report-done : judgedDrift (length xs) n ≡ Done → (c : Seen) → c ≡ scanned n xs → Report (concluded n c) ≡ driftReport xs n
+  pub report-done : judgedFull limit2 1 (length xs) [] n ≡ Done → (c : Seen) → c ≡ scanned n xs → Report (concluded n c) ≡ driftReport xs n
   unfolding driftReport
   report-done e c g =
-      ap Report (reported (sums n) (sumAt n xs) c (all-looked c g) stillReport (reportAt n)) ∙ sym (ap (λ h. reportedAfter h (placed n xs (driftOf n xs))) e)
+      ap Report (reported (sumCount n) (sumAt n xs) c (all-looked c g) stillReport (reportAt n)) ∙ sym (ap (λ h. reportedAfter h (placedReport n xs (driftOf n xs))) e)

@@ -5,3 +5,10 @@ pub mod Seen
 pub mod Laws
 pub mod Worst
 pub mod Values
+pub mod Rows
+pub mod CompactReport
+pub mod CompactLaws
+pub mod ThirdReport
+pub mod Lines
+pub mod ThirdLaws
+pub mod ThirdValues

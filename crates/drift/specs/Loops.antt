@@ -6,7 +6,8 @@ use Prim.Native.Nat.{ℕ, _+_, _*_, _≤_, _<_}
 use lib.ListN.{length, getD}
 use lib.Ieee.{Float, lt, ne, eq}
 use Rattle.lists.specs.Tab.{times}
-use Rattle.lines.specs.Nine.{Sums, plusZero, zeros, sumIn}
+use Rattle.lists.specs.Floats.{plusZero}
+use Rattle.lines.specs.Sums3x3.{Sums, zeros, sumIn}
 use Rattle.lines.specs.Lines.{lineSums}
 use Rattle.drift.specs.declared.Drift.{Drift}
 use Rattle.drift.specs.declared.Drift.the-variants.{Worst, NoNumber}
@@ -21,8 +22,8 @@ look r x c =
     (cond (c .none) c (record { none = true; first = r; worst = c .worst; at = c .at }))
     (cond (lt (c .worst) (absolute x)) (record { none = c .none; first = c .first; worst = absolute x; at = r }) c)
 
-abbrev pub start : Seen
-start = record { none = false; first = 0; worst = plusZero; at = 0 }
+abbrev pub nothingSeen : Seen
+nothingSeen = record { none = false; first = 0; worst = plusZero; at = 0 }
 
 -- the nine sums of line q are looked at
 unfoldable pub lookLine : ℕ → Sums → Seen → Seen
@@ -38,17 +39,13 @@ lookRow n xs i c = lookLine (0 + i) (lineSums (i * n) 1 n xs zeros) c
 
 -- the rows, and then the columns
 unfoldable pub scanned : ℕ → List Float → Seen
-scanned n xs = lookLines n 1 n n xs (lookLines 0 n 1 n xs start)
+scanned n xs = lookLines n 1 n n xs (lookLines 0 n 1 n xs nothingSeen)
 
 -- cs, which has m places, holds the sums of the n columns over the first i rows
 pub record Summed (n m i : ℕ) (xs : List Float) (cs : List Sums) : Type 0 where
   pub fits : n ≤ m
   pub long : length cs ≡ m
   pub column : (j : ℕ) → j < n → getD cs j [] ≡ lineSums j n i xs zeros
-
--- the nine sums that cs holds for each of n columns are looked at
-unfoldable pub lookColumns : ℕ → List Sums → Seen → Seen
-lookColumns n cs c = times n (λ j. lookLine (n + j) (getD cs j [])) c
 
 -- what is concluded from what was seen, whatever was summed; `at` makes the report
 abbrev pub concludedBy : {R : Type 0} → R → (Drift → ℕ → R) → Seen → R

@@ -7,16 +7,17 @@ use native.Mathlib.Nat.{not-suc-le-zero}
 use native.Mathlib.Omega.{arith}
 use lib.Ieee.{Float, lt, eq, ne, isNan, ofBits}
 use Rattle.lists.specs.Tab.{times}
-use Rattle.lists.specs.Tests.{every, some, split, refuted, some-at, some-of, not-both, or-none, and-false}
+use Rattle.lists.specs.Tests.{every, every-at, some, split, refuted, some-at, some-of, not-both, or-none, and-false}
 use Rattle.lists.specs.Cases.{eq-or-ne}
 use Rattle.tables.specs.Conditions.{or-false}
-use Rattle.lines.specs.Nine.{Sums, plusZero, sumIn}
+use Rattle.lists.specs.Floats.{plusZero}
+use Rattle.lines.specs.Sums3x3.{Sums, sumIn}
 use Rattle.drift.specs.declared.Drift.{Drift}
 use Rattle.drift.specs.declared.Drift.the-variants.{Still, Worst, NoNumber}
 use Rattle.drift.specs.declared.seen.Seen.{Seen}
 use Rattle.drift.specs.Drift.{absolute, isZero, firstOf, worstOf, driftIn, placedBy}
-use Rattle.drift.specs.Loops.{look, lookLine, start, concludedBy}
-use Rattle.drift.specs.Floats.{differs, below-nan, Within, within-absolute, plus, plus-absolute, zero-absolute, above-plus, not-above-zero, above-above, above-equal, below-itself, equals-itself, nan-equals, equals-zero}
+use Rattle.drift.specs.Loops.{look, lookLine, nothingSeen, concludedBy}
+use Rattle.drift.specs.Floats.{differs, below-nan, AtMost, atMost, at-most-says, within-absolute, notNegative, plus-absolute, zero-absolute, above-plus, not-above-zero, above-above, above-equal, below-itself, equals-itself, nan-equals, equals-zero}
 
 -- ---- the first that passes: it does, and none before it
 
@@ -66,19 +67,19 @@ pub record State (S : ℕ → Float) (r : ℕ) (c : Seen) : Type 0 where
   pub none-is : c .none ≡ some r (λ k. isNan (S k))
   pub first-is : some r (λ k. isNan (S k)) ≡ true → c .first ≡ firstOf r (λ k. isNan (S k))
   pub worst-is : c .worst ≡ worstOf r S
-  pub sign : plus (c .worst) ≡ true
+  pub sign : notNegative (c .worst) ≡ true
   pub none-above : (k : ℕ) → k < r → lt (c .worst) (absolute (S k)) ≡ false
   pub at-is : (c .worst ≡ plusZero) ⊎ ((some r (hits S (c .worst)) ≡ true) × (c .at ≡ firstOf r (hits S (c .worst))))
 
-zero-plus : plus plusZero ≡ true
-unfolding plus ofBits
+zero-plus : notNegative plusZero ≡ true
+unfolding notNegative ofBits
 zero-plus = refl
 
 module _ (S : ℕ → Float) where
   abbrev isNone : ℕ → Bool
   isNone k = isNan (S k)
 
-  begins : State S 0 start
+  begins : State S 0 nothingSeen
   unfolding some worstOf times
   begins =
       record {
@@ -221,19 +222,19 @@ module _ (S : ℕ → Float) where
         (split (lt (c .worst) (absolute x))))
         (split (isNone r))
 
-  pub all-seen : (r : ℕ) → State S r (times r (λ k. look k (S k)) start)
+  pub all-seen : (r : ℕ) → State S r (times r (λ k. look k (S k)) nothingSeen)
   unfolding times
   all-seen zero = begins
-  all-seen (suc r) = step r (times r (λ k. look k (S k)) start) (all-seen r)
+  all-seen (suc r) = step r (times r (λ k. look k (S k)) nothingSeen) (all-seen r)
 
 -- ---- where no sum is NaN, the worst is zero exactly if all are
 
 record Clean (S : ℕ → Float) (r : ℕ) : Type 0 where
-  pub sign : plus (worstOf r S) ≡ true
+  pub sign : notNegative (worstOf r S) ≡ true
   pub all-zero : isZero (worstOf r S) ≡ every r (λ k. isZero (S k))
 
-sign-zero : (S : ℕ → Float) → plus (worstOf 0 S) ≡ true
-unfolding worstOf times plus ofBits
+sign-zero : (S : ℕ → Float) → notNegative (worstOf 0 S) ≡ true
+unfolding worstOf times notNegative ofBits
 sign-zero S = refl
 
 all-none : (S : ℕ → Float) → isZero (worstOf 0 S) ≡ every 0 (λ k. isZero (S k))
@@ -259,7 +260,7 @@ module _ (S : ℕ → Float) where
         let z : isZero a ≡ false = above-plus w a (c .sign) p g in
         let e : cond (lt w a) a w ≡ a = ap (λ b. cond b a w) g in
         record {
-          sign = ap plus e ∙ p;
+          sign = ap notNegative e ∙ p;
           all-zero = ap isZero e ∙ z ∙ sym (ap (λ b. every r (λ k. isZero (S k)) && b) (sym (zero-absolute (S r)) ∙ z) ∙ and-false (every r (λ k. isZero (S k))));
         }
 
@@ -269,7 +270,7 @@ module _ (S : ℕ → Float) where
         let p = plus-absolute (S r) h in
         let e : cond (lt w a) a w ≡ w = ap (λ b. cond b a w) g in
         record {
-          sign = ap plus e ∙ c .sign;
+          sign = ap notNegative e ∙ c .sign;
           all-zero = ap isZero e ∙ ⊎-elim (zero-still p g) (zero-never) (split (isZero w));
         }
       where
@@ -277,7 +278,7 @@ module _ (S : ℕ → Float) where
         both-zero t true v e f = e ∙ sym f
         both-zero t false v e f = e
 
-        zero-still : plus a ≡ true → lt w a ≡ false → isZero w ≡ true → isZero w ≡ (every r (λ k. isZero (S k)) && isZero (S r))
+        zero-still : notNegative a ≡ true → lt w a ≡ false → isZero w ≡ true → isZero w ≡ (every r (λ k. isZero (S k)) && isZero (S r))
         zero-still p g z = both-zero (isZero w) (every r (λ k. isZero (S k))) (isZero (S r)) (c .all-zero) (sym (zero-absolute (S r)) ∙ not-above-zero w a p z (c .sign) g)
 
         zero-never : isZero w ≡ false → isZero w ≡ (every r (λ k. isZero (S k)) && isZero (S r))
@@ -382,9 +383,11 @@ unfolding times
 still-times zero f x h = refl
 still-times (suc n) f x h = ap (f n) (still-times n f x (λ k l. h k (omega arith))) ∙ h n (omega arith)
 
-look-within : (r : ℕ) (x : Float) (c : Seen) → Within (c .worst) x → look r x c ≡ c
+look-within : (r : ℕ) (x : Float) (c : Seen) → AtMost (c .worst) x → look r x c ≡ c
 look-within r x c h = rw (h .2, within-absolute (c .worst) x h) refl
 
-pub line-calm : (q : ℕ) (s : Sums) (c : Seen) → ((p : ℕ) → p < 9 → Within (c .worst) (sumIn s p)) → c ≡ lookLine q s c
+pub line-calm : (q : ℕ) (s : Sums) (c : Seen) → every 9 (λ p. atMost (c .worst) (sumIn s p)) ≡ true → c ≡ lookLine q s c
 unfolding lookLine
-line-calm q s c h = sym (still-times 9 (λ p. look (q * 9 + p) (sumIn s p)) c (λ p l. look-within (q * 9 + p) (sumIn s p) c (h p l)))
+line-calm q s c h =
+    sym (still-times 9 (λ p. look (q * 9 + p) (sumIn s p)) c (λ p l.
+    look-within (q * 9 + p) (sumIn s p) c (at-most-says (c .worst) (sumIn s p) (every-at 9 (λ p. atMost (c .worst) (sumIn s p)) h p l))))

@@ -1,14 +1,17 @@
 // Drift reports (document 01, "Drift report"; document 02, A.4): how far the rows and the columns of a set are from adding up to zero. What is known of
 // the sums that were looked at, and the report from it.
+pub mod compact;
+pub mod full;
 pub mod seen;
+pub mod third;
 
-use places::last_leg;
-use places::legs_before;
+use places::column_of;
+use places::row_of;
 use seen::Seen;
 use tables::Answer;
 use tables::Refusal;
 ghost use mathlib.Core.Path.{_≡_};
-ghost use Rattle.drift.specs.Drift.{numberOf, valueOf, alongNumber, answerOf, alongOf, atomOf, reportAt, stillReport};
+ghost use Rattle.drift.specs.Drift.{driftNumber, valueOf, alongNumber, answerOf, alongOf, atomOf, reportAt, stillReport};
 ghost use Rattle.drift.specs.Loops as loops;
 
 // Still: all sums are zero. Worst: the largest absolute value of a sum. NoNumber: a sum is NaN.
@@ -40,7 +43,7 @@ pub enum DriftAnswer {
 
 // A number for each case.
 pub fn number(d: Drift) -> u8
-    ensures { λ r. ⌜ r ≡ numberOf d ⌝ }
+    ensures { λ r. ⌜ r ≡ driftNumber d ⌝ }
 {
     match d {
         Drift::Still => 0,
@@ -103,15 +106,15 @@ fn atom_of(n: usize, q: usize) -> usize
 fn report_at(n: usize, d: Drift, r: usize) -> DriftReport
     ensures { λ q. ⌜ q ≡ reportAt n d r ⌝ }
 {
-    let line = legs_before(r, 9);
+    let line = row_of(r, 9);
     let along = along_of(n, line);
     let atom = atom_of(n, line);
     DriftReport {
         drift: d,
         along: along,
         atom: atom,
-        k: legs_before(last_leg(r, 9), 3),
-        l: last_leg(last_leg(r, 9), 3),
+        k: row_of(column_of(r, 9), 3),
+        l: column_of(column_of(r, 9), 3),
     }
 }
 

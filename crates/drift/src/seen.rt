@@ -1,13 +1,13 @@
 // What is known of the sums that were looked at, one after another in the order of their places.
-use places::last_leg;
-use places::legs_before;
-use places::with_leg;
+use places::column_of;
+use places::index_of;
+use places::row_of;
 ghost use mathlib.Core.Path.{_≡_};
-ghost use mathlib.Core.Bool.{true};
-ghost use Prim.Native.Nat.{ℕ, _<_};
-ghost use Rattle.lines.specs.Nine.{sumIn};
+ghost use Prim.Native.Nat.{_<_};
+ghost use Rattle.lists.specs.Tests.{every};
+ghost use Rattle.lines.specs.Sums3x3.{sumIn};
 ghost use Rattle.drift.specs.Drift.{absolute};
-ghost use Rattle.drift.specs.Floats.{Within};
+ghost use Rattle.drift.specs.Floats.{atMost};
 ghost use Rattle.drift.specs.Loops as loops;
 
 // Whether one is NaN, and the first of those; the worst absolute value, and where it stands first.
@@ -20,7 +20,7 @@ pub struct Seen {
 
 // No sum was looked at.
 pub fn start() -> Seen
-    ensures { λ s. ⌜ s ≡ loops.start ⌝ }
+    ensures { λ s. ⌜ s ≡ loops.nothingSeen ⌝ }
 {
     Seen {
         none: false,
@@ -72,7 +72,7 @@ pub fn look(r: usize, x: f64, c: Seen) -> Seen
 
 // Whether x is a number and not above the worst in size, whatever its sign: told without its absolute value, so that no branch hangs on signs.
 fn within(x: f64, worst: f64) -> bool
-    ensures { λ r. ⌜ (r ≡ true → Within worst x) ⌝ }
+    ensures { λ r. ⌜ r ≡ atMost worst x ⌝ }
 {
     if worst < x {
         return false;
@@ -85,10 +85,10 @@ fn within(x: f64, worst: f64) -> bool
 
 // Whether the nine sums of a line are all within the worst: then there is nothing new in it.
 pub fn calm(s: [[f64; 3]; 3], worst: f64) -> bool
-    ensures { λ r. ⌜ (r ≡ true → (p : ℕ) → p < 9 → Within worst (sumIn s p)) ⌝ }
+    ensures { λ r. ⌜ r ≡ every 9 (λ p. atMost worst (sumIn s p)) ⌝ }
 {
     for p in 0..9usize {
-        let x = s[legs_before(p, 3)][last_leg(p, 3)];
+        let x = s[row_of(p, 3)][column_of(p, 3)];
         if !within(x, worst) {
             return false;
         }
@@ -103,8 +103,8 @@ pub fn look_line(q: usize, s: [[f64; 3]; 3], c: Seen) -> Seen
 {
     let mut seen = c;
     for p in 0..9usize {
-        let x = s[legs_before(p, 3)][last_leg(p, 3)];
-        let more = look(with_leg(q, 9, p), x, seen);
+        let x = s[row_of(p, 3)][column_of(p, 3)];
+        let more = look(index_of(q, 9, p), x, seen);
         seen = more;
     }
     seen

@@ -12,11 +12,12 @@ use Rattle.lists.specs.Tab.{times, times-same, is-tab, getD-tab}
 use Rattle.lists.specs.Cases.{lt-or-le, eq-or-ne}
 use Rattle.lists.specs.Stages.{Stage}
 use Rattle.blocks.specs.Block.{block}
-use Rattle.lines.specs.Nine.{Sums, plusZero, zeros, sumIn, more, scaled, sum-in}
+use Rattle.lists.specs.Floats.{plusZero}
+use Rattle.lines.specs.Sums3x3.{Sums, zeros, sumIn, more, scaled, sum-in}
 use Rattle.lines.specs.Lines.{lineSums, lessAt, lineDrift, Sized, atomI, atomJ, of-atoms, atoms-at, atoms-below, place-in, block-fits}
-use Rattle.lines.specs.Drifts.{lines-make, line-taken, line-sum, zeros-in, length-lessAt, less-in, less-out}
+use Rattle.lines.specs.DriftLaws.{lines-make, line-taken, line-sum, zeros-in, length-lessAt, less-in, less-out}
 use Rattle.fc2.specs.FullLoops.{columns, added8, scaled8, less8, panelSums, panelLess, panelDrift}
-use Rattle.fc2.specs.FullDrifts.{by-columns}
+use Rattle.fc2.specs.FullDriftLaws.{by-columns}
 
 -- ---- the sums of eight columns
 

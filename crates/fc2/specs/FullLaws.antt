@@ -7,7 +7,7 @@ use native.Mathlib.Omega.{arith}
 use lib.ListN.{getD}
 use lib.Ieee.{Float, nan, binary64, add}
 use Rattle.lists.specs.Floats.{add-commutes}
-use Rattle.lines.specs.Nine.{half}
+use Rattle.lines.specs.Sums3x3.{half}
 use Rattle.lists.specs.Digits.{horner}
 use Rattle.lines.specs.Lines.{Inside, Line, Sized, block-fits}
 use Rattle.fc2.specs.FullLoops.{evened}

@@ -7,8 +7,8 @@ use lib.ListN.{getD, replicate}
 use lib.Ieee.{Float, nan, add, binary64}
 use Rattle.lists.specs.Tab.{tab, times}
 use Rattle.blocks.specs.Block.{block, putBlock}
-use Rattle.lines.specs.Nine.{Sums, more, scaled, zeros, half}
-use Rattle.blocks.specs.Nine.{nine, acrossDiagonal}
+use Rattle.lines.specs.Sums3x3.{Sums, more, scaled, zeros, half}
+use Rattle.blocks.specs.Block9.{nine, acrossDiagonal}
 use Rattle.lines.specs.Lines.{lessAt, lineDrift, rowDrifts, pairAt, balances}
 
 unfoldable pub columns : ℕ → Float → List Float → List Float

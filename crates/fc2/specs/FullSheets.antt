@@ -11,11 +11,12 @@ use Rattle.tables.specs.declared.Answer.the-variants.{Done}
 use Rattle.tables.specs.Lengths.{setLength}
 use Rattle.lists.specs.Digits.{horner, rest, digits}
 use Rattle.places.specs.Places.{address, size, legsOf, place, at, fill as fillPlaces}
-use Rattle.places.specs.Whole.{whole}
-use Rattle.lines.specs.Nine.{plusZero, half}
-use Rattle.blocks.specs.Nine.{nine, acrossDiagonal}
-use Rattle.fc2.specs.Full.{fill, entry, offSiteSum, onSiteBlocks, symmetrized, permTransSymmetrizeFc}
-use Rattle.fc2.specs.FullWork.{call-within}
+use Rattle.places.specs.WholeLaws.{fullShifts}
+use Rattle.lists.specs.Floats.{plusZero}
+use Rattle.lines.specs.Sums3x3.{half}
+use Rattle.blocks.specs.Block9.{nine, acrossDiagonal}
+use Rattle.fc2.specs.Full.{fillFull, fullEntry, offSiteSum, onSiteBlocks, symmetrizedFull, permTransSymmetrizeFc}
+use Rattle.fc2.specs.FullWorkLaws.{call-within}
 
 -- -0.0, 2.0, 4.0 and -3.0
 abbrev minusZero : Float
@@ -30,8 +31,8 @@ four = ofBits binary64 0x4010_0000_0000_0000
 abbrev minusThree : Float
 minusThree = ofBits binary64 0xC008_0000_0000_0000
 
-one-atom : (level : ℕ) (xs : List Float) → symmetrized 1 level xs ≡ replicate 9 minusZero
-unfolding symmetrized onSiteBlocks fill fillPlaces whole place legsOf rest digits size setLength tab tabFrom offSiteSum times ofBits div neg add
+one-atom : (level : ℕ) (xs : List Float) → symmetrizedFull 1 level xs ≡ replicate 9 minusZero
+unfolding symmetrizedFull onSiteBlocks fillFull fillPlaces fullShifts place legsOf rest digits size setLength tab tabFrom offSiteSum times ofBits div neg add
 one-atom level xs = refl
 
 -- 3: one atom, any level that is not refused, whatever the set holds: nine times -0.0
@@ -42,8 +43,8 @@ sheet3 level xs h e = call-within xs 1 level (lit≤ tt) h e ∙ ap (λ l. (Done
 fromOther : List Float → List Float
 fromOther b = nine (λ p. half (neg (add binary64 (add binary64 plusZero (getD b p nan)) (add binary64 plusZero (getD b (acrossDiagonal p) nan)))))
 
-from-other : (xs : List Float) → block 9 0 (symmetrized 2 0 xs) ≡ fromOther (block 9 1 xs)
-unfolding fromOther block symmetrized onSiteBlocks fill fillPlaces whole place legsOf rest digits size setLength tab tabFrom offSiteSum times entry at address horner
+from-other : (xs : List Float) → block 9 0 (symmetrizedFull 2 0 xs) ≡ fromOther (block 9 1 xs)
+unfolding fromOther block symmetrizedFull onSiteBlocks fillFull fillPlaces fullShifts place legsOf rest digits size setLength tab tabFrom offSiteSum times fullEntry at address horner
 from-other xs = refl
 
 abbrev sheet4-given : List Float

@@ -1,9 +1,9 @@
 pub mod Full
-pub mod FullPlaces
+pub mod FullPlaceLaws
 pub mod FullLoops
 pub mod FullLaws
-pub mod FullDrifts
+pub mod FullDriftLaws
 pub mod Columns
-pub mod FullPairs
-pub mod FullWork
+pub mod FullPairLaws
+pub mod FullWorkLaws
 pub mod FullSheets

@@ -1,6 +1,6 @@
 // The full symmetrizer of second order (fc2.rs, perm_trans_symmetrize_fc).
 use crate::columns::column_drift;
-use nines::balance;
+use lines::nines::balance;
 use places::full2;
 use tables::Answer;
 use tables::Refusal;
@@ -8,7 +8,7 @@ use tables::atoms::SuperAtom;
 ghost use mathlib.Core.Path.{_≡_};
 ghost use Prim.Native.Nat.{_<_};
 ghost use lib.ListN.{length};
-ghost use Rattle.fc2.specs.Full.{judgedFull, symmetrized, permTransSymmetrizeFc};
+ghost use Rattle.fc2.specs.Full.{judgedFullLevels, symmetrizedFull, permTransSymmetrizeFc};
 ghost use Rattle.fc2.specs.FullLoops as loops;
 ghost use Rattle.lines.specs.Lines.{Inside, Sized};
 
@@ -77,7 +77,7 @@ fn one_level(fc: &mut [f64], n: usize, inv_n: f64)
 
 fn symmetrize(fc: &mut [f64], n: usize, level: usize)
     requires { ⌜ Sized n n (length (now fc)) ⌝ }
-    ensures { λ _. ⌜ now (fc .exit) ≡ symmetrized n level (now (fc .entry)) ⌝ }
+    ensures { λ _. ⌜ now (fc .exit) ≡ symmetrizedFull n level (now (fc .entry)) ⌝ }
 {
     let inv_n = 1.0 / (n as f64);
     for t in 0..level {
@@ -86,26 +86,20 @@ fn symmetrize(fc: &mut [f64], n: usize, level: usize)
     set_translational_symmetry_fc(fc, n);
 }
 
-fn judge_full(len: usize, n: usize, level: usize) -> Answer
-    ensures { λ r. ⌜ r ≡ judgedFull «len» n level ⌝ }
+fn judge_levels(len: usize, n: usize, level: usize) -> Answer
+    ensures { λ r. ⌜ r ≡ judgedFullLevels «len» n level ⌝ }
 {
-    if n > tables::limits::LIMIT2 {
-        return Answer::Refused(Refusal::CountAboveLimit);
-    }
     if level > tables::limits::LIMIT_LEVEL {
         return Answer::Refused(Refusal::CountAboveLimit);
     }
-    if len != n * n * 9 {
-        return Answer::Refused(Refusal::WrongLength);
-    }
-    Answer::Done
+    tables::sets::judge_full(tables::limits::LIMIT2, 1, len, n)
 }
 
 // Symmetrizes a full set (document 01, "Second order"): per level column drift, row drift and pair averages, at the end the on-site blocks.
 pub fn perm_trans_symmetrize_fc(fc: &mut [f64], n_satom: usize, level: usize) -> Answer
     ensures { λ r. ⌜ (r, now (fc .exit)) ≡ permTransSymmetrizeFc (now (fc .entry)) «n_satom» level ⌝ }
 {
-    let a = judge_full(fc.len(), n_satom, level);
+    let a = judge_levels(fc.len(), n_satom, level);
     if tables::is_refusal(a) {
         return a;
     }

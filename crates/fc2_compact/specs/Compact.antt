@@ -1,4 +1,4 @@
--- Compact sets of second order (document 01, "Second order", "Shift tables"): what the two calls leave, by the passes of crate `fc2_passes`. Assumes nothing.
+-- Compact sets of second order (document 01, "Second order", "Shift tables"): what the two calls leave, by the passes of crate `fc2_compact`. Assumes nothing.
 use mathlib.Core.Bool.{Bool, cond}
 use mathlib.Core.List.{List}
 use Prim.Native.Nat.{ℕ}
@@ -12,16 +12,16 @@ use Rattle.tables.specs.Answers.{after, refuseIf}
 use Rattle.tables.specs.Limits.{limit2, limitLevel}
 use Rattle.tables.specs.Shifts.{Shifts}
 use Rattle.tables.specs.Compact.{ShiftTables, shiftsOf, judgedCompact}
-use Rattle.fc2_passes.specs.Passes.{transposed, averaged, withoutRowDrift, onSite}
+use Rattle.fc2_compact.specs.Passes.{transposed, averagedCompact, withoutRowDriftCompact, onSite}
 
 -- ---- perm_trans_symmetrize_compact_fc
 
 -- one level: twice the transpose and the row drift, then the averages
 unfoldable pub leveled : Shifts → List Float → List Float
-leveled S set = averaged S (withoutRowDrift S (transposed S (withoutRowDrift S (transposed S set))))
+leveled S set = averagedCompact S (withoutRowDriftCompact S (transposed S (withoutRowDriftCompact S (transposed S set))))
 
-unfoldable pub symmetrized : Shifts → ℕ → List Float → List Float
-symmetrized S level set = onSite S (times level (λ _. leveled S) set)
+unfoldable pub symmetrizedCompact : Shifts → ℕ → List Float → List Float
+symmetrizedCompact S level set = onSite S (times level (λ _. leveled S) set)
 
 -- ---- the calls: the answer, the set and the work bytes that they leave
 
@@ -36,9 +36,9 @@ judgedLevels set T done level = refuseIf (ltb limitLevel level) CountAboveLimit 
 unfoldable pub setIndexPermutationSymmetryCompactFc : List Float → ShiftTables → List ℕ → Bool → Answer × List Float × List ℕ
 setIndexPermutationSymmetryCompactFc set T done transpose =
     let a = judged2 set T done in
-    (a, after a (cond transpose (transposed (shiftsOf T) set) (averaged (shiftsOf T) set)) set, after a (replicate (length done) 0) done)
+    (a, after a (cond transpose (transposed (shiftsOf T) set) (averagedCompact (shiftsOf T) set)) set, after a (replicate (length done) 0) done)
 
 unfoldable pub permTransSymmetrizeCompactFc : List Float → ShiftTables → List ℕ → ℕ → Answer × List Float × List ℕ
 permTransSymmetrizeCompactFc set T done level =
     let a = judgedLevels set T done level in
-    (a, after a (symmetrized (shiftsOf T) level set) set, after a (replicate (length done) 0) done)
+    (a, after a (symmetrizedCompact (shiftsOf T) level set) set, after a (replicate (length done) 0) done)

@@ -1,3 +1,10 @@
 pub mod Compact
-pub mod CompactCalls
+pub mod Values
+pub mod CompactCallLaws
 pub mod CompactValues
+pub mod Passes
+pub mod DriftLaws
+pub mod Visits
+pub mod Code
+pub mod DoubleLaws
+pub mod MeanLaws

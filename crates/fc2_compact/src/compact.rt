@@ -3,18 +3,18 @@ ghost use mathlib.Core.Path.{_≡_};
 ghost use mathlib.Core.Bool.{cond};
 ghost use lib.ListN.{length};
 ghost use Rattle.lists.specs.Tab.{times};
-ghost use Rattle.tables.specs.Compact.{shiftTables, shiftsOf, judgedCompact};
-ghost use Rattle.fc2_passes.specs.Passes.{transposed, averaged};
-ghost use Rattle.fc2_compact.specs.Compact.{leveled, symmetrized, setIndexPermutationSymmetryCompactFc, permTransSymmetrizeCompactFc};
+ghost use Rattle.tables.specs.Compact.{ShiftTables, shiftTables, shiftsOf, judgedCompact};
+ghost use Rattle.fc2_compact.specs.Passes.{transposed, averagedCompact};
+ghost use Rattle.fc2_compact.specs.Compact.{leveled, symmetrizedCompact, setIndexPermutationSymmetryCompactFc, permTransSymmetrizeCompactFc};
 ghost use Rattle.tables.specs.Limits.{limit2, limitLevel};
 ghost use Rattle.tables.specs.Answers.{refuseIf};
 ghost use lib.Dec.{ltb};
-ghost use Rattle.half_shifts.specs.TrueTransposes.{trueTransposeCompactFc2};
-ghost use Rattle.fc2_passes.specs.Code.{Ready};
-use fc2_passes::pairs::average_pass;
-use fc2_passes::pairs::transpose_pass;
-use fc2_passes::rows::drift_pass;
-use fc2_passes::rows::site_pass;
+ghost use Rattle.orbits.specs.TrueTransposes.{trueTransposeCompactFc2};
+ghost use Rattle.fc2_compact.specs.Code.{Ready};
+use crate::pairs::average_pass;
+use crate::pairs::transpose_pass;
+use crate::rows::drift_pass;
+use crate::rows::site_pass;
 use shifts::judge_compact;
 use tables::Answer;
 use tables::Refusal;
@@ -32,8 +32,10 @@ fn level_pass(
     n_patom: usize,
     num_trans: usize,
 )
-    requires { ⌜ Ready (shiftTables (now p2s) (now s2pp) (now «nsym_list») (now perms) «n_satom» «n_patom» «num_trans») (length (now fc)) ⌝ }
-    ensures { λ _. ⌜ now (fc .exit) ≡ leveled (shiftsOf (shiftTables (now (p2s .entry)) (now (s2pp .entry)) (now («nsym_list» .entry)) (now (perms .entry)) «n_satom» «n_patom» «num_trans»)) (now (fc .entry)) ⌝ }
+    ghost { ShiftTables }
+    requires { λ T. ⌜ shiftTables (now p2s) (now s2pp) (now «nsym_list») (now perms) «n_satom» «n_patom» «num_trans» ≡ T ⌝ }
+    requires { λ T. ⌜ Ready T (length (now fc)) ⌝ }
+    ensures { λ T _. ⌜ now (fc .exit) ≡ leveled (shiftsOf T) (now (fc .entry)) ⌝ }
 {
     transpose_pass(
         fc,
@@ -73,8 +75,10 @@ fn levels(
     num_trans: usize,
     level: usize,
 )
-    requires { ⌜ Ready (shiftTables (now p2s) (now s2pp) (now «nsym_list») (now perms) «n_satom» «n_patom» «num_trans») (length (now fc)) ⌝ }
-    ensures { λ _. ⌜ now (fc .exit) ≡ times level (λ _. leveled (shiftsOf (shiftTables (now (p2s .entry)) (now (s2pp .entry)) (now («nsym_list» .entry)) (now (perms .entry)) «n_satom» «n_patom» «num_trans»))) (now (fc .entry)) ⌝ }
+    ghost { ShiftTables }
+    requires { λ T. ⌜ shiftTables (now p2s) (now s2pp) (now «nsym_list») (now perms) «n_satom» «n_patom» «num_trans» ≡ T ⌝ }
+    requires { λ T. ⌜ Ready T (length (now fc)) ⌝ }
+    ensures { λ T _. ⌜ now (fc .exit) ≡ times level (λ _. leveled (shiftsOf T)) (now (fc .entry)) ⌝ }
 {
     let mut done = 0;
     while done < level {
@@ -94,8 +98,10 @@ fn symmetrize(
     num_trans: usize,
     level: usize,
 )
-    requires { ⌜ Ready (shiftTables (now p2s) (now s2pp) (now «nsym_list») (now perms) «n_satom» «n_patom» «num_trans») (length (now fc)) ⌝ }
-    ensures { λ _. ⌜ now (fc .exit) ≡ symmetrized (shiftsOf (shiftTables (now (p2s .entry)) (now (s2pp .entry)) (now («nsym_list» .entry)) (now (perms .entry)) «n_satom» «n_patom» «num_trans»)) level (now (fc .entry)) ⌝ }
+    ghost { ShiftTables }
+    requires { λ T. ⌜ shiftTables (now p2s) (now s2pp) (now «nsym_list») (now perms) «n_satom» «n_patom» «num_trans» ≡ T ⌝ }
+    requires { λ T. ⌜ Ready T (length (now fc)) ⌝ }
+    ensures { λ T _. ⌜ now (fc .exit) ≡ symmetrizedCompact (shiftsOf T) level (now (fc .entry)) ⌝ }
 {
     levels(
         fc,
@@ -123,8 +129,10 @@ fn exchange(
     num_trans: usize,
     transpose: bool,
 )
-    requires { ⌜ Ready (shiftTables (now p2s) (now s2pp) (now «nsym_list») (now perms) «n_satom» «n_patom» «num_trans») (length (now fc)) ⌝ }
-    ensures { λ _. ⌜ now (fc .exit) ≡ cond transpose (transposed (shiftsOf (shiftTables (now (p2s .entry)) (now (s2pp .entry)) (now («nsym_list» .entry)) (now (perms .entry)) «n_satom» «n_patom» «num_trans»)) (now (fc .entry))) (averaged (shiftsOf (shiftTables (now (p2s .entry)) (now (s2pp .entry)) (now («nsym_list» .entry)) (now (perms .entry)) «n_satom» «n_patom» «num_trans»)) (now (fc .entry))) ⌝ }
+    ghost { ShiftTables }
+    requires { λ T. ⌜ shiftTables (now p2s) (now s2pp) (now «nsym_list») (now perms) «n_satom» «n_patom» «num_trans» ≡ T ⌝ }
+    requires { λ T. ⌜ Ready T (length (now fc)) ⌝ }
+    ensures { λ T _. ⌜ now (fc .exit) ≡ cond transpose (transposed (shiftsOf T) (now (fc .entry))) (averagedCompact (shiftsOf T) (now (fc .entry))) ⌝ }
 {
     if transpose {
         transpose_pass(
@@ -155,7 +163,9 @@ fn judge(
     n_patom: usize,
     num_trans: usize,
 ) -> Answer
-    ensures { λ r. ⌜ r ≡ judgedCompact limit2 1 «set_len» 1 «work_len» (shiftTables (now (p2s .entry)) (now (s2pp .entry)) (now («nsym_list» .entry)) (now (perms .entry)) «n_satom» «n_patom» «num_trans») ⌝ }
+    ghost { ShiftTables }
+    requires { λ T. ⌜ shiftTables (now p2s) (now s2pp) (now «nsym_list») (now perms) «n_satom» «n_patom» «num_trans» ≡ T ⌝ }
+    ensures { λ T r. ⌜ r ≡ judgedCompact limit2 1 «set_len» 1 «work_len» T ⌝ }
 {
     judge_compact(
         LIMIT2,
@@ -186,7 +196,9 @@ fn judge_levels(
     num_trans: usize,
     level: usize,
 ) -> Answer
-    ensures { λ r. ⌜ r ≡ refuseIf (ltb limitLevel level) Refusal.CountAboveLimit (judgedCompact limit2 1 «set_len» 1 «work_len» (shiftTables (now (p2s .entry)) (now (s2pp .entry)) (now («nsym_list» .entry)) (now (perms .entry)) «n_satom» «n_patom» «num_trans»)) ⌝ }
+    ghost { ShiftTables }
+    requires { λ T. ⌜ shiftTables (now p2s) (now s2pp) (now «nsym_list») (now perms) «n_satom» «n_patom» «num_trans» ≡ T ⌝ }
+    ensures { λ T r. ⌜ r ≡ refuseIf (ltb limitLevel level) Refusal.CountAboveLimit (judgedCompact limit2 1 «set_len» 1 «work_len» T) ⌝ }
 {
     if level > LIMIT_LEVEL {
         return Answer::Refused(Refusal::CountAboveLimit);
@@ -218,7 +230,9 @@ pub fn set_index_permutation_symmetry_compact_fc(
     num_trans: usize,
     transpose: bool,
 ) -> Answer
-    ensures { λ r. ⌜ (r, now (fc .exit), now (done .exit)) ≡ setIndexPermutationSymmetryCompactFc (now (fc .entry)) (shiftTables (now (p2s .entry)) (now (s2pp .entry)) (now («nsym_list» .entry)) (now (perms .entry)) «n_satom» «n_patom» «num_trans») (now (done .entry)) transpose ⌝ }
+    ensures { λ r. ⌜
+        (let T = shiftTables (now (p2s .entry)) (now (s2pp .entry)) (now («nsym_list» .entry)) (now (perms .entry)) «n_satom» «n_patom» «num_trans» in
+        (r, now (fc .exit), now (done .exit)) ≡ setIndexPermutationSymmetryCompactFc (now (fc .entry)) T (now (done .entry)) transpose) ⌝ }
 {
     let a = judge(
         fc.len(),
@@ -261,7 +275,9 @@ pub fn true_transpose_compact_fc2(
     n_patom: usize,
     num_trans: usize,
 ) -> Answer
-    ensures { λ r. ⌜ (r, now (fc .exit), now (done .exit)) ≡ trueTransposeCompactFc2 (now (fc .entry)) (shiftTables (now (p2s .entry)) (now (s2pp .entry)) (now («nsym_list» .entry)) (now (perms .entry)) «n_satom» «n_patom» «num_trans») (now (done .entry)) ⌝ }
+    ensures { λ r. ⌜
+        (let T = shiftTables (now (p2s .entry)) (now (s2pp .entry)) (now («nsym_list» .entry)) (now (perms .entry)) «n_satom» «n_patom» «num_trans» in
+        (r, now (fc .exit), now (done .exit)) ≡ trueTransposeCompactFc2 (now (fc .entry)) T (now (done .entry))) ⌝ }
 {
     let a = judge(
         fc.len(),
@@ -305,7 +321,9 @@ pub fn perm_trans_symmetrize_compact_fc(
     num_trans: usize,
     level: usize,
 ) -> Answer
-    ensures { λ r. ⌜ (r, now (fc .exit), now (done .exit)) ≡ permTransSymmetrizeCompactFc (now (fc .entry)) (shiftTables (now (p2s .entry)) (now (s2pp .entry)) (now («nsym_list» .entry)) (now (perms .entry)) «n_satom» «n_patom» «num_trans») (now (done .entry)) level ⌝ }
+    ensures { λ r. ⌜
+        (let T = shiftTables (now (p2s .entry)) (now (s2pp .entry)) (now («nsym_list» .entry)) (now (perms .entry)) «n_satom» «n_patom» «num_trans» in
+        (r, now (fc .exit), now (done .exit)) ≡ permTransSymmetrizeCompactFc (now (fc .entry)) T (now (done .entry)) level) ⌝ }
 {
     let a = judge_levels(
         fc.len(),

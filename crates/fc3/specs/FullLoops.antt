@@ -9,36 +9,34 @@ use native.Mathlib.Omega.{arith}
 use mathlib.Core.List.{List, [], _∷_}
 use lib.ListN.{length}
 use lib.Ieee.{Float, nan}
-use borrow.Author.Tests.{lt-ltb, le-ltb, eq-eqb, ne-eqb}
 use Rattle.lists.specs.Tab.{times, times-add, times-nest, times-idle, times-tail, times-head, times-both, times-swap}
 use Rattle.lists.specs.Elements.{All, pick}
-use Rattle.lists.specs.Digits.{horner, room, in-row}
+use Rattle.lists.specs.Digits.{horner, timesPower, in-row}
 use Rattle.tables.specs.Limits.{limit3}
 use Rattle.tables.specs.declared.Answer.{Answer}
-use Rattle.tables.specs.declared.Answer.the-variants.{Done, Refused}
-use Rattle.tables.specs.declared.Refusal.the-variants.{CountAboveLimit, WrongLength}
-use Rattle.tables.specs.Answers.{isRefusal, after, is-done, passed, after-refusal, after-done}
-use Rattle.tables.specs.Conditions.{not-above, not-wrong}
-use Rattle.tables.specs.Lengths.{setLength, set-length3}
+use Rattle.tables.specs.declared.Answer.the-variants.{Done}
+use Rattle.tables.specs.Answers.{isRefusal, after, is-done, after-refusal, after-done}
+use Rattle.tables.specs.Full.{judgedFull, done-full}
+use Rattle.tables.specs.Lengths.{set-length3}
 use Rattle.places.specs.Places.{size}
-use Rattle.places.specs.Permutations.{six, six-group}
-use Rattle.places.specs.Whole.{whole, whole-laws, size-whole}
+use Rattle.places.specs.Permutations.{perms3, six-group}
+use Rattle.places.specs.WholeLaws.{fullShifts, whole-laws, size-whole}
 use Rattle.places.specs.Addresses.{block-below}
 use Rattle.orbits.specs.Transposed.{counterpart}
-use Rattle.orbits.specs.AtBlocks.{whole-block, whole-counterpart}
+use Rattle.orbits.specs.AtBlockLaws.{whole-block, whole-counterpart}
 use Rattle.orbits.specs.Groups.{groupBlocks, meanBlock, spreadBlock, Distinct}
 use Rattle.orbits.specs.Symmetric.{symmetrized}
 use Rattle.orbits.specs.GroupLoop.{worked, firstVisit, isFirst, visit-first, visit-later, lowest-leaves}
 use Rattle.orbits.proofs.AnyOrder.{visits-commute}
-use Rattle.fc3_means.specs.Mean.{mean6, Blocks6}
-use Rattle.fc3_groups.specs.Repeated.{FirstTwo, LastTwo}
+use Rattle.fc3.specs.Mean.{mean6, Blocks6}
+use Rattle.fc3.specs.Repeated.{FirstTwo, LastTwo}
 use Rattle.fc3.specs.Loops.{plain3, six-same}
-use Rattle.fc3.specs.Symmetrize.{judgedFull3, setPermutationSymmetryFc3}
+use Rattle.fc3.specs.Symmetrize.{setPermutationSymmetryFc3}
 
 -- a full set of third order that passed its guard
 pub record FullReady (lenSet n : ℕ) : Type 0 where
   pub atoms : n ≤ 256
-  pub set-length : lenSet ≡ size (whole n) 2
+  pub set-length : lenSet ≡ size (fullShifts n) 2
 
 -- atoms in rising order, none above another before it
 pub record Sorted (n a b c : ℕ) : Type 0 where
@@ -141,12 +139,12 @@ module _ (n a b c : ℕ) (s : Sorted n a b c) where
 -- ---- the group of a block
 
 module _ (n a b c : ℕ) (ha : a < n) (hb : b < n) (hc : c < n) where
-  at-order : (σ : List ℕ) (x y z : ℕ) → pick 0 σ (a ∷ b ∷ c ∷ []) ≡ x ∷ y ∷ z ∷ [] → x < n → y < n → z < n → counterpart (whole n) 2 σ (full3At n a b c) ≡ full3At n x y z
+  at-order : (σ : List ℕ) (x y z : ℕ) → pick 0 σ (a ∷ b ∷ c ∷ []) ≡ x ∷ y ∷ z ∷ [] → x < n → y < n → z < n → counterpart (fullShifts n) 2 σ (full3At n a b c) ≡ full3At n x y z
   unfolding horner
   at-order σ x y z e hx hy hz = whole-counterpart n a (b ∷ c ∷ []) ha (hb, (hc, tt)) σ x (y ∷ z ∷ []) e ∙ whole-block n x (y ∷ z ∷ []) hx (hy, (hz, tt))
 
-  group-six : groupBlocks (whole n) 2 six (full3At n a b c) ≡ sixOf n a b c
-  unfolding groupBlocks six pick
+  group-six : groupBlocks (fullShifts n) 2 perms3 (full3At n a b c) ≡ sixOf n a b c
+  unfolding groupBlocks perms3 pick
   group-six =
       six-same (at-order (0 ∷ 1 ∷ 2 ∷ []) a b c refl ha hb hc) (at-order (0 ∷ 2 ∷ 1 ∷ []) a c b refl ha hc hb) (at-order (1 ∷ 0 ∷ 2 ∷ []) b a c refl hb ha hc)
       (at-order (1 ∷ 2 ∷ 0 ∷ []) b c a refl hb hc ha) (at-order (2 ∷ 0 ∷ 1 ∷ []) c a b refl hc ha hb) (at-order (2 ∷ 1 ∷ 0 ∷ []) c b a refl hc hb ha)
@@ -155,7 +153,7 @@ module _ (n a b c : ℕ) (ha : a < n) (hb : b < n) (hc : c < n) where
 
 -- the group of atoms a, b, c worked out and written
 unfoldable pub groupAt : ℕ → ℕ → ℕ → ℕ → List Float → List Float
-groupAt n a b c = worked mean6 2 six (whole n) (full3At n a b c)
+groupAt n a b c = worked mean6 2 perms3 (fullShifts n) (full3At n a b c)
 
 -- the groups of a and b with each c from b on
 unfoldable pub lineOf : ℕ → ℕ → ℕ → List Float → List Float
@@ -171,7 +169,7 @@ tileOf n from to xs = times (n - from) (λ i. rowOf n from (min to (from + i + 1
 
 -- a visit of every block of slab a, sorted or not, in loop order
 abbrev pub visitAt : ℕ → ℕ → List Float → List Float
-visitAt n = firstVisit mean6 2 six (isFirst 2 six (whole n)) (whole n)
+visitAt n = firstVisit mean6 2 perms3 (isFirst 2 perms3 (fullShifts n)) (fullShifts n)
 
 unfoldable pub slabOf : ℕ → ℕ → List Float → List Float
 slabOf n a xs = times n (λ b. times n (λ c. visitAt n (full3At n a b c))) xs
@@ -184,22 +182,22 @@ module _ (n : ℕ) where
   unfolding groupAt
   at-sorted a b c s xs =
       let g = group-six n a b c (lt-a n a b c s) (lt-b n a b c s) (s .last) in
-      visit-first mean6 2 six (whole n) (full3At n a b c) xs (rw g (inl refl)) (rw g (sorted-lowest n a b c s))
+      visit-first mean6 2 perms3 (fullShifts n) (full3At n a b c) xs (rw g (inl refl)) (rw g (sorted-lowest n a b c s))
 
   at-first-above : (a b c : ℕ) → b < a → a < n → c < n → (xs : List Float) → visitAt n (full3At n a b c) xs ≡ xs
   at-first-above a b c h ha hc xs =
       let g = group-six n a b c ha (omega arith) hc in
-      visit-later mean6 2 six (whole n) (full3At n a b c) (full3At n b a c) xs (rw g (inr (inr (inl refl)))) (first-lt n b a c ha hc h)
+      visit-later mean6 2 perms3 (fullShifts n) (full3At n a b c) (full3At n b a c) xs (rw g (inr (inr (inl refl)))) (first-lt n b a c ha hc h)
 
   at-last-above : (a b c : ℕ) → c < b → a < n → b < n → (xs : List Float) → visitAt n (full3At n a b c) xs ≡ xs
   at-last-above a b c h ha hb xs =
       let g = group-six n a b c ha hb (omega arith) in
-      visit-later mean6 2 six (whole n) (full3At n a b c) (full3At n a c b) xs (rw g (inr (inl refl))) (last-lt n c b a hb h)
+      visit-later mean6 2 perms3 (fullShifts n) (full3At n a b c) (full3At n a c b) xs (rw g (inr (inl refl))) (last-lt n c b a hb h)
 
   -- ---- the atoms of a tile may be taken after b
 
   commute : (p q : ℕ) → p < n * n * n → q < n * n * n → (xs : List Float) → visitAt n p (visitAt n q xs) ≡ visitAt n q (visitAt n p xs)
-  commute p q hp hq xs = unfold whole room in visits-commute mean6 (whole n) (whole-laws n) 2 six six-group p q hp hq xs
+  commute p q hp hq xs = unfold fullShifts timesPower in visits-commute mean6 (fullShifts n) (whole-laws n) 2 perms3 six-group p q hp hq xs
 
   at-below : (a b c : ℕ) → a < n → b < n → c < n → full3At n a b c < n * n * n
   at-below a b c ha hb hc = in-row (n * n) n (a * n + b) c (in-row n n a b ha hb) hc
@@ -246,14 +244,14 @@ module _ (n : ℕ) where
         ∙ sym (times-add from (to - from) (slabOf n) x) ∙ ap (λ k. times k (slabOf n) x) t
 
   -- THE LOOPS OVER SORTED ATOMS LEAVE THE SYMMETRIZED SET
-  pub slabs-leave : (old : List Float) → length old ≡ size (whole n) 2 → slabsOf n old ≡ symmetrized nan mean6 (whole n) 2 six old
+  pub slabs-leave : (old : List Float) → length old ≡ size (fullShifts n) 2 → slabsOf n old ≡ symmetrized nan mean6 (fullShifts n) 2 perms3 old
   slabs-leave old lo = sym (by-blocks old) ∙ every old lo
     where
       by-blocks : (old : List Float) → times (n * n * n) (visitAt n) old ≡ slabsOf n old
       by-blocks old = unfold slabsOf slabOf in (times-nest (n * n) n (visitAt n) old ∙ times-nest n n (λ i. times n (λ c. visitAt n (i * n + c))) old)
 
-      every : (old : List Float) → length old ≡ size (whole n) 2 → times (n * n * n) (visitAt n) old ≡ symmetrized nan mean6 (whole n) 2 six old
-      every old lo = unfold whole room in lowest-leaves mean6 (whole n) (whole-laws n) 2 six six-group old lo
+      every : (old : List Float) → length old ≡ size (fullShifts n) 2 → times (n * n * n) (visitAt n) old ≡ symmetrized nan mean6 (fullShifts n) 2 perms3 old
+      every old lo = unfold fullShifts timesPower in lowest-leaves mean6 (fullShifts n) (whole-laws n) 2 perms3 six-group old lo
 
 -- ---- the work on one group
 
@@ -288,10 +286,10 @@ module _ {n a b c : ℕ} (s : Sorted n a b c) {b0 b1 b2 b3 b4 b5 : ℕ} (F : Fou
         in5 = at b5 (F .cba) (block-below n n c (b ∷ a ∷ []) hc (hb, (ha, tt)));
       }
     where
-      in-set : (q : ℕ) → q < room n 2 n → q * 27 + 27 ≤ n * n * n * 27
-      in-set q h = unfold room in omega arith
+      in-set : (q : ℕ) → q < timesPower n 2 n → q * 27 + 27 ≤ n * n * n * 27
+      in-set q h = unfold timesPower in omega arith
 
-      at : (q : ℕ) {k : ℕ} → q ≡ k → k < room n 2 n → q * 27 + 27 ≤ lenSet
+      at : (q : ℕ) {k : ℕ} → q ≡ k → k < timesPower n 2 n → q * 27 + 27 ≤ lenSet
       at q {k} e h = rw (R .set-length ∙ size-whole n 2 ∙ set-length3 n n) (in-set q (rw e h))
 
   -- three blocks in rising order
@@ -325,54 +323,29 @@ module _ {n a b c : ℕ} (s : Sorted n a b c) {b0 b1 b2 b3 b4 b5 : ℕ} (F : Fou
   pub found-distinct : a < b → b < c → Distinct (b0 ∷ b1 ∷ b2 ∷ b3 ∷ b4 ∷ b5 ∷ [])
   found-distinct ab bc = subst Distinct (sym found-six) (sorted-distinct n a b c s ab bc)
 
-  pub found-is : {new : List Float} (old : List Float) → new ≡ spreadBlock 2 six (b0 ∷ b1 ∷ b2 ∷ b3 ∷ b4 ∷ b5 ∷ []) (meanBlock mean6 2 six (b0 ∷ b1 ∷ b2 ∷ b3 ∷ b4 ∷ b5 ∷ []) old) old → new ≡ groupAt n a b c old
+  pub found-is : {new : List Float} (old : List Float) → new ≡ spreadBlock 2 perms3 (b0 ∷ b1 ∷ b2 ∷ b3 ∷ b4 ∷ b5 ∷ []) (meanBlock mean6 2 perms3 (b0 ∷ b1 ∷ b2 ∷ b3 ∷ b4 ∷ b5 ∷ []) old) old → new ≡ groupAt n a b c old
   unfolding groupAt worked
   found-is old e =
-      e ∙ ap (λ bs. spreadBlock 2 six bs (meanBlock mean6 2 six bs old) old) (found-six ∙ sym (group-six n a b c (lt-a n a b c s) (lt-b n a b c s) (s .last)))
+      e ∙ ap (λ bs. spreadBlock 2 perms3 bs (meanBlock mean6 2 perms3 bs old) old) (found-six ∙ sym (group-six n a b c (lt-a n a b c s) (lt-b n a b c s) (s .last)))
 
 -- ---- the call
 
--- products of counts are small
-pub small3 : (n : ℕ) → n ≤ 256 → (n * n ≤ 65536) × (n * n * n ≤ 16777216)
-small3 n h =
-    let h2 : n * n ≤ 256 * 256 = mul-le-mul h h in
-    let h3 : n * n * n ≤ 256 * 256 * 256 = mul-le-mul h2 h in
-    (omega arith, omega arith)
-
--- the guard by its two tests
-module _ (lenSet n : ℕ) where
-  pub judged-above : limit3 < n → Refused CountAboveLimit ≡ judgedFull3 lenSet n
-  unfolding judgedFull3
-  judged-above h = simp (lt-ltb _ _ h)
-
-  pub judged-wrong : n ≤ limit3 → (lenSet ≡ n * n * n * 27 → ⊥) → Refused WrongLength ≡ judgedFull3 lenSet n
-  unfolding judgedFull3
-  judged-wrong h d = simp (le-ltb _ _ h, set-length3 n n, ne-eqb _ _ d)
-
-  pub judged-done : n ≤ limit3 → lenSet ≡ n * n * n * 27 → Done ≡ judgedFull3 lenSet n
-  unfolding judgedFull3
-  judged-done h e = simp (le-ltb _ _ h, set-length3 n n, eq-eqb _ _ e)
-
-module _ (set : List Float) (n : ℕ) (a : Answer) (e : a ≡ judgedFull3 (length set) n) where
+module _ (set : List Float) (n : ℕ) (a : Answer) (e : a ≡ judgedFull limit3 2 (length set) [] n) where
   -- what the call leaves, by the guard's answer
   abbrev leaves : Answer → Answer × List Float
-  leaves a = (a, after a (symmetrized nan mean6 (whole n) 2 six set) set)
+  leaves a = (a, after a (symmetrized nan mean6 (fullShifts n) 2 perms3 set) set)
 
   pub full-refused : isRefusal a ≡ true → _≡_ {A = Answer × List Float} (a, set) (setPermutationSymmetryFc3 set n)
   unfolding setPermutationSymmetryFc3
-  full-refused r = ap (λ x. (a, x)) (sym (after-refusal a (symmetrized nan mean6 (whole n) 2 six set) set r)) ∙ ap leaves e
+  full-refused r = ap (λ x. (a, x)) (sym (after-refusal a (symmetrized nan mean6 (fullShifts n) 2 perms3 set) set r)) ∙ ap leaves e
 
   pub full-ready : isRefusal a ≡ false → FullReady (length set) n
-  unfolding judgedFull3
   full-ready r =
-      let (q1, e1) = passed _ _ _ (sym e ∙ is-done a r) in
-      let (q2, e2) = passed _ _ _ e1 in
-      let (h, _) = not-above limit3 (n ∷ []) q1 in
-      let (ls, _) = not-wrong ((length set, setLength n n 2) ∷ []) q2 in
-      record { atoms = h; set-length = ls ∙ sym (size-whole n 2) }
+      let (few, long, _) = done-full limit3 2 (length set) [] n (sym e ∙ is-done a r) in
+      record { atoms = few; set-length = long ∙ sym (size-whole n 2) }
 
   pub full-done : isRefusal a ≡ false → {new : List Float} → new ≡ slabsOf n set → _≡_ {A = Answer × List Float} (Done, new) (setPermutationSymmetryFc3 set n)
   unfolding setPermutationSymmetryFc3
   full-done r {new} l =
-      ap₂ (λ x y. (x, y)) (sym (is-done a r)) (l ∙ slabs-leave n set (full-ready r .set-length) ∙ sym (after-done a (symmetrized nan mean6 (whole n) 2 six set) set r))
+      ap₂ (λ x y. (x, y)) (sym (is-done a r)) (l ∙ slabs-leave n set (full-ready r .set-length) ∙ sym (after-done a (symmetrized nan mean6 (fullShifts n) 2 perms3 set) set r))
       ∙ ap leaves e

@@ -10,7 +10,7 @@ use lib.Ieee.{Float, nan}
 use borrow.Author.Tests.{eq-eqb, ne-eqb}
 use Rattle.lists.specs.Tab.{times, times-nest}
 use Rattle.lists.specs.Elements.{pick}
-use Rattle.lists.specs.Digits.{horner, room, in-row}
+use Rattle.lists.specs.Digits.{horner, timesPower, in-row}
 use Rattle.tables.specs.Shifts.{Shifts, p2sAt}
 use Rattle.tables.specs.Limits.{limit3}
 use Rattle.tables.specs.declared.Answer.{Answer}
@@ -20,16 +20,16 @@ use Rattle.tables.specs.Conditions.{Readable, indexAt, read}
 use Rattle.tables.specs.Compact.{ShiftTables, shiftsOf, Compact, judgedCompact, done-compact, p2s-is}
 use Rattle.tables.specs.Lengths.{setLength, set-length3}
 use Rattle.places.specs.Places.{size}
-use Rattle.places.specs.Permutations.{six, six-group}
+use Rattle.places.specs.Permutations.{perms3, six-group}
 use Rattle.places.specs.Addresses.{storedBlock, block-below}
 use Rattle.places.specs.ReadOuts.{Tables, storedIn, stored-in, stored-below}
 use Rattle.orbits.specs.Transposed.{counterpart}
-use Rattle.orbits.specs.AtBlocks.{counterpart-at, stored-own}
+use Rattle.orbits.specs.AtBlockLaws.{counterpart-at, stored-own}
 use Rattle.orbits.specs.Groups.{groupBlocks, meanBlock, spreadBlock}
 use Rattle.orbits.specs.Spread.{setAll}
 use Rattle.orbits.specs.Symmetric.{symmetrized}
 use Rattle.orbits.specs.GroupLoop.{State, worked, markedVisit, marked-leaves}
-use Rattle.fc3_means.specs.Mean.{mean6, Blocks6}
+use Rattle.fc3.specs.Mean.{mean6, Blocks6}
 use Rattle.fc3.specs.Symmetrize.{setPermutationSymmetryCompactFc3}
 
 -- a compact set of third order that passed the guard, and a work slice of k atoms' places
@@ -66,18 +66,12 @@ pub six-same : {a b c d e f a′ b′ c′ d′ e′ f′ : ℕ} → a ≡ a′ 
 six-same p q r s t u = cc
 
 -- of the set and its done table: the group of block n marked, worked out and written
-unfoldable pub takenAt : ShiftTables → ℕ → State → State
-takenAt T n s = (worked mean6 2 six (shiftsOf T) n (s .0), setAll (groupBlocks (shiftsOf T) 2 six n) 1 (s .1))
+unfoldable pub workAt : ShiftTables → ℕ → State → State
+workAt T n s = (worked mean6 2 perms3 (shiftsOf T) n (s .0), setAll (groupBlocks (shiftsOf T) 2 perms3 n) 1 (s .1))
 
 module _ (lenSet w lenWork : ℕ) (T : ShiftTables) (R : Ready lenSet w lenWork T) where
   abbrev S : Shifts
   S = shiftsOf T
-
-  n-small : T .nSatom ≤ 256
-  n-small = R .fit .satoms
-
-  p-small : T .nPatom ≤ 256
-  p-small = R .fit .patoms
 
   abbrev pub read-tables : Tables (T .nSatom) (T .s2pp) (T .nsymList) (T .perms)
   read-tables = record {
@@ -91,8 +85,8 @@ module _ (lenSet w lenWork : ℕ) (T : ShiftTables) (R : Ready lenSet w lenWork 
   }
 
   -- what the set's length says of a block
-  pub block-in : (b : ℕ) → b < room (T .nSatom) 2 (T .nPatom) → b * 27 + 27 ≤ lenSet
-  unfolding room
+  pub block-in : (b : ℕ) → b < timesPower (T .nSatom) 2 (T .nPatom) → b * 27 + 27 ≤ lenSet
+  unfolding timesPower
   block-in b h = rw (R .set-length ∙ set-length3 (T .nPatom) (T .nSatom)) (go b h)
     where
       go : (b : ℕ) → b < T .nPatom * T .nSatom * T .nSatom → b * 27 + 27 ≤ T .nPatom * T .nSatom * T .nSatom * 27
@@ -103,8 +97,8 @@ module _ (lenSet w lenWork : ℕ) (T : ShiftTables) (R : Ready lenSet w lenWork 
     pub p2s-read : Readable (T .p2s) p × (indexAt (T .p2s) p < T .nSatom)
     p2s-read = read (R .fit .p2s-fit) p (a .0)
 
-    pub at-below : at3 T p j k < room (T .nSatom) 2 (T .nPatom)
-    unfolding room
+    pub at-below : at3 T p j k < timesPower (T .nSatom) 2 (T .nPatom)
+    unfolding timesPower
     at-below = in-row (T .nPatom * T .nSatom) (T .nSatom) (p * T .nSatom + j) k (in-row (T .nPatom) (T .nSatom) p j (a .0) (a .1)) (a .2)
 
     abbrev i : ℕ
@@ -112,9 +106,6 @@ module _ (lenSet w lenWork : ℕ) (T : ShiftTables) (R : Ready lenSet w lenWork 
 
     i-is : indexAt (T .p2s) p ≡ i
     i-is = p2s-is T p
-
-    i-below : i < T .nSatom
-    i-below = R .rules .p2s-below p (a .0)
 
     -- the counterpart for a permutation, from the tables
     at-order : (σ : List ℕ) (x : ℕ) (ys : List ℕ) → pick 0 σ (i ∷ j ∷ k ∷ []) ≡ x ∷ ys → counterpart S 2 σ (at3 T p j k) ≡ storedBlock S x ys
@@ -130,9 +121,9 @@ module _ (lenSet w lenWork : ℕ) (T : ShiftTables) (R : Ready lenSet w lenWork 
     own-other = stored-own S p (k ∷ j ∷ []) (a .2, (a .1, tt)) (R .rules) (a .0)
 
     -- the six blocks
-    pub group-are : groupBlocks S 2 six (at3 T p j k)
+    pub group-are : groupBlocks S 2 perms3 (at3 T p j k)
         ≡ at3 T p j k ∷ at3 T p k j ∷ storedBlock S j (i ∷ k ∷ []) ∷ storedBlock S j (k ∷ i ∷ []) ∷ storedBlock S k (i ∷ j ∷ []) ∷ storedBlock S k (j ∷ i ∷ []) ∷ []
-    unfolding groupBlocks six pick
+    unfolding groupBlocks perms3 pick
     group-are =
         six-same (at-order (0 ∷ 1 ∷ 2 ∷ []) i (j ∷ k ∷ []) refl ∙ own) (at-order (0 ∷ 2 ∷ 1 ∷ []) i (k ∷ j ∷ []) refl ∙ own-other)
         (at-order (1 ∷ 0 ∷ 2 ∷ []) j (i ∷ k ∷ []) refl) (at-order (1 ∷ 2 ∷ 0 ∷ []) j (k ∷ i ∷ []) refl)
@@ -155,14 +146,14 @@ module _ (lenSet w lenWork : ℕ) (T : ShiftTables) (R : Ready lenSet w lenWork 
       v-is : v ≡ i
       v-is = F .rep ∙ i-is
 
-      own-below : (x y : ℕ) → x < T .nSatom → y < T .nSatom → horner (T .nSatom) p (x ∷ y ∷ []) < room (T .nSatom) 2 (T .nPatom)
+      own-below : (x y : ℕ) → x < T .nSatom → y < T .nSatom → horner (T .nSatom) p (x ∷ y ∷ []) < timesPower (T .nSatom) 2 (T .nPatom)
       own-below x y hx hy = block-below (T .nSatom) (T .nPatom) p (x ∷ y ∷ []) (a .0) (hx, (hy, tt))
 
       found-below : (x y z : ℕ) → x < T .nSatom → y < T .nSatom → z < T .nSatom
-          → storedIn (T .nSatom) (T .s2pp) (T .nsymList) (T .perms) x (y ∷ z ∷ []) < room (T .nSatom) 2 (T .nPatom)
+          → storedIn (T .nSatom) (T .s2pp) (T .nsymList) (T .perms) x (y ∷ z ∷ []) < timesPower (T .nSatom) 2 (T .nPatom)
       found-below x y z hx hy hz = stored-below read-tables x hx (y ∷ z ∷ []) (hy, (hz, tt))
 
-      pub all-below : (b0 < room (T .nSatom) 2 (T .nPatom)) × (b1 < room (T .nSatom) 2 (T .nPatom)) × (b2 < room (T .nSatom) 2 (T .nPatom)) × (b3 < room (T .nSatom) 2 (T .nPatom)) × (b4 < room (T .nSatom) 2 (T .nPatom)) × (b5 < room (T .nSatom) 2 (T .nPatom))
+      pub all-below : (b0 < timesPower (T .nSatom) 2 (T .nPatom)) × (b1 < timesPower (T .nSatom) 2 (T .nPatom)) × (b2 < timesPower (T .nSatom) 2 (T .nPatom)) × (b3 < timesPower (T .nSatom) 2 (T .nPatom)) × (b4 < timesPower (T .nSatom) 2 (T .nPatom)) × (b5 < timesPower (T .nSatom) 2 (T .nPatom))
       all-below = (
         rw (F .ijk) (own-below j k (a .1) (a .2)),
         rw (F .ikj) (own-below k j (a .2) (a .1)),
@@ -177,7 +168,7 @@ module _ (lenSet w lenWork : ℕ) (T : ShiftTables) (R : Ready lenSet w lenWork 
           let (h0, h1, h2, h3, h4, h5) = all-below in
           record { in0 = block-in b0 h0; in1 = block-in b1 h1; in2 = block-in b2 h2; in3 = block-in b3 h3; in4 = block-in b4 h4; in5 = block-in b5 h5 }
 
-      pub found-are : b0 ∷ b1 ∷ b2 ∷ b3 ∷ b4 ∷ b5 ∷ [] ≡ groupBlocks S 2 six (at3 T p j k)
+      pub found-are : b0 ∷ b1 ∷ b2 ∷ b3 ∷ b4 ∷ b5 ∷ [] ≡ groupBlocks S 2 perms3 (at3 T p j k)
       found-are = six-same (F .ijk ∙ plain j k) (F .ikj ∙ plain k j) (F .jik ∙ stored j v k) (F .jki ∙ stored′ j k v) (F .kij ∙ stored k v j) (F .kji ∙ stored′ k j v) ∙ sym group-are
         where
           plain : (x y : ℕ) → horner (T .nSatom) p (x ∷ y ∷ []) ≡ at3 T p x y
@@ -189,39 +180,35 @@ module _ (lenSet w lenWork : ℕ) (T : ShiftTables) (R : Ready lenSet w lenWork 
           stored′ : (x y z : ℕ) → storedIn (T .nSatom) (T .s2pp) (T .nsymList) (T .perms) x (y ∷ v ∷ []) ≡ storedBlock S x (y ∷ i ∷ [])
           stored′ x y z = stored-in T x (y ∷ v ∷ []) ∙ ap (λ w. storedBlock S x (y ∷ w ∷ [])) v-is
 
-      pub marks-in : Marks6 (room (T .nSatom) 2 (T .nPatom)) b0 b1 b2 b3 b4 b5
+      pub marks-in : Marks6 (timesPower (T .nSatom) 2 (T .nPatom)) b0 b1 b2 b3 b4 b5
       marks-in =
           let (h0, h1, h2, h3, h4, h5) = all-below in
           record { in0 = h0; in1 = h1; in2 = h2; in3 = h3; in4 = h4; in5 = h5 }
 
       -- the work of `take`
       pub took : (old : List Float) (done : List ℕ) {new : List Float} {marked : List ℕ}
-          → new ≡ spreadBlock 2 six (b0 ∷ b1 ∷ b2 ∷ b3 ∷ b4 ∷ b5 ∷ []) (meanBlock mean6 2 six (b0 ∷ b1 ∷ b2 ∷ b3 ∷ b4 ∷ b5 ∷ []) old) old
+          → new ≡ spreadBlock 2 perms3 (b0 ∷ b1 ∷ b2 ∷ b3 ∷ b4 ∷ b5 ∷ []) (meanBlock mean6 2 perms3 (b0 ∷ b1 ∷ b2 ∷ b3 ∷ b4 ∷ b5 ∷ []) old) old
           → marked ≡ setAll (b0 ∷ b1 ∷ b2 ∷ b3 ∷ b4 ∷ b5 ∷ []) 1 done
-          → _≡_ {A = State} (new, marked) (takenAt T (at3 T p j k) (old, done))
-      unfolding takenAt worked
+          → _≡_ {A = State} (new, marked) (workAt T (at3 T p j k) (old, done))
+      unfolding workAt worked
       took old done e f =
-          ap₂ (λ x y. (x, y)) (e ∙ ap (λ bs. spreadBlock 2 six bs (meanBlock mean6 2 six bs old) old) found-are) (f ∙ ap (λ bs. setAll bs 1 done) found-are)
+          ap₂ (λ x y. (x, y)) (e ∙ ap (λ bs. spreadBlock 2 perms3 bs (meanBlock mean6 2 perms3 bs old) old) found-are) (f ∙ ap (λ bs. setAll bs 1 done) found-are)
 
 -- ---- the loops
 
 -- one visit
 unfoldable pub visitAt : ShiftTables → ℕ → State → State
-unfolding takenAt
-visitAt T n s = cond (eqb (getD (s .1) n 0) 0) (takenAt T n s) s
+unfolding workAt
+visitAt T n s = cond (eqb (getD (s .1) n 0) 0) (workAt T n s) s
 
 -- a block that is not marked, and one that is
-pub visit-free : (T : ShiftTables) (n : ℕ) (s : State) → getD (s .1) n 0 ≡ 0 → visitAt T n s ≡ takenAt T n s
+pub visit-free : (T : ShiftTables) (n : ℕ) (s : State) → getD (s .1) n 0 ≡ 0 → visitAt T n s ≡ workAt T n s
 unfolding visitAt
 visit-free T n s e = rw (eq-eqb (getD (s .1) n 0) 0 e)
 
 pub visit-met : (T : ShiftTables) (n : ℕ) (s : State) → (getD (s .1) n 0 ≡ 0 → ⊥) → visitAt T n s ≡ s
 unfolding visitAt
 visit-met T n s e = rw (ne-eqb (getD (s .1) n 0) 0 e)
-
-pub visits : (T : ShiftTables) (n : ℕ) (s : State) → visitAt T n s ≡ markedVisit mean6 2 six (shiftsOf T) n s
-unfolding visitAt takenAt markedVisit
-visits T n s = refl
 
 -- the three loops as the program nests them
 unfoldable pub row3 : ShiftTables → ℕ → ℕ → State → State
@@ -234,23 +221,23 @@ unfoldable pub all3 : ShiftTables → State → State
 all3 T s = times (T .nPatom) (λ p. slab3 T p) s
 
 -- they are one loop over all blocks
-pub one-loop : (T : ShiftTables) (s : State) → all3 T s ≡ times (room (T .nSatom) 2 (T .nPatom)) (markedVisit mean6 2 six (shiftsOf T)) s
-unfolding all3 slab3 row3 room
+pub one-loop : (T : ShiftTables) (s : State) → all3 T s ≡ times (timesPower (T .nSatom) 2 (T .nPatom)) (markedVisit mean6 2 perms3 (shiftsOf T)) s
+unfolding all3 slab3 row3 timesPower
 one-loop T s =
     let n = T .nSatom in
     let f = visitAt T in
     sym (times-nest (T .nPatom * n) n f s ∙ times-nest (T .nPatom) n (λ i. times n (λ k. f (i * n + k))) s)
     ∙ ap (λ g. times (T .nPatom * n * n) g s) same
   where
-    same : visitAt T ≡ markedVisit mean6 2 six (shiftsOf T)
-    same = unfold visitAt takenAt markedVisit in refl
+    same : visitAt T ≡ markedVisit mean6 2 perms3 (shiftsOf T)
+    same = unfold visitAt workAt markedVisit in refl
 
 -- THE COMPACT SYMMETRIZER'S LOOPS LEAVE THE SYMMETRIZED SET
 pub symmetrizes : (lenSet lenWork : ℕ) (T : ShiftTables) → Ready lenSet 2 lenWork T → (old : List Float) (done : List ℕ)
-    → length old ≡ lenSet → length done ≡ lenWork → ((b : ℕ) → b < lenWork → getD done b 0 ≡ 0) → all3 T (old, done) .0 ≡ symmetrized nan mean6 (shiftsOf T) 2 six old
+    → length old ≡ lenSet → length done ≡ lenWork → ((b : ℕ) → b < lenWork → getD done b 0 ≡ 0) → all3 T (old, done) .0 ≡ symmetrized nan mean6 (shiftsOf T) 2 perms3 old
 symmetrizes lenSet lenWork T R old done lo ld z =
     ap (λ s. s .0) (one-loop T (old, done))
-    ∙ marked-leaves mean6 (shiftsOf T) (R .rules) 2 six six-group old done (lo ∙ R .set-length ∙ sized T) (ld ∙ R .work-length) (λ b h. z b (rw (R .work-length) h))
+    ∙ marked-leaves mean6 (shiftsOf T) (R .rules) 2 perms3 six-group old done (lo ∙ R .set-length ∙ sized T) (ld ∙ R .work-length) (λ b h. z b (rw (R .work-length) h))
   where
     sized : (T : ShiftTables) → setLength (T .nPatom) (T .nSatom) 2 ≡ size (shiftsOf T) 2
     sized T = unfold size in refl
@@ -260,8 +247,8 @@ symmetrizes lenSet lenWork T R old done lo ld z =
 module _ (set : List Float) (T : ShiftTables) (work : List ℕ) (a : Answer) (e : a ≡ judgedCompact limit3 2 (length set) 2 (length work) T) where
   pub symmetrize-refused : isRefusal a ≡ true → _≡_ {A = Answer × List Float × List ℕ} (a, set, work) (setPermutationSymmetryCompactFc3 set T work)
   unfolding setPermutationSymmetryCompactFc3
-  symmetrize-refused r = refused-call a (symmetrized nan mean6 (shiftsOf T) 2 six set) set (replicate (length work) 0) work r
-      ∙ ap (λ a. (a, after a (symmetrized nan mean6 (shiftsOf T) 2 six set) set, after a (replicate (length work) 0) work)) e
+  symmetrize-refused r = refused-call a (symmetrized nan mean6 (shiftsOf T) 2 perms3 set) set (replicate (length work) 0) work r
+      ∙ ap (λ a. (a, after a (symmetrized nan mean6 (shiftsOf T) 2 perms3 set) set, after a (replicate (length work) 0) work)) e
 
   pub symmetrize-ready : isRefusal a ≡ false → Ready (length set) 2 (length work) T
   symmetrize-ready r = done-compact limit3 2 (length set) 2 (length work) T (sym e ∙ is-done a r)
@@ -273,9 +260,9 @@ module _ (set : List Float) (T : ShiftTables) (work : List ℕ) (a : Answer) (e 
   unfolding setPermutationSymmetryCompactFc3
   symmetrize-done r {cleared} {marked} {clear} {new} c l z k =
       let lc : length cleared ≡ length work = ap length c ∙ length-replicate (length work) 0 in
-      let n : new ≡ symmetrized nan mean6 (shiftsOf T) 2 six set =
+      let n : new ≡ symmetrized nan mean6 (shiftsOf T) 2 perms3 set =
       ap (λ s. s .0) l ∙ symmetrizes (length set) (length work) T (symmetrize-ready r) set cleared refl lc (λ b h. ap (λ l. getD l b 0) c ∙ getD-replicate (length work) b 0 0 h) in
       let w : clear ≡ replicate (length work) 0 = z ∙ ap (λ m. replicate m 0) (k ∙ lc) in
       ap₂ (λ x y. (Done, x, y)) n w
-      ∙ done-call a (symmetrized nan mean6 (shiftsOf T) 2 six set) set (replicate (length work) 0) work r
-      ∙ ap (λ a. (a, after a (symmetrized nan mean6 (shiftsOf T) 2 six set) set, after a (replicate (length work) 0) work)) e
+      ∙ done-call a (symmetrized nan mean6 (shiftsOf T) 2 perms3 set) set (replicate (length work) 0) work r
+      ∙ ap (λ a. (a, after a (symmetrized nan mean6 (shiftsOf T) 2 perms3 set) set, after a (replicate (length work) 0) work)) e

@@ -1,33 +1,24 @@
 -- The symmetrizers of third order (document 01, "Third and fourth order"): what the calls answer and what they leave. Definitions only.
-use mathlib.Core.List.{List, [], _∷_}
+use mathlib.Core.List.{List, []}
 use Prim.Native.Nat.{ℕ}
 use lib.ListN.{length, replicate}
 use lib.Ieee.{Float, nan}
 use Rattle.tables.specs.declared.Answer.{Answer}
-use Rattle.tables.specs.declared.Answer.the-variants.{Done}
-use Rattle.tables.specs.declared.Refusal.the-variants.{CountAboveLimit, WrongLength}
-use Rattle.tables.specs.Answers.{after, refuseIf}
-use Rattle.tables.specs.Conditions.{anyAbove, anyWrong}
+use Rattle.tables.specs.Answers.{after}
+use Rattle.tables.specs.Full.{judgedFull}
 use Rattle.tables.specs.Compact.{ShiftTables, shiftsOf, judgedCompact}
-use Rattle.tables.specs.Lengths.{setLength}
 use Rattle.tables.specs.Limits.{limit3}
-use Rattle.places.specs.Places.{six, whole}
+use Rattle.places.specs.Places.{perms3, fullShifts}
 use Rattle.orbits.specs.Symmetric.{symmetrized, mean6}
 
 -- the compact set, with a byte of work for each block
 unfoldable pub setPermutationSymmetryCompactFc3 : List Float → ShiftTables → List ℕ → Answer × List Float × List ℕ
 setPermutationSymmetryCompactFc3 set T work =
     let a = judgedCompact limit3 2 (length set) 2 (length work) T in
-    (a, after a (symmetrized nan mean6 (shiftsOf T) 2 six set) set, after a (replicate (length work) 0) work)
-
--- the guard of a full set
-unfoldable pub judgedFull3 : ℕ → ℕ → Answer
-judgedFull3 lenSet n =
-    refuseIf (anyAbove limit3 (n ∷ [])) CountAboveLimit
-    (refuseIf (anyWrong ((lenSet, setLength n n 2) ∷ [])) WrongLength Done)
+    (a, after a (symmetrized nan mean6 (shiftsOf T) 2 perms3 set) set, after a (replicate (length work) 0) work)
 
 -- the full set: a compact set in which each atom is its own representative
 unfoldable pub setPermutationSymmetryFc3 : List Float → ℕ → Answer × List Float
 setPermutationSymmetryFc3 set n =
-    let a = judgedFull3 (length set) n in
-    (a, after a (symmetrized nan mean6 (whole n) 2 six set) set)
+    let a = judgedFull limit3 2 (length set) [] n in
+    (a, after a (symmetrized nan mean6 (fullShifts n) 2 perms3 set) set)

@@ -3,14 +3,14 @@ ghost use mathlib.Core.Path.{_≡_};
 ghost use mathlib.Core.List.{[], _∷_};
 ghost use Prim.Native.Nat.{_<_};
 ghost use lib.ListN.{length};
-ghost use Rattle.tables.specs.Compact.{shiftTables};
+ghost use Rattle.tables.specs.Compact.{ShiftTables, shiftTables};
 ghost use Rattle.orbits.specs.Spread.{setAll};
 ghost use Rattle.fc3.specs.Symmetrize.{setPermutationSymmetryCompactFc3};
-ghost use Rattle.fc3.specs.Loops.{Ready, Atoms, at3, Marks6, takenAt, visitAt, row3, slab3, all3};
-use fc3_groups::spread::work_group;
+ghost use Rattle.fc3.specs.Loops.{Ready, Atoms, at3, Marks6, workAt, visitAt, row3, slab3, all3};
+use crate::spread::work_group;
 use lists::clear_bytes;
 use places::block3;
-use places::read_out3;
+use places::stored_block3;
 use shifts::judge_compact;
 use tables::Answer;
 use tables::atoms::PrimAtom;
@@ -47,17 +47,19 @@ fn take(
     j: SuperAtom,
     k: SuperAtom,
 )
-    requires { ⌜ Ready (length (now fc3)) 2 (length (now done)) (shiftTables (now p2s) (now s2pp) (now «nsym_list») (now perms) «n_satom» «n_patom» «num_trans») ⌝ }
-    requires { ⌜ Atoms (shiftTables (now p2s) (now s2pp) (now «nsym_list») (now perms) «n_satom» «n_patom» «num_trans») (p .0) (j .0) (k .0) ⌝ }
-    ensures { λ _. ⌜ (now (fc3 .exit), now (done .exit)) ≡ takenAt (shiftTables (now (p2s .entry)) (now (s2pp .entry)) (now («nsym_list» .entry)) (now (perms .entry)) «n_satom» «n_patom» «num_trans») (at3 (shiftTables (now (p2s .entry)) (now (s2pp .entry)) (now («nsym_list» .entry)) (now (perms .entry)) «n_satom» «n_patom» «num_trans») (p .0) (j .0) (k .0)) (now (fc3 .entry), now (done .entry)) ⌝ }
+    ghost { ShiftTables }
+    requires { λ T. ⌜ shiftTables (now p2s) (now s2pp) (now «nsym_list») (now perms) «n_satom» «n_patom» «num_trans» ≡ T ⌝ }
+    requires { λ T. ⌜ Ready (length (now fc3)) 2 (length (now done)) T ⌝ }
+    requires { λ T. ⌜ Atoms T (p .0) (j .0) (k .0) ⌝ }
+    ensures { λ T _. ⌜ (now (fc3 .exit), now (done .exit)) ≡ workAt T (at3 T (p .0) (j .0) (k .0)) (now (fc3 .entry), now (done .entry)) ⌝ }
 {
     let i = p2s_at(p2s, p);
     let ijk = block3(p, j, k, n_satom);
     let ikj = block3(p, k, j, n_satom);
-    let jik = read_out3(s2pp, nsym_list, perms, j, i, k, n_satom);
-    let jki = read_out3(s2pp, nsym_list, perms, j, k, i, n_satom);
-    let kij = read_out3(s2pp, nsym_list, perms, k, i, j, n_satom);
-    let kji = read_out3(s2pp, nsym_list, perms, k, j, i, n_satom);
+    let jik = stored_block3(s2pp, nsym_list, perms, j, i, k, n_satom);
+    let jki = stored_block3(s2pp, nsym_list, perms, j, k, i, n_satom);
+    let kij = stored_block3(s2pp, nsym_list, perms, k, i, j, n_satom);
+    let kji = stored_block3(s2pp, nsym_list, perms, k, j, i, n_satom);
     mark(done, ijk, ikj, jik, jki, kij, kji);
     work_group(fc3, ijk, ikj, jik, jki, kij, kji);
 }
@@ -77,9 +79,11 @@ fn visit(
     j: SuperAtom,
     k: SuperAtom,
 )
-    requires { ⌜ Ready (length (now fc3)) 2 (length (now done)) (shiftTables (now p2s) (now s2pp) (now «nsym_list») (now perms) «n_satom» «n_patom» «num_trans») ⌝ }
-    requires { ⌜ Atoms (shiftTables (now p2s) (now s2pp) (now «nsym_list») (now perms) «n_satom» «n_patom» «num_trans») (p .0) (j .0) (k .0) ⌝ }
-    ensures { λ _. ⌜ (now (fc3 .exit), now (done .exit)) ≡ visitAt (shiftTables (now (p2s .entry)) (now (s2pp .entry)) (now («nsym_list» .entry)) (now (perms .entry)) «n_satom» «n_patom» «num_trans») (at3 (shiftTables (now (p2s .entry)) (now (s2pp .entry)) (now («nsym_list» .entry)) (now (perms .entry)) «n_satom» «n_patom» «num_trans») (p .0) (j .0) (k .0)) (now (fc3 .entry), now (done .entry)) ⌝ }
+    ghost { ShiftTables }
+    requires { λ T. ⌜ shiftTables (now p2s) (now s2pp) (now «nsym_list») (now perms) «n_satom» «n_patom» «num_trans» ≡ T ⌝ }
+    requires { λ T. ⌜ Ready (length (now fc3)) 2 (length (now done)) T ⌝ }
+    requires { λ T. ⌜ Atoms T (p .0) (j .0) (k .0) ⌝ }
+    ensures { λ T _. ⌜ (now (fc3 .exit), now (done .exit)) ≡ visitAt T (at3 T (p .0) (j .0) (k .0)) (now (fc3 .entry), now (done .entry)) ⌝ }
 {
     let n = block3(p, j, k, n_satom);
     if done[n] == 0 {
@@ -114,9 +118,11 @@ fn row(
     p: PrimAtom,
     j: SuperAtom,
 )
-    requires { ⌜ Ready (length (now fc3)) 2 (length (now done)) (shiftTables (now p2s) (now s2pp) (now «nsym_list») (now perms) «n_satom» «n_patom» «num_trans») ⌝ }
-    requires { ⌜ (p .0 < «n_patom») × (j .0 < «n_satom») ⌝ }
-    ensures { λ _. ⌜ (now (fc3 .exit), now (done .exit)) ≡ row3 (shiftTables (now (p2s .entry)) (now (s2pp .entry)) (now («nsym_list» .entry)) (now (perms .entry)) «n_satom» «n_patom» «num_trans») (p .0) (j .0) (now (fc3 .entry), now (done .entry)) ⌝ }
+    ghost { ShiftTables }
+    requires { λ T. ⌜ shiftTables (now p2s) (now s2pp) (now «nsym_list») (now perms) «n_satom» «n_patom» «num_trans» ≡ T ⌝ }
+    requires { λ T. ⌜ Ready (length (now fc3)) 2 (length (now done)) T ⌝ }
+    requires { λ T. ⌜ (p .0 < «n_patom») × (j .0 < «n_satom») ⌝ }
+    ensures { λ T _. ⌜ (now (fc3 .exit), now (done .exit)) ≡ row3 T (p .0) (j .0) (now (fc3 .entry), now (done .entry)) ⌝ }
 {
     let mut k = 0;
     while k < n_satom {
@@ -151,9 +157,11 @@ fn slab(
     num_trans: usize,
     p: PrimAtom,
 )
-    requires { ⌜ Ready (length (now fc3)) 2 (length (now done)) (shiftTables (now p2s) (now s2pp) (now «nsym_list») (now perms) «n_satom» «n_patom» «num_trans») ⌝ }
-    requires { ⌜ p .0 < «n_patom» ⌝ }
-    ensures { λ _. ⌜ (now (fc3 .exit), now (done .exit)) ≡ slab3 (shiftTables (now (p2s .entry)) (now (s2pp .entry)) (now («nsym_list» .entry)) (now (perms .entry)) «n_satom» «n_patom» «num_trans») (p .0) (now (fc3 .entry), now (done .entry)) ⌝ }
+    ghost { ShiftTables }
+    requires { λ T. ⌜ shiftTables (now p2s) (now s2pp) (now «nsym_list») (now perms) «n_satom» «n_patom» «num_trans» ≡ T ⌝ }
+    requires { λ T. ⌜ Ready (length (now fc3)) 2 (length (now done)) T ⌝ }
+    requires { λ T. ⌜ p .0 < «n_patom» ⌝ }
+    ensures { λ T _. ⌜ (now (fc3 .exit), now (done .exit)) ≡ slab3 T (p .0) (now (fc3 .entry), now (done .entry)) ⌝ }
 {
     let mut j = 0;
     while j < n_satom {
@@ -186,8 +194,10 @@ fn slabs(
     n_patom: usize,
     num_trans: usize,
 )
-    requires { ⌜ Ready (length (now fc3)) 2 (length (now done)) (shiftTables (now p2s) (now s2pp) (now «nsym_list») (now perms) «n_satom» «n_patom» «num_trans») ⌝ }
-    ensures { λ _. ⌜ (now (fc3 .exit), now (done .exit)) ≡ all3 (shiftTables (now (p2s .entry)) (now (s2pp .entry)) (now («nsym_list» .entry)) (now (perms .entry)) «n_satom» «n_patom» «num_trans») (now (fc3 .entry), now (done .entry)) ⌝ }
+    ghost { ShiftTables }
+    requires { λ T. ⌜ shiftTables (now p2s) (now s2pp) (now «nsym_list») (now perms) «n_satom» «n_patom» «num_trans» ≡ T ⌝ }
+    requires { λ T. ⌜ Ready (length (now fc3)) 2 (length (now done)) T ⌝ }
+    ensures { λ T _. ⌜ (now (fc3 .exit), now (done .exit)) ≡ all3 T (now (fc3 .entry), now (done .entry)) ⌝ }
 {
     let mut p = 0;
     while p < n_patom {
@@ -219,7 +229,9 @@ pub fn set_permutation_symmetry_compact_fc3(
     n_patom: usize,
     num_trans: usize,
 ) -> Answer
-    ensures { λ r. ⌜ (r, now (fc3 .exit), now (done .exit)) ≡ setPermutationSymmetryCompactFc3 (now (fc3 .entry)) (shiftTables (now (p2s .entry)) (now (s2pp .entry)) (now («nsym_list» .entry)) (now (perms .entry)) «n_satom» «n_patom» «num_trans») (now (done .entry)) ⌝ }
+    ensures { λ r. ⌜
+        (let T = shiftTables (now (p2s .entry)) (now (s2pp .entry)) (now («nsym_list» .entry)) (now (perms .entry)) «n_satom» «n_patom» «num_trans» in
+        (r, now (fc3 .exit), now (done .exit)) ≡ setPermutationSymmetryCompactFc3 (now (fc3 .entry)) T (now (done .entry))) ⌝ }
 {
     let a = judge_compact(
         LIMIT3,

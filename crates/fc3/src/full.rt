@@ -5,15 +5,15 @@ ghost use mathlib.Core.Path.{_≡_};
 ghost use mathlib.Core.Bool.{true};
 ghost use Prim.Native.Nat.{_+_, _<_, _≤_, min};
 ghost use lib.ListN.{length};
-ghost use Rattle.fc3.specs.Symmetrize.{judgedFull3, setPermutationSymmetryFc3};
+ghost use Rattle.fc3.specs.Symmetrize.{setPermutationSymmetryFc3};
 ghost use Rattle.fc3.specs.FullLoops.{FullReady, Sorted, groupAt, lineOf, rowOf, tileOf, slabsOf};
-use fc3_groups::spread::work_known;
+use crate::spread::work_known;
 use places::full3;
 use tables::Answer;
-use tables::Refusal;
 use tables::atoms::SuperAtom;
 use tables::is_refusal;
 use tables::limits::LIMIT3;
+use tables::sets::judge_full;
 
 // Whether three atoms rise: then no two of them are the same.
 fn rising(a: SuperAtom, b: SuperAtom, c: SuperAtom) -> bool
@@ -136,24 +136,11 @@ fn full_tiles(fc3: &mut [f64], num_atom: usize)
     }
 }
 
-// Refusals 1 and 2.
-fn judge_full(set_len: usize, num_atom: usize) -> Answer
-    ensures { λ r. ⌜ r ≡ judgedFull3 «set_len» «num_atom» ⌝ }
-{
-    if num_atom > LIMIT3 {
-        return Answer::Refused(Refusal::CountAboveLimit);
-    }
-    if set_len != num_atom * num_atom * num_atom * 27 {
-        return Answer::Refused(Refusal::WrongLength);
-    }
-    Answer::Done
-}
-
 // The set is symmetrized: all six permutations of any three legs hold the same number.
 pub fn set_permutation_symmetry_fc3(fc3: &mut [f64], num_atom: usize) -> Answer
     ensures { λ r. ⌜ (r, now (fc3 .exit)) ≡ setPermutationSymmetryFc3 (now (fc3 .entry)) «num_atom» ⌝ }
 {
-    let a = judge_full(fc3.len(), num_atom);
+    let a = judge_full(LIMIT3, 2, fc3.len(), num_atom);
     if is_refusal(a) {
         return a;
     }

@@ -3,7 +3,7 @@ ghost use mathlib.Core.Path.{_≡_};
 ghost use Prim.Native.Nat.{_<_};
 ghost use lib.ListN.{length};
 ghost use Rattle.lists.specs.Tab.{times};
-ghost use Rattle.tables.specs.Compact.{shiftTables, shiftsOf};
+ghost use Rattle.tables.specs.Compact.{ShiftTables, shiftTables, shiftsOf};
 ghost use Rattle.positions.specs.Positions.{addressTable};
 ghost use Rattle.fc4.specs.Symmetrize.{setPermutationSymmetryCompactFc4};
 ghost use Rattle.fc4.specs.Loops.{Ready, visitAt};
@@ -30,9 +30,11 @@ fn visit(
     t: &[u8; 1944],
     b: usize,
 )
-    requires { ⌜ Ready (length (now fc4)) 3 (length (now done)) (shiftTables (now p2s) (now s2pp) (now «nsym_list») (now perms) «n_satom» «n_patom» «num_trans») ⌝ }
-    requires { ⌜ (now t ≡ addressTable) × (b < length (now done)) ⌝ }
-    ensures { λ _. ⌜ (now (fc4 .exit), now (done .exit)) ≡ visitAt (shiftsOf (shiftTables (now (p2s .entry)) (now (s2pp .entry)) (now («nsym_list» .entry)) (now (perms .entry)) «n_satom» «n_patom» «num_trans»)) b (now (fc4 .entry), now (done .entry)) ⌝ }
+    ghost { ShiftTables }
+    requires { λ T. ⌜ shiftTables (now p2s) (now s2pp) (now «nsym_list») (now perms) «n_satom» «n_patom» «num_trans» ≡ T ⌝ }
+    requires { λ T. ⌜ Ready (length (now fc4)) 3 (length (now done)) T ⌝ }
+    requires { λ T. ⌜ (now t ≡ addressTable) × (b < length (now done)) ⌝ }
+    ensures { λ T _. ⌜ (now (fc4 .exit), now (done .exit)) ≡ visitAt (shiftsOf T) b (now (fc4 .entry), now (done .entry)) ⌝ }
 {
     if done[b] == 0 {
         let bs = group_blocks(p2s, s2pp, nsym_list, perms, n_satom, n_patom, num_trans, b);
@@ -53,9 +55,11 @@ fn all_blocks(
     num_trans: usize,
     t: &[u8; 1944],
 )
-    requires { ⌜ Ready (length (now fc4)) 3 (length (now done)) (shiftTables (now p2s) (now s2pp) (now «nsym_list») (now perms) «n_satom» «n_patom» «num_trans») ⌝ }
-    requires { ⌜ now t ≡ addressTable ⌝ }
-    ensures { λ _. ⌜ (now (fc4 .exit), now (done .exit)) ≡ times (length (now (done .entry))) (visitAt (shiftsOf (shiftTables (now (p2s .entry)) (now (s2pp .entry)) (now («nsym_list» .entry)) (now (perms .entry)) «n_satom» «n_patom» «num_trans»))) (now (fc4 .entry), now (done .entry)) ⌝ }
+    ghost { ShiftTables }
+    requires { λ T. ⌜ shiftTables (now p2s) (now s2pp) (now «nsym_list») (now perms) «n_satom» «n_patom» «num_trans» ≡ T ⌝ }
+    requires { λ T. ⌜ Ready (length (now fc4)) 3 (length (now done)) T ⌝ }
+    requires { λ T. ⌜ now t ≡ addressTable ⌝ }
+    ensures { λ T _. ⌜ (now (fc4 .exit), now (done .exit)) ≡ times (length (now (done .entry))) (visitAt (shiftsOf T)) (now (fc4 .entry), now (done .entry)) ⌝ }
 {
     let mut b = 0;
     while b < done.len() {
@@ -88,7 +92,9 @@ pub fn set_permutation_symmetry_compact_fc4(
     n_patom: usize,
     num_trans: usize,
 ) -> Answer
-    ensures { λ r. ⌜ (r, now (fc4 .exit), now (done .exit)) ≡ setPermutationSymmetryCompactFc4 (now (fc4 .entry)) (shiftTables (now (p2s .entry)) (now (s2pp .entry)) (now («nsym_list» .entry)) (now (perms .entry)) «n_satom» «n_patom» «num_trans») (now (done .entry)) ⌝ }
+    ensures { λ r. ⌜
+        (let T = shiftTables (now (p2s .entry)) (now (s2pp .entry)) (now («nsym_list» .entry)) (now (perms .entry)) «n_satom» «n_patom» «num_trans» in
+        (r, now (fc4 .exit), now (done .exit)) ≡ setPermutationSymmetryCompactFc4 (now (fc4 .entry)) T (now (done .entry))) ⌝ }
 {
     let a = judge_compact(
         LIMIT4,

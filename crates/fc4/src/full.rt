@@ -1,11 +1,15 @@
 // The symmetrizer of a full set: a compact set in which each atom is its own representative.
 ghost use mathlib.Core.Path.{_≡_};
+ghost use mathlib.Core.List.{[], _∷_};
 ghost use Prim.Native.Nat.{_<_};
 ghost use lib.ListN.{length};
 ghost use Rattle.lists.specs.Tab.{times};
-ghost use Rattle.places.specs.Whole.{whole};
+ghost use Rattle.tables.specs.Lengths.{setBlocks};
+ghost use Rattle.tables.specs.Limits.{limit4};
+ghost use Rattle.tables.specs.Full.{judgedFull};
+ghost use Rattle.places.specs.WholeLaws.{fullShifts};
 ghost use Rattle.positions.specs.Positions.{addressTable};
-ghost use Rattle.fc4.specs.Symmetrize.{judgedFull4, setPermutationSymmetryFc4};
+ghost use Rattle.fc4.specs.Symmetrize.{setPermutationSymmetryFc4};
 ghost use Rattle.fc4.specs.Loops.{FullReady, visitAt};
 use crate::group::full_group_blocks;
 use crate::group::take;
@@ -15,11 +19,13 @@ use tables::Answer;
 use tables::Refusal;
 use tables::is_refusal;
 use tables::limits::LIMIT4;
+use tables::sets::judge_full;
+use tables::sets::set_blocks;
 
 // One visit, as in a compact set.
 fn full_visit(fc4: &mut [f64], done: &mut [u8], num_atom: usize, t: &[u8; 1944], b: usize)
     requires { ⌜ FullReady (length (now fc4)) (length (now done)) «num_atom» × (now t ≡ addressTable) × (b < length (now done)) ⌝ }
-    ensures { λ _. ⌜ (now (fc4 .exit), now (done .exit)) ≡ visitAt (whole «num_atom») b (now (fc4 .entry), now (done .entry)) ⌝ }
+    ensures { λ _. ⌜ (now (fc4 .exit), now (done .exit)) ≡ visitAt (fullShifts «num_atom») b (now (fc4 .entry), now (done .entry)) ⌝ }
 {
     if done[b] == 0 {
         let bs = full_group_blocks(num_atom, b);
@@ -30,7 +36,9 @@ fn full_visit(fc4: &mut [f64], done: &mut [u8], num_atom: usize, t: &[u8; 1944],
 // All blocks.
 fn full_blocks(fc4: &mut [f64], done: &mut [u8], num_atom: usize, t: &[u8; 1944])
     requires { ⌜ FullReady (length (now fc4)) (length (now done)) «num_atom» × (now t ≡ addressTable) ⌝ }
-    ensures { λ _. ⌜ (now (fc4 .exit), now (done .exit)) ≡ times (length (now (done .entry))) (visitAt (whole «num_atom»)) (now (fc4 .entry), now (done .entry)) ⌝ }
+    ensures { λ _. ⌜
+        (now (fc4 .exit), now (done .exit))
+        ≡ times (length (now (done .entry))) (visitAt (fullShifts «num_atom»)) (now (fc4 .entry), now (done .entry)) ⌝ }
 {
     let mut b = 0;
     while b < done.len() {
@@ -39,28 +47,25 @@ fn full_blocks(fc4: &mut [f64], done: &mut [u8], num_atom: usize, t: &[u8; 1944]
     }
 }
 
-// Refusals 1 and 2.
-fn judge_full(set_len: usize, work_len: usize, num_atom: usize) -> Answer
-    ensures { λ r. ⌜ r ≡ judgedFull4 «set_len» «work_len» «num_atom» ⌝ }
+// Refusals 1 and 2, of the done table too.
+fn judge(set_len: usize, work_len: usize, num_atom: usize) -> Answer
+    ensures { λ r. ⌜ r ≡ judgedFull limit4 3 «set_len» ((«work_len», setBlocks «num_atom» «num_atom» 3) ∷ []) «num_atom» ⌝ }
 {
-    if num_atom > LIMIT4 {
-        return Answer::Refused(Refusal::CountAboveLimit);
+    let a = judge_full(LIMIT4, 3, set_len, num_atom);
+    if is_refusal(a) {
+        return a;
     }
-    let blocks = num_atom * num_atom * num_atom * num_atom;
-    if set_len != blocks * 81 {
-        return Answer::Refused(Refusal::WrongLength);
+    if work_len == set_blocks(num_atom, num_atom, 3) {
+        return a;
     }
-    if work_len != blocks {
-        return Answer::Refused(Refusal::WrongLength);
-    }
-    Answer::Done
+    Answer::Refused(Refusal::WrongLength)
 }
 
 // The set is symmetrized: all 24 permutations of any four legs hold the same number. The done table comes in with anything and is left with zeros.
 pub fn set_permutation_symmetry_fc4(fc4: &mut [f64], done: &mut [u8], num_atom: usize) -> Answer
     ensures { λ r. ⌜ (r, now (fc4 .exit), now (done .exit)) ≡ setPermutationSymmetryFc4 (now (fc4 .entry)) (now (done .entry)) «num_atom» ⌝ }
 {
-    let a = judge_full(fc4.len(), done.len(), num_atom);
+    let a = judge(fc4.len(), done.len(), num_atom);
     if is_refusal(a) {
         return a;
     }

@@ -2,23 +2,23 @@
 ghost use mathlib.Core.Path.{_≡_};
 ghost use Prim.Native.Nat.{_<_, _≤_};
 ghost use lib.ListN.{length};
-ghost use Rattle.lists.specs.Digits.{horner, room};
+ghost use Rattle.lists.specs.Digits.{horner, timesPower};
 ghost use Rattle.tables.specs.Limits.{limit4};
-ghost use Rattle.tables.specs.Compact.{shiftTables, shiftsOf, Fit};
-ghost use Rattle.places.specs.Permutations.{twentyFour};
-ghost use Rattle.places.specs.Whole.{whole};
+ghost use Rattle.tables.specs.Compact.{ShiftTables, shiftTables, shiftsOf, TablesFit};
+ghost use Rattle.places.specs.Permutations.{perms4};
+ghost use Rattle.places.specs.WholeLaws.{fullShifts};
 ghost use Rattle.places.specs.ReadOuts.{Tables, storedIn};
 ghost use Rattle.orbits.specs.Groups.{groupBlocks};
 ghost use Rattle.orbits.specs.Spread.{setAll};
 ghost use Rattle.positions.specs.Positions.{addressTable};
-ghost use Rattle.fc4_groups.specs.Mean.{Blocks24};
+ghost use Rattle.fc4.specs.Mean.{Blocks24};
 ghost use Rattle.fc4.specs.Blocks.{sixFrom, joinedOf};
 ghost use Rattle.fc4.specs.Loops.{Marks24, takenBlocks};
-use fc4_groups::work_group;
+use crate::groups::work_group;
+use places::column_of;
 use places::full4;
-use places::last_leg;
-use places::legs_before;
-use places::read_out4;
+use places::row_of;
+use places::stored_block4;
 use tables::atoms::PrimAtom;
 use tables::atoms::SuperAtom;
 use tables::atoms::p2s_at;
@@ -34,15 +34,16 @@ fn six_from(
     z: SuperAtom,
     n_satom: usize,
 ) -> [usize; 6]
-    requires { ⌜ Tables «n_satom» (now s2pp) (now «nsym_list») (now perms) × (w .0 < «n_satom») × (x .0 < «n_satom») × (y .0 < «n_satom») × (z .0 < «n_satom») ⌝ }
+    requires { ⌜
+        Tables «n_satom» (now s2pp) (now «nsym_list») (now perms) × (w .0 < «n_satom») × (x .0 < «n_satom») × (y .0 < «n_satom») × (z .0 < «n_satom») ⌝ }
     ensures { λ r. ⌜ r ≡ sixFrom (storedIn «n_satom» (now (s2pp .entry)) (now («nsym_list» .entry)) (now (perms .entry))) (w .0) (x .0) (y .0) (z .0) ⌝ }
 {
-    let xyz = read_out4(s2pp, nsym_list, perms, w, x, y, z, n_satom);
-    let xzy = read_out4(s2pp, nsym_list, perms, w, x, z, y, n_satom);
-    let yxz = read_out4(s2pp, nsym_list, perms, w, y, x, z, n_satom);
-    let yzx = read_out4(s2pp, nsym_list, perms, w, y, z, x, n_satom);
-    let zxy = read_out4(s2pp, nsym_list, perms, w, z, x, y, n_satom);
-    let zyx = read_out4(s2pp, nsym_list, perms, w, z, y, x, n_satom);
+    let xyz = stored_block4(s2pp, nsym_list, perms, w, x, y, z, n_satom);
+    let xzy = stored_block4(s2pp, nsym_list, perms, w, x, z, y, n_satom);
+    let yxz = stored_block4(s2pp, nsym_list, perms, w, y, x, z, n_satom);
+    let yzx = stored_block4(s2pp, nsym_list, perms, w, y, z, x, n_satom);
+    let zxy = stored_block4(s2pp, nsym_list, perms, w, z, x, y, n_satom);
+    let zyx = stored_block4(s2pp, nsym_list, perms, w, z, y, x, n_satom);
     [xyz, xzy, yxz, yzx, zxy, zyx]
 }
 
@@ -103,15 +104,17 @@ pub fn group_blocks(
     num_trans: usize,
     b: usize,
 ) -> [usize; 24]
-    requires { ⌜ Fit limit4 (shiftTables (now p2s) (now s2pp) (now «nsym_list») (now perms) «n_satom» «n_patom» «num_trans») × (b < room «n_satom» 3 «n_patom») ⌝ }
-    ensures { λ r. ⌜ r ≡ groupBlocks (shiftsOf (shiftTables (now (p2s .entry)) (now (s2pp .entry)) (now («nsym_list» .entry)) (now (perms .entry)) «n_satom» «n_patom» «num_trans»)) 3 twentyFour b ⌝ }
+    ghost { ShiftTables }
+    requires { λ T. ⌜ shiftTables (now p2s) (now s2pp) (now «nsym_list») (now perms) «n_satom» «n_patom» «num_trans» ≡ T ⌝ }
+    requires { λ T. ⌜ TablesFit limit4 T × (b < timesPower «n_satom» 3 «n_patom») ⌝ }
+    ensures { λ T r. ⌜ r ≡ groupBlocks (shiftsOf T) 3 perms4 b ⌝ }
 {
-    let l = SuperAtom(last_leg(b, n_satom));
-    let pjk = legs_before(b, n_satom);
-    let k = SuperAtom(last_leg(pjk, n_satom));
-    let pj = legs_before(pjk, n_satom);
-    let j = SuperAtom(last_leg(pj, n_satom));
-    let p = PrimAtom(legs_before(pj, n_satom));
+    let l = SuperAtom(column_of(b, n_satom));
+    let pjk = row_of(b, n_satom);
+    let k = SuperAtom(column_of(pjk, n_satom));
+    let pj = row_of(pjk, n_satom);
+    let j = SuperAtom(column_of(pj, n_satom));
+    let p = PrimAtom(row_of(pj, n_satom));
     let i = p2s_at(p2s, p);
     let from_i = six_from(s2pp, nsym_list, perms, i, j, k, l, n_satom);
     let from_j = six_from(s2pp, nsym_list, perms, j, i, k, l, n_satom);
@@ -122,15 +125,15 @@ pub fn group_blocks(
 
 // The same of a full set.
 pub fn full_group_blocks(n: usize, b: usize) -> [usize; 24]
-    requires { ⌜ (n ≤ 64) × (b < room n 3 n) ⌝ }
-    ensures { λ r. ⌜ r ≡ groupBlocks (whole n) 3 twentyFour b ⌝ }
+    requires { ⌜ (n ≤ 64) × (b < timesPower n 3 n) ⌝ }
+    ensures { λ r. ⌜ r ≡ groupBlocks (fullShifts n) 3 perms4 b ⌝ }
 {
-    let l = SuperAtom(last_leg(b, n));
-    let ijk = legs_before(b, n);
-    let k = SuperAtom(last_leg(ijk, n));
-    let ij = legs_before(ijk, n);
-    let j = SuperAtom(last_leg(ij, n));
-    let i = SuperAtom(legs_before(ij, n));
+    let l = SuperAtom(column_of(b, n));
+    let ijk = row_of(b, n);
+    let k = SuperAtom(column_of(ijk, n));
+    let ij = row_of(ijk, n);
+    let j = SuperAtom(column_of(ij, n));
+    let i = SuperAtom(row_of(ij, n));
     let from_i = full_six_from(i, j, k, l, n);
     let from_j = full_six_from(j, i, k, l, n);
     let from_k = full_six_from(k, i, j, l, n);

@@ -2,3 +2,6 @@
 pub mod compact;
 pub mod full;
 pub mod group;
+pub mod groups;
+mod mean;
+mod spread;

@@ -8,7 +8,7 @@ use lib.Ieee.{Float, binary64, add, sub}
 use Rattle.lists.specs.Cases.{eq-or-ne}
 use Rattle.lists.specs.Tab.{times}
 use Rattle.grid.specs.Grid.{stepsUp, stepsDown, grid-steps, grid-few}
-use Rattle.grid.specs.Exact.{more-steps, less-steps, steps-same}
+use Rattle.grid.specs.ExactLaws.{more-steps, less-steps, steps-same}
 use Rattle.grid.specs.Sums.{passOver, total, AllOnGrid, total-few, total-same, pass-steps}
 
 -- the sum with the old number subtracted and the new one added

@@ -87,7 +87,3 @@ neg-steps (inf s) a b (inl h) = absurd (h .0)
 neg-steps (inf s) a b (inr h) = absurd (h .0)
 neg-steps (fin s m e) a b (inl h) = inr ((ap not (h .0 .0), h .0 .1), h .1)
 neg-steps (fin s m e) a b (inr h) = inl ((ap not (h .0 .0), h .0 .1), h .1)
-
-pub proper-steps : (x : Float) (a b : ℕ) → Proper x a b → Steps x a b
-proper-steps x a b (inl h) = inl h
-proper-steps x a b (inr h) = inr (h .0, h .1)

@@ -1,6 +1,6 @@
 pub mod Grid
-pub mod Exact
+pub mod ExactLaws
 pub mod Sums
 pub mod Edits
-pub mod GridTest
+pub mod GridTestLaws
 pub mod Samples

@@ -13,8 +13,8 @@ use Rattle.lists.specs.Elements.{All, pick, pick-pick, straight, pick-straight}
 use Rattle.tables.specs.Shifts.{Shifts, Laws}
 use Rattle.tables.specs.Compact.{ShiftTables, shiftsOf}
 use Rattle.places.specs.Places.{Leg, Legs, readOut, size}
-use Rattle.places.specs.Permutations.{taken, Permutation, taken-legs}
-use Rattle.half_shifts.specs.Exchanging.{straight-permutes}
+use Rattle.places.specs.Permutations.{permuteLegs, Permutation, taken-legs}
+use Rattle.orbits.specs.Exchanging.{straight-permutes}
 use Rattle.laws.specs.Sequences.{Step, leaves, spells, Steps, Onto, stands, one-set}
 
 -- A kind of call on sets of rank + 1 legs. A call is given by its arguments besides the set.
@@ -72,7 +72,7 @@ pub record Law {C Plain : Type 0} (K : Kind C Plain) (T : ShiftTables) (set : Li
       → readOut nan (shiftsOf T) (left K cs set) xs ≡ K .ask (fed K (length set) cs (K .plain (readOut nan (shiftsOf T) set))) xs
   -- the number that stood at x0, x1, .. stands at xa, xb, .., where a, b, .. is the order that the list spells
   pub stands-at : (xs : List Leg) → Legs (shiftsOf T) (K .rank) xs
-      → readOut nan (shiftsOf T) (left K cs set) (taken (spelled K (length set) cs) xs) ≡ readOut nan (shiftsOf T) set xs
+      → readOut nan (shiftsOf T) (left K cs set) (permuteLegs (spelled K (length set) cs) xs) ≡ readOut nan (shiftsOf T) set xs
   -- two lists that start from one set and end in the same order leave the same bits in the whole set
   pub same-bits : (ds : List C) → Own K T (length set) ds → spelled K (length set) cs ≡ spelled K (length set) ds → left K cs set ≡ left K ds set
 
@@ -84,14 +84,14 @@ pub record Exchanges {C Plain : Type 0} (K : Kind C Plain) (T : ShiftTables) : T
   -- the table is exchanged as the permutation says
   pub fills : (f : List Leg → Float) (xs : List Leg) → length xs ≡ suc (K .rank) → K .ask (K .plain f) xs ≡ f xs
   pub asks : (n : ℕ) (c : C) → K .refused n c ≡ false → (t : Plain) (xs : List Leg) → length xs ≡ suc (K .rank)
-      → K .ask (K .exchange c t) xs ≡ K .ask t (taken (K .permutation c) xs)
+      → K .ask (K .exchange c t) xs ≡ K .ask t (permuteLegs (K .permutation c) xs)
   -- a refused call leaves the set; one that is not refused brings tables that keep the rules, and permutes the legs by its permutation
   pub left-refused : (c : C) (set : List Float) → K .refused (length set) c ≡ true → K .leftBy c set ≡ set
   pub accepted : (n : ℕ) (c : C) → K .refused n c ≡ false → Laws (shiftsOf (K .tables c))
   pub keeps : (c : C) (set : List Float) → K .refused (length set) c ≡ false → K .tables c ≡ T → length set ≡ size (shiftsOf T) (K .rank)
       → length (K .leftBy c set) ≡ size (shiftsOf T) (K .rank)
   pub reads : (c : C) (set : List Float) (xs : List Leg) → K .refused (length set) c ≡ false → K .tables c ≡ T → length set ≡ size (shiftsOf T) (K .rank) → Legs (shiftsOf T) (K .rank) xs
-      → readOut nan (shiftsOf T) (K .leftBy c set) xs ≡ readOut nan (shiftsOf T) set (taken (K .permutation c) xs)
+      → readOut nan (shiftsOf T) (K .leftBy c set) xs ≡ readOut nan (shiftsOf T) set (permuteLegs (K .permutation c) xs)
 
 -- ---- the proof
 
@@ -114,7 +114,7 @@ module _ {C Plain : Type 0} (K : Kind C Plain) (T : ShiftTables) (E : Exchanges 
   step-refused : (c : C) → K .refused N c ≡ true → Step nan S m plainly (K .leftBy c)
   step-refused c e = record {
     isPermutation = plainly-permutes;
-    twice = λ xs p. ap (taken plainly) (pick-straight (0, 0) (suc m) xs (p .0)) ∙ pick-straight (0, 0) (suc m) xs (p .0);
+    twice = λ xs p. ap (permuteLegs plainly) (pick-straight (0, 0) (suc m) xs (p .0)) ∙ pick-straight (0, 0) (suc m) xs (p .0);
     keeps = λ set l. rw (E .left-refused c set (rw l e)) l;
     reads = λ set xs l p. rw (E .left-refused c set (rw l e), pick-straight (0, 0) (suc m) xs (p .0));
   }
@@ -124,7 +124,7 @@ module _ {C Plain : Type 0} (K : Kind C Plain) (T : ShiftTables) (E : Exchanges 
       let o = E .isPermutation N c e in
       record {
         isPermutation = o;
-        twice = λ xs p. pick-pick (0, 0) (K .permutation c) (K .permutation c) xs (rw (o .0) (o .1)) ∙ ap (λ o. taken o xs) (E .undone N c e) ∙ pick-straight (0, 0) (suc m) xs (p .0);
+        twice = λ xs p. pick-pick (0, 0) (K .permutation c) (K .permutation c) xs (rw (o .0) (o .1)) ∙ ap (λ o. permuteLegs o xs) (E .undone N c e) ∙ pick-straight (0, 0) (suc m) xs (p .0);
         keeps = λ set l. E .keeps c set (rw l e) q l;
         reads = λ set xs l p. E .reads c set xs (rw l e) q l p;
       }
@@ -152,7 +152,7 @@ module _ {C Plain : Type 0} (K : Kind C Plain) (T : ShiftTables) (E : Exchanges 
       go : (K .refused N c ≡ true) ⊎ (K .refused N c ≡ false) → readOut nan S (K .leftBy c set) xs ≡ K .ask (feed K N c t) xs
       go (inl e) = rw (e, E .left-refused c set (rw l e)) (h xs p)
       go (inr e) =
-          E .reads c set xs (rw l e) (own-tables K T N c own e) l p ∙ h (taken (K .permutation c) xs) (taken-legs S m (K .permutation c) xs (E .isPermutation N c e) p)
+          E .reads c set xs (rw l e) (own-tables K T N c own e) l p ∙ h (permuteLegs (K .permutation c) xs) (taken-legs S m (K .permutation c) xs (E .isPermutation N c e) p)
           ∙ sym (E .asks N c e t xs (p .0)) ∙ ap (λ b. K .ask (cond b t (K .exchange c t)) xs) (sym e)
 
   fed-same : (cs : List C) (set : List Float) (t : Plain) → Own K T N cs → length set ≡ N → Same set t → Same (leaves (K .leftBy) cs set) (fed K N cs t)
@@ -175,7 +175,7 @@ module _ {C Plain : Type 0} (K : Kind C Plain) (T : ShiftTables) (E : Exchanges 
   plainly-onto = record { isPermutation = plainly-permutes; onto = λ ys p. (ys, p, pick-straight (0, 0) (suc m) ys (p .0)) }
 
   module _ (set : List Float) (l : length set ≡ N) where
-    at-start : (xs : List Leg) → Legs S m xs → readOut nan S set (taken plainly xs) ≡ readOut nan S set xs
+    at-start : (xs : List Leg) → Legs S m xs → readOut nan S set (permuteLegs plainly xs) ≡ readOut nan S set xs
     at-start xs p = ap (readOut nan S set) (pick-straight (0, 0) (suc m) xs (p .0))
 
     one : (cs ds : List C) → Own K T N cs → Own K T N ds → spelled K N cs ≡ spelled K N ds

@@ -11,7 +11,7 @@ use Rattle.lists.specs.Tab.{tab, tabFrom}
 use Rattle.lists.specs.Tests.{every, some}
 use Rattle.lists.specs.Elements.{pick, straight}
 use Rattle.lists.specs.Members.{leastOr, least, greatest, keep}
-use Rattle.lists.specs.Digits.{horner, room, rest, digits}
+use Rattle.lists.specs.Digits.{horner, timesPower, rest, digits}
 use Rattle.common.specs.Whole.{nint}
 use Rattle.common.specs.Root.{sqrt}
 use Rattle.common.specs.Sheets as rounding
@@ -22,22 +22,24 @@ use Rattle.tables.specs.Shifts.{row, p2sAt, s2ppAt, nsymAt, distinct, isNull, i
 use Rattle.tables.specs.Compact.{ShiftTables, shiftTables, shiftsOf, judgedEntries, judgedTables, judgedCompact}
 use Rattle.tables.specs.Lengths.{setLength, setBlocks}
 use Rattle.blocks.specs.Block.{block}
-use Rattle.places.specs.Places.{shift, stored, opened, address, size, legsOf, place, at, fill}
-use Rattle.places.specs.Permutations.{six}
-use Rattle.places.specs.Whole.{whole}
+use Rattle.places.specs.Places.{shift, stored, legsAt, address, size, legsOf, place, at, fill}
+use Rattle.places.specs.Permutations.{perms3}
+use Rattle.places.specs.WholeLaws.{fullShifts}
 use Rattle.places.specs.Moves.{source, stays, order, traded, transposed}
 use Rattle.orbits.specs.Blockwise.{inBlock}
 use Rattle.orbits.specs.Symmetric.{images, firstBlock, leader, meanAt, symmetrized}
 use Rattle.distances.specs.declared.Cell.{Cell}
-use Rattle.cells.specs.declared.Matching.the-variants.{Matched, NotMatched}
-use Rattle.cells.specs.Matching.{computePermutation}
-use Rattle.cells.specs.Sheets as matching
+use Rattle.matching.specs.declared.cells.Matching.the-variants.{Matched, NotMatched}
+use Rattle.matching.specs.Matching.{computePermutation}
+use Rattle.matching.specs.Sheets as matching
 use Rattle.fc2.specs.Full.{permTransSymmetrizeFc}
 use Rattle.fc2.specs.FullSheets as second
-use Rattle.fc3_means.specs.Mean.{mean6}
-use Rattle.fc3.specs.Symmetrize.{judgedFull3, setPermutationSymmetryFc3}
+use Rattle.fc3.specs.Mean.{mean6}
+use Rattle.tables.specs.Limits.{limit3}
+use Rattle.tables.specs.Full.{judgedFull}
+use Rattle.fc3.specs.Symmetrize.{setPermutationSymmetryFc3}
 use Rattle.transposes_fc3.specs.Fc3.{transposedBy, judgedTranspose, transposeCompactFc3}
-use Rattle.fc4_groups.specs.Mean24.{mean24}
+use Rattle.fc4.specs.Mean24.{mean24}
 
 -- ---- how the sheets' data are written
 
@@ -130,19 +132,19 @@ pub record Sheets : Type 0 where
 abbrev meanBackwards : List Float → Float
 meanBackwards l = mean6 (pick nan (5 ∷ 4 ∷ 3 ∷ 2 ∷ 1 ∷ 0 ∷ []) l)
 
-one-group : (set : List Float) → sixPositions (symmetrized nan mean6 (whole 1) 2 six set) ≡ replicate 6 (meanBackwards (sixPositions set))
-unfolding symmetrized meanAt leader firstBlock images inBlock fill size setLength room place legsOf rest digits opened stored shift address horner row p2sAt s2ppAt nsymAt whole six pick straight tab tabFrom leastOr least greatest keep
+one-group : (set : List Float) → sixPositions (symmetrized nan mean6 (fullShifts 1) 2 perms3 set) ≡ replicate 6 (meanBackwards (sixPositions set))
+unfolding symmetrized meanAt leader firstBlock images inBlock fill size setLength timesPower place legsOf rest digits legsAt stored shift address horner row p2sAt s2ppAt nsymAt fullShifts perms3 pick straight tab tabFrom leastOr least greatest keep
 one-group set = refl
 
 one-to-six : replicate 6 (meanBackwards (f64 1 ∷ f64 2 ∷ f64 3 ∷ f64 4 ∷ f64 5 ∷ f64 6 ∷ [])) ≡ replicate 6 (35 over 10)
 unfolding pick add div ofBits round
 one-to-six = refl
 
-one-atom : (set : List Float) → length set ≡ 27 → setPermutationSymmetryFc3 set 1 ≡ (Done, symmetrized nan mean6 (whole 1) 2 six set)
-unfolding setPermutationSymmetryFc3 judgedFull3 setLength after
+one-atom : (set : List Float) → length set ≡ 27 → setPermutationSymmetryFc3 set 1 ≡ (Done, symmetrized nan mean6 (fullShifts 1) 2 perms3 set)
+unfolding setPermutationSymmetryFc3 judgedFull setLength after
 one-atom set e =
-    let j : judgedFull3 (length set) 1 ≡ Done = ap (λ n. judgedFull3 n 1) e in
-    ap (λ a. (a, after a (symmetrized nan mean6 (whole 1) 2 six set) set)) j
+    let j : judgedFull limit3 2 (length set) [] 1 ≡ Done = ap (λ n. judgedFull limit3 2 n [] 1) e in
+    ap (λ a. (a, after a (symmetrized nan mean6 (fullShifts 1) 2 perms3 set) set)) j
 
 -- ---- sheets 6 and 7
 
@@ -164,7 +166,7 @@ type-0-blocks : (set : List Float)
     → (blockAt 3 0 1 2 (transposed nan (shiftsOf threeAtoms) 0 set) ≡ firstTwoSwapped (blockAt 3 0 2 1 set))
     × (blockAt 2 0 1 0 (transposed nan (shiftsOf twoAtoms) 0 set) ≡ blockAt 2 0 1 0 set)
     × (blockAt 2 0 1 1 (transposed nan (shiftsOf twoAtoms) 0 set) ≡ blockAt 2 0 1 1 set)
-unfolding block transposed traded fill size setLength room place legsOf rest digits at source order pick opened stored shift address horner stays isNull row p2sAt s2ppAt nsymAt every tab tabFrom
+unfolding block transposed traded fill size setLength timesPower place legsOf rest digits at source order pick legsAt stored shift address horner stays isNull row p2sAt s2ppAt nsymAt every tab tabFrom
 type-0-blocks set = (refl, refl, refl)
 
 -- ---- all of them
@@ -198,7 +200,7 @@ six-minus-zeros = refl
 
 -- so a set of -0.0 stays
 pub minus-zeros-stay : setPermutationSymmetryFc3 (replicate 27 (neg (f64 0))) 1 ≡ (Done, replicate 27 (neg (f64 0)))
-unfolding symmetrized meanAt leader firstBlock images inBlock fill size setLength room place legsOf rest digits opened stored shift address horner row p2sAt s2ppAt nsymAt whole six pick straight tab tabFrom leastOr least greatest keep neg add div ofBits round
+unfolding symmetrized meanAt leader firstBlock images inBlock fill size setLength timesPower place legsOf rest digits legsAt stored shift address horner row p2sAt s2ppAt nsymAt fullShifts perms3 pick straight tab tabFrom leastOr least greatest keep neg add div ofBits round
 minus-zeros-stay = one-atom (replicate 27 (neg (f64 0))) refl ∙ refl
 
 pub twentyFour-minus-zeros : mean24 (replicate 24 (neg (f64 0))) ≡ f64 0

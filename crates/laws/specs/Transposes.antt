@@ -1,5 +1,5 @@
 -- The law of sequences for `transpose_compact_fc3`, as document 01 words it ("Lists of transposes"): one claim about a whole list of calls,
--- refused ones among them. `Law` says it, and `law` at the end proves it: the case of CallLists.antt that needs tables without half shifts. The
+-- refused ones among them. `ListLaw` says it, and `law` at the end proves it: the case of CallLists.antt that needs tables without half shifts. The
 -- model of IEEE 754 has one NaN, so of a number that is a NaN it is proved that a NaN stands there, and "the same bits" are the same up to the
 -- payloads of NaNs. Assumes nothing.
 use mathlib.Core.Path.{_≡_, refl, sym, ap, _∙_}
@@ -17,7 +17,7 @@ use Rattle.tables.specs.Shifts.{Shifts, Laws, NoHalfShift}
 use Rattle.tables.specs.Limits.{limit3}
 use Rattle.tables.specs.Compact.{ShiftTables, shiftsOf, done-compact}
 use Rattle.places.specs.Places.{Leg, Fit, Legs, readOut, size, length-fill}
-use Rattle.places.specs.Permutations.{taken, Permutation}
+use Rattle.places.specs.Permutations.{permuteLegs, Permutation}
 use Rattle.places.specs.Moves.{order, moved, traded, transposed, readOut-transposed}
 use Rattle.transposes_fc3.specs.Fc3.{transposedBy, judgedTranspose, transposeCompactFc3}
 use Rattle.laws.specs.CallLists.{Kind, Exchanges, sequences}
@@ -52,6 +52,11 @@ exchange (negsuc k) t x y w = t x y w
 unfoldable pub permutationOf : ℤ → List ℕ
 permutationOf (pos t) = order t
 permutationOf (negsuc t) = straight 3
+
+pub permutations-are : (t : ℕ) → (permutationOf (pos 0) ≡ 1 ∷ 0 ∷ 2 ∷ []) × (permutationOf (pos 1) ≡ 2 ∷ 1 ∷ 0 ∷ []) × (permutationOf (pos 2) ≡ 0 ∷ 2 ∷ 1 ∷ [])
+    × (permutationOf (pos (suc (suc (suc t)))) ≡ 0 ∷ 1 ∷ 2 ∷ []) × (permutationOf (negsuc t) ≡ 0 ∷ 1 ∷ 2 ∷ [])
+unfolding permutationOf order straight tab tabFrom
+permutations-are t = (refl, refl, refl, refl, refl)
 
 -- ---- the calls
 
@@ -91,13 +96,13 @@ Own T n cs = lists.Own transposes T n cs
 -- ---- the law
 
 -- of a set and its tables, and a list of calls
-pub record Law (T : ShiftTables) (set : List Float) (cs : List Call) : Type 0 where
+pub record ListLaw (T : ShiftTables) (set : List Float) (cs : List Call) : Type 0 where
   -- after the list the read-out holds at any three pairs what the plain table holds there
   pub table : (x y w : Leg) → Fit (shiftsOf T) x → Fit (shiftsOf T) y → Fit (shiftsOf T) w
       → readOut nan (shiftsOf T) (left cs set) (x ∷ y ∷ w ∷ []) ≡ fed (length set) cs (λ x y w. readOut nan (shiftsOf T) set (x ∷ y ∷ w ∷ [])) x y w
   -- the number that stood at x0, x1, x2 stands at xa, xb, xc, where a, b, c is the order that the list spells
   pub stands-at : (xs : List Leg) → Legs (shiftsOf T) 2 xs
-      → readOut nan (shiftsOf T) (left cs set) (taken (spelled (length set) cs) xs) ≡ readOut nan (shiftsOf T) set xs
+      → readOut nan (shiftsOf T) (left cs set) (permuteLegs (spelled (length set) cs) xs) ≡ readOut nan (shiftsOf T) set xs
   -- two lists that start from one set and end in the same order leave the same bits in the whole set
   pub same-bits : (ds : List Call) → Own T (length set) ds → spelled (length set) cs ≡ spelled (length set) ds → left cs set ≡ left ds set
 
@@ -161,7 +166,7 @@ fills : (f : List Leg → Float) (xs : List Leg) → length xs ≡ 3 → f (getD
 unfolding pick straight tab tabFrom
 fills f xs l = ap f (pick-straight (0, 0) 3 xs l)
 
-asks : (z : ℤ) (t : Plain) (xs : List Leg) → transposes .ask (exchange z t) xs ≡ transposes .ask t (taken (permutationOf z) xs)
+asks : (z : ℤ) (t : Plain) (xs : List Leg) → transposes .ask (exchange z t) xs ≡ transposes .ask t (permuteLegs (permutationOf z) xs)
 unfolding permutationOf order exchange pick straight tab tabFrom
 asks (pos zero) t xs = refl
 asks (pos (suc zero)) t xs = refl
@@ -173,7 +178,7 @@ module _ (T : ShiftTables) (nh : NoHalfShift (shiftsOf T)) where
   abbrev S : Shifts
   S = shiftsOf T
 
-  read-by : Laws S → (t : ℤ) (set : List Float) (xs : List Leg) → Legs S 2 xs → readOut nan S (transposedBy S t set) xs ≡ readOut nan S set (taken (permutationOf t) xs)
+  read-by : Laws S → (t : ℤ) (set : List Float) (xs : List Leg) → Legs S 2 xs → readOut nan S (transposedBy S t set) xs ≡ readOut nan S set (permuteLegs (permutationOf t) xs)
   unfolding transposedBy permutationOf
   read-by L (pos t) set xs p = readOut-transposed S L nan nh t set xs p
   read-by L (negsuc t) set xs p = ap (readOut nan S set) (sym (pick-straight (0, 0) 3 xs (p .0)))
@@ -195,7 +200,7 @@ module _ (T : ShiftTables) (nh : NoHalfShift (shiftsOf T)) where
 
 -- THE LAW OF SEQUENCES: for any compact set of the stated length and any list of calls, of which those that are not refused bring the set's own
 -- tables, where only the null shift is its own inverse
-pub law : (T : ShiftTables) (set : List Float) (cs : List Call) → NoHalfShift (shiftsOf T) → length set ≡ size (shiftsOf T) 2 → Own T (length set) cs → Law T set cs
+pub law : (T : ShiftTables) (set : List Float) (cs : List Call) → NoHalfShift (shiftsOf T) → length set ≡ size (shiftsOf T) 2 → Own T (length set) cs → ListLaw T set cs
 unfolding fed spelled left
 law T set cs nh l o =
     let h = sequences transposes T (exchanges T nh) set cs l o in

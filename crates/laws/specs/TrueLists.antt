@@ -20,10 +20,10 @@ use Rattle.tables.specs.Shifts.{Shifts, Laws}
 use Rattle.tables.specs.Limits.{limit2, limit3, limit4}
 use Rattle.tables.specs.Compact.{ShiftTables, shiftsOf, judgedCompact, done-compact}
 use Rattle.places.specs.Places.{Leg, Legs, readOut, size}
-use Rattle.places.specs.Permutations.{taken}
+use Rattle.places.specs.Permutations.{permuteLegs}
 use Rattle.places.specs.Moves.{moved, length-moved, readOut-moved}
-use Rattle.half_shifts.specs.Exchanging.{partner, exchanging, exchanging-permutes, exchanging-undone, exchanging-same}
-use Rattle.half_shifts.specs.TrueTransposes.{swapped, trueTranspose, legs3, legs4, trueTransposeCompactFc2, trueTransposeCompactFc3, trueTransposeCompactFc4}
+use Rattle.orbits.specs.Exchanging.{partner, exchanging, exchanging-permutes, exchanging-undone, exchanging-same}
+use Rattle.orbits.specs.TrueTransposes.{swapped, trueTranspose, legs3, legs4, trueTransposeCompactFc2, trueTransposeCompactFc3, trueTransposeCompactFc4}
 use Rattle.laws.specs.CallLists.{Kind, Own, Law, Exchanges, sequences}
 use Rattle.laws.specs.Transposes.{Call, Plain, exchange}
 
@@ -40,13 +40,13 @@ module _ (m : ℕ) where
       go (inr q) = rw q (length-moved nan S m (exchanging m (l .0) (l .1)) set)
 
   read-swapped : (S : Shifts) → Laws S → (l : ℕ × ℕ) → l .0 < suc m → l .1 < suc m → (set : List Float) (xs : List Leg) → Legs S m xs
-      → readOut nan S (swapped S m l set) xs ≡ readOut nan S set (taken (exchanging m (l .0) (l .1)) xs)
+      → readOut nan S (swapped S m l set) xs ≡ readOut nan S set (permuteLegs (exchanging m (l .0) (l .1)) xs)
   unfolding swapped
   read-swapped S L l hu hv set xs p = go (split (eqb (l .0) (l .1)))
     where
       go : (eqb (l .0) (l .1) ≡ true) ⊎ (eqb (l .0) (l .1) ≡ false)
-          → readOut nan S (cond (eqb (l .0) (l .1)) set (moved nan S m (exchanging m (l .0) (l .1)) set)) xs ≡ readOut nan S set (taken (exchanging m (l .0) (l .1)) xs)
-      go (inl q) = rw q (ap (readOut nan S set) (sym (ap (λ o. taken o xs) (exchanging-same m (l .0) (l .1) (eqb-true (l .0) (l .1) q)) ∙ pick-straight (0, 0) (suc m) xs (p .0))))
+          → readOut nan S (cond (eqb (l .0) (l .1)) set (moved nan S m (exchanging m (l .0) (l .1)) set)) xs ≡ readOut nan S set (permuteLegs (exchanging m (l .0) (l .1)) xs)
+      go (inl q) = rw q (ap (readOut nan S set) (sym (ap (λ o. permuteLegs o xs) (exchanging-same m (l .0) (l .1) (eqb-true (l .0) (l .1) q)) ∙ pick-straight (0, 0) (suc m) xs (p .0))))
       go (inr q) = rw q (readOut-moved S L nan m (exchanging m (l .0) (l .1)) set xs (exchanging-permutes m (l .0) (l .1) hu hv) p)
 
 module _ {C P : Type 0} (m : ℕ) (tables : C → ShiftTables) (judge : ℕ → C → Answer) (legs : C → ℕ × ℕ)
@@ -70,7 +70,7 @@ module _ {C P : Type 0} (m : ℕ) (tables : C → ShiftTables) (judge : ℕ → 
 
   module _ (sound : (n : ℕ) (c : C) → judge n c ≡ Done → Sound c)
       (fills : (f : List Leg → Float) (xs : List Leg) → length xs ≡ suc m → askBy (fillBy f) xs ≡ f xs)
-      (asks : (c : C) (t : P) (xs : List Leg) → length xs ≡ suc m → askBy (feedBy c t) xs ≡ askBy t (taken (exchanging m (legs c .0) (legs c .1)) xs))
+      (asks : (c : C) (t : P) (xs : List Leg) → length xs ≡ suc m → askBy (feedBy c t) xs ≡ askBy t (permuteLegs (exchanging m (legs c .0) (legs c .1)) xs))
       (T : ShiftTables) where
     accepted : (n : ℕ) (c : C) → isRefusal (judge n c) ≡ false → Sound c
     accepted n c e = sound n c (is-done (judge n c) e)
@@ -123,16 +123,20 @@ ask2 t xs = t (getD xs 0 (0, 0)) (getD xs 1 (0, 0))
 abbrev pub second : Kind Call2 Plain2
 second = trueKind 1 (λ (c : Call2). c .tables) (λ n (c : Call2). judgedCompact limit2 1 n 1 (length (c .work)) (c .tables)) (λ (c : Call2). (0, 1)) (λ f x y. f (x ∷ y ∷ [])) exchange2 ask2
 
--- what its calls leave is what the definition of the call says
+-- what its calls leave, and whether they are refused, is what the definition of the call says
 pub second-is : (c : Call2) (set : List Float) → second .leftBy c set ≡ trueTransposeCompactFc2 set (c .tables) (c .work) .1
 unfolding trueTransposeCompactFc2 trueTranspose
 second-is c set = refl
+
+pub second-refuses : (c : Call2) (set : List Float) → second .refused (length set) c ≡ isRefusal (trueTransposeCompactFc2 set (c .tables) (c .work) .0)
+unfolding trueTransposeCompactFc2 trueTranspose
+second-refuses c set = refl
 
 fills2 : (f : List Leg → Float) (xs : List Leg) → length xs ≡ 2 → ask2 (λ x y. f (x ∷ y ∷ [])) xs ≡ f xs
 unfolding pick straight tab tabFrom
 fills2 f xs l = ap f (pick-straight (0, 0) 2 xs l)
 
-asks2 : (c : Call2) (t : Plain2) (xs : List Leg) → ask2 (exchange2 c t) xs ≡ ask2 t (taken (exchanging 1 0 1) xs)
+asks2 : (c : Call2) (t : Plain2) (xs : List Leg) → ask2 (exchange2 c t) xs ≡ ask2 t (permuteLegs (exchanging 1 0 1) xs)
 unfolding exchanging partner pick tab tabFrom
 asks2 c t xs = refl
 
@@ -153,6 +157,10 @@ pub third-is : (c : Call) (set : List Float) → third .leftBy c set ≡ trueTra
 unfolding trueTransposeCompactFc3 trueTranspose
 third-is c set = refl
 
+pub third-refuses : (c : Call) (set : List Float) → third .refused (length set) c ≡ isRefusal (trueTransposeCompactFc3 set (c .tables) (c .work) (c .type) .0)
+unfolding trueTransposeCompactFc3 trueTranspose
+third-refuses c set = refl
+
 fills3 : (f : List Leg → Float) (xs : List Leg) → length xs ≡ 3 → ask3 (λ x y w. f (x ∷ y ∷ w ∷ [])) xs ≡ f xs
 unfolding pick straight tab tabFrom
 fills3 f xs l = ap f (pick-straight (0, 0) 3 xs l)
@@ -165,7 +173,7 @@ inside3 (pos (suc (suc zero))) = (lit< tt, lit< tt)
 inside3 (pos (suc (suc (suc t)))) = (lit< tt, lit< tt)
 inside3 (negsuc t) = (lit< tt, lit< tt)
 
-asks3 : (z : ℤ) (t : Plain) (xs : List Leg) → ask3 (exchange z t) xs ≡ ask3 t (taken (exchanging 2 (legs3 z .0) (legs3 z .1)) xs)
+asks3 : (z : ℤ) (t : Plain) (xs : List Leg) → ask3 (exchange z t) xs ≡ ask3 t (permuteLegs (exchanging 2 (legs3 z .0) (legs3 z .1)) xs)
 unfolding exchange legs3 exchanging partner pick tab tabFrom
 asks3 (pos zero) t xs = refl
 asks3 (pos (suc zero)) t xs = refl
@@ -199,6 +207,10 @@ pub fourth-is : (c : Call) (set : List Float) → fourth .leftBy c set ≡ trueT
 unfolding trueTransposeCompactFc4 trueTranspose
 fourth-is c set = refl
 
+pub fourth-refuses : (c : Call) (set : List Float) → fourth .refused (length set) c ≡ isRefusal (trueTransposeCompactFc4 set (c .tables) (c .work) (c .type) .0)
+unfolding trueTransposeCompactFc4 trueTranspose
+fourth-refuses c set = refl
+
 fills4 : (f : List Leg → Float) (xs : List Leg) → length xs ≡ 4 → ask4 (λ x y z w. f (x ∷ y ∷ z ∷ w ∷ [])) xs ≡ f xs
 unfolding pick straight tab tabFrom
 fills4 f xs l = ap f (pick-straight (0, 0) 4 xs l)
@@ -209,7 +221,7 @@ inside4 (pos zero) = (lit< tt, lit< tt)
 inside4 (pos (suc t)) = (lit< tt, lit< tt)
 inside4 (negsuc t) = (lit< tt, lit< tt)
 
-asks4 : (z : ℤ) (t : Plain4) (xs : List Leg) → ask4 (exchange4 z t) xs ≡ ask4 t (taken (exchanging 3 (legs4 z .0) (legs4 z .1)) xs)
+asks4 : (z : ℤ) (t : Plain4) (xs : List Leg) → ask4 (exchange4 z t) xs ≡ ask4 t (permuteLegs (exchanging 3 (legs4 z .0) (legs4 z .1)) xs)
 unfolding exchange4 legs4 exchanging partner pick tab tabFrom
 asks4 (pos zero) t xs = refl
 asks4 (pos (suc k)) t xs = refl

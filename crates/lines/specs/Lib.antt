@@ -1,5 +1,5 @@
-pub mod Nine
+pub mod Sums3x3
 pub mod Lines
-pub mod Drifts
-pub mod Others
-pub mod Legs
+pub mod DriftLaws
+pub mod OtherLaws
+pub mod LegLaws

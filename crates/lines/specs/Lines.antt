@@ -9,8 +9,8 @@ use lib.Ieee.{Float}
 use Rattle.lists.specs.Tab.{times}
 use Rattle.lists.specs.Digits.{in-row, pos-of}
 use Rattle.blocks.specs.Block.{block, putBlock, block-of, place-of}
-use Rattle.lines.specs.Nine.{Sums, more, scaled, less, averaged, balance, zeros}
-use Rattle.blocks.specs.Nine.{transposed9}
+use Rattle.lines.specs.Sums3x3.{Sums, more, scaled, less, averaged, balance, zeros}
+use Rattle.blocks.specs.Block9.{transposed9}
 
 -- A line is blocks a, a + d, a + 2 d, ..: c of them.
 unfoldable pub lineSums : ℕ → ℕ → ℕ → List Float → Sums → Sums

@@ -1,12 +1,13 @@
 // Lines of blocks of nine numbers, in full sets and in compact ones: a row of a set is a line, and so is a column. The sums of a line, and a
 // line less its drift.
 pub mod nine;
+pub mod nines;
 
 use nine::averaged;
 use nine::less;
 use nine::more;
 use nine::scaled;
-use places::with_leg;
+use places::index_of;
 use tables::atoms::SuperAtom;
 ghost use mathlib.Core.Path.{_≡_};
 ghost use lib.ListN.{length};
@@ -26,7 +27,7 @@ pub fn line_sums(
 {
     let mut sums = s;
     for k in 0..count {
-        let b = blocks::read9(fc, with_leg(k, step, first));
+        let b = blocks::read9(fc, index_of(k, step, first));
         let next = more(sums, b);
         sums = next;
     }
@@ -39,7 +40,7 @@ fn take_drift(fc: &mut [f64], d: [[f64; 3]; 3], first: usize, step: usize, count
     ensures { λ _. ⌜ now (fc .exit) ≡ lines.lineLess first step count d (now (fc .entry)) ⌝ }
 {
     for k in 0..count {
-        let at = with_leg(k, step, first);
+        let at = index_of(k, step, first);
         let b = blocks::read9(fc, at);
         blocks::write9(fc, at, less(b, d));
     }
@@ -61,7 +62,7 @@ pub fn row_drift(fc: &mut [f64], rows: usize, n: usize, inv_n: f64)
     ensures { λ _. ⌜ now (fc .exit) ≡ lines.rowDrifts rows n «inv_n» (now (fc .entry)) ⌝ }
 {
     for i in 0..rows {
-        line_drift(fc, with_leg(i, n, 0), 1, n, inv_n);
+        line_drift(fc, index_of(i, n, 0), 1, n, inv_n);
     }
 }
 

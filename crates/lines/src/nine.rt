@@ -1,6 +1,6 @@
 // Blocks of nine numbers as whole values, one 3 by 3 matrix each with its rows one after another, and 3 by 3 sums of blocks.
 ghost use mathlib.Core.Path.{_≡_};
-ghost use Rattle.lines.specs.Nine as nine;
+ghost use Rattle.lines.specs.Sums3x3 as nine;
 
 // 3 by 3 sums and one block more.
 pub fn more(s: [[f64; 3]; 3], b: [f64; 9]) -> [[f64; 3]; 3]

@@ -11,13 +11,13 @@ use lib.Seq.{getD-set-other, ext-getD}
 use lib.Ieee.{Float, nan}
 use borrow.Author.Tests.{eqb-true}
 use Rattle.lists.specs.Elements.{map-same}
-use Rattle.lists.specs.Digits.{room}
+use Rattle.lists.specs.Digits.{timesPower}
 use Rattle.lists.specs.Members.{In, in-all, least}
 use Rattle.tables.specs.Shifts.{Shifts, Laws}
 use Rattle.places.specs.Permutations.{Group}
 use Rattle.orbits.specs.Blockwise.{inBlock}
 use Rattle.orbits.specs.Symmetric.{firstBlock}
-use Rattle.orbits.specs.Symmetrizer.{imgs, groups, orbits}
+use Rattle.orbits.specs.SymmetrizerLaws.{imgs, groups, orbits}
 use Rattle.orbits.specs.Spread.{setAll, has, meanOf, spread, length-setAll, getD-setAll, Groups, Orbits, fbOf, group-first}
 use Rattle.orbits.specs.Groups.{groupBlocks, spread-is, marked-are}
 use Rattle.orbits.specs.GroupLoop.{worked, firstVisit, isFirst}
@@ -88,12 +88,12 @@ module _ (mean : List Float → Float) (S : Shifts) (L : Laws S) (m : ℕ) (os :
   abbrev visit : ℕ → List Float → List Float
   visit = firstVisit mean m os (isFirst m os S) S
 
-  module _ (a b : ℕ) (ha : a < room (S .nSatom) m (S .nPatom)) (hb : b < room (S .nSatom) m (S .nPatom)) where
-    is-first : (n : ℕ) → n < room (S .nSatom) m (S .nPatom) → isFirst m os S n ≡ true → fbOf (groups S L m os G) (n * inBlock m) ≡ n
+  module _ (a b : ℕ) (ha : a < timesPower (S .nSatom) m (S .nPatom)) (hb : b < timesPower (S .nSatom) m (S .nPatom)) where
+    is-first : (n : ℕ) → n < timesPower (S .nSatom) m (S .nPatom) → isFirst m os S n ≡ true → fbOf (groups S L m os G) (n * inBlock m) ≡ n
     unfolding isFirst firstBlock
     is-first n h e = ap least (marked-are S L m os G n h) ∙ eqb-true (least (groupBlocks S m os n)) n e
 
-    spread-at : (n : ℕ) → n < room (S .nSatom) m (S .nPatom) → (xs : List Float) → worked mean m os S n xs ≡ spread nan mean (inBlock m) (imgs S L m os G) xs n (inBlock m)
+    spread-at : (n : ℕ) → n < timesPower (S .nSatom) m (S .nPatom) → (xs : List Float) → worked mean m os S n xs ≡ spread nan mean (inBlock m) (imgs S L m os G) xs n (inBlock m)
     unfolding worked
     spread-at n h xs = sym (spread-is S L m os G n h mean xs)
 

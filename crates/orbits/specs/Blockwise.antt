@@ -3,9 +3,9 @@ use mathlib.Core.Path.{_≡_, refl, sym, ap, _∙_}
 use Prim.Native.Nat.{ℕ, suc, _/_, _<_}
 use mathlib.Core.List.{List, [], _∷_, map}
 use lib.ListN.{length, length-map}
-use Rattle.lists.specs.Digits.{horner, room, rest, digits, rest-div, rest-horner, rest-below, length-digits}
+use Rattle.lists.specs.Digits.{horner, timesPower, rest, digits, rest-div, rest-horner, rest-below, length-digits}
 use Rattle.tables.specs.Shifts.{Shifts, row, p2sAt, s2ppAt, nsymAt}
-use Rattle.places.specs.Places.{Leg, atom, dir, Place, shift, stored, opened, address, place, size, size-rooms, dirs-below, atoms-legsOf, dirs-legsOf}
+use Rattle.places.specs.Places.{Leg, atom, dir, Place, shift, stored, legsAt, address, place, size, size-rooms, dirs-below, atoms-legsOf, dirs-legsOf}
 unfoldable pub use Rattle.places.specs.Places.{inBlock}
 
 -- ---- the block of an address: it depends on the atoms only
@@ -32,8 +32,8 @@ unfoldable pub openedAtoms : Shifts → List ℕ → List ℕ
 openedAtoms S [] = []
 openedAtoms S (a ∷ bs) = p2sAt S a ∷ bs
 
-pub atoms-opened : (S : Shifts) (ys : List Leg) → map atom (opened S ys) ≡ openedAtoms S (map atom ys)
-unfolding opened openedAtoms
+pub atoms-opened : (S : Shifts) (ys : List Leg) → map atom (legsAt S ys) ≡ openedAtoms S (map atom ys)
+unfolding legsAt openedAtoms
 atoms-opened S [] = refl
 atoms-opened S (y ∷ ys) = refl
 
@@ -57,9 +57,9 @@ module _ (S : Shifts) (m : ℕ) where
   pub atoms-place : (q r : ℕ) → q / inBlock m ≡ r / inBlock m → map atom (place S m q) ≡ map atom (place S m r)
   atoms-place q r e = atoms-of q ∙ ap (λ b. rest (S .nSatom) m b ∷ digits (S .nSatom) m b) e ∙ sym (atoms-of r)
 
-  pub block-below : (q : ℕ) → q < size S m → q / inBlock m < room (S .nSatom) m (S .nPatom)
+  pub block-below : (q : ℕ) → q < size S m → q / inBlock m < timesPower (S .nSatom) m (S .nPatom)
   unfolding inBlock
-  block-below q h = rw (rest-div 3 (suc m) q) at (rest-below 3 (suc m) (room (S .nSatom) m (S .nPatom)) q (rw (size-rooms S m) at h))
+  block-below q h = rw (rest-div 3 (suc m) q) at (rest-below 3 (suc m) (timesPower (S .nSatom) m (S .nPatom)) q (rw (size-rooms S m) at h))
 
 -- the directions of stored and opened legs are those of the legs
 dirs-shift : (S : Shifts) (t : ℕ) (xs : List Leg) → map dir (shift S t xs) ≡ map dir xs
@@ -72,8 +72,8 @@ unfolding stored
 dirs-stored S [] = refl
 dirs-stored S (x ∷ xs) = ap (λ l. dir x ∷ l) (dirs-shift S (nsymAt S (atom x)) xs)
 
-pub dirs-opened : (S : Shifts) (ys : List Leg) → map dir (opened S ys) ≡ map dir ys
-unfolding opened
+pub dirs-opened : (S : Shifts) (ys : List Leg) → map dir (legsAt S ys) ≡ map dir ys
+unfolding legsAt
 dirs-opened S [] = refl
 dirs-opened S (y ∷ ys) = refl
 

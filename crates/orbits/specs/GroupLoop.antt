@@ -12,7 +12,7 @@ use lib.Dec.{eqb}
 use lib.Ieee.{Float, nan}
 use borrow.Author.Tests.{eqb-true, eqb-false, eq-eqb, ne-eqb}
 use Rattle.lists.specs.Tab.{times}
-use Rattle.lists.specs.Digits.{room}
+use Rattle.lists.specs.Digits.{timesPower}
 use Rattle.lists.specs.Elements.{All}
 use Rattle.lists.specs.Members.{In, all-in, least, least-le, least-in}
 use Rattle.tables.specs.Shifts.{Shifts, Laws}
@@ -20,7 +20,7 @@ use Rattle.places.specs.Places.{size}
 use Rattle.places.specs.Permutations.{Group}
 use Rattle.orbits.specs.Blockwise.{inBlock}
 use Rattle.orbits.specs.Symmetric.{firstBlock, symmetrized}
-use Rattle.orbits.specs.Symmetrizer.{imgs, groups, orbits, symmetrizes}
+use Rattle.orbits.specs.SymmetrizerLaws.{imgs, groups, orbits, symmetrizes}
 use Rattle.orbits.specs.Spread.{setAll, spread, fbOf, Written, Marked, written-start, written-skip, written-take, first-le, marked-start, marked-skip, marked-take, met, not-met}
 use Rattle.orbits.specs.Groups.{groupBlocks, meanBlock, spreadBlock, spread-is, marked-are}
 
@@ -64,7 +64,7 @@ module _ (mean : List Float → Float) (m : ℕ) (os : List (List ℕ)) where
       rw (ne-eqb (least bs) n (λ e. omega arith))
 
 module _ (mean : List Float → Float) (S : Shifts) (L : Laws S) (m : ℕ) (os : List (List ℕ)) (G : Group m os) (old : List Float) where
-  worked-is : (n : ℕ) (xs : List Float) → n < room (S .nSatom) m (S .nPatom) → spread nan mean (inBlock m) (imgs S L m os G) xs n (inBlock m) ≡ worked mean m os S n xs
+  worked-is : (n : ℕ) (xs : List Float) → n < timesPower (S .nSatom) m (S .nPatom) → spread nan mean (inBlock m) (imgs S L m os G) xs n (inBlock m) ≡ worked mean m os S n xs
   unfolding worked
   worked-is n xs h = spread-is S L m os G n h mean xs
 
@@ -74,7 +74,7 @@ module _ (mean : List Float → Float) (S : Shifts) (L : Laws S) (m : ℕ) (os :
     pub written : Written (groups S L m os G) nan mean old n (s .0)
     pub marked : Marked (groups S L m os G) n (s .1)
 
-  pub reached-next : (n : ℕ) (s : State) → n < room (S .nSatom) m (S .nPatom) → Reached n s → Reached (suc n) (markedVisit mean m os S n s)
+  pub reached-next : (n : ℕ) (s : State) → n < timesPower (S .nSatom) m (S .nPatom) → Reached n s → Reached (suc n) (markedVisit mean m os S n s)
   unfolding markedVisit
   reached-next n s h R = go (ℕ-discrete (getD (s .1) n 0) 0)
     where
@@ -92,8 +92,8 @@ module _ (mean : List Float → Float) (S : Shifts) (L : Laws S) (m : ℕ) (os :
             marked = marked-skip (groups S L m os G) (orbits S L m os G) n h (s .1) (R .marked) f;
           })
 
-  reached : (done : List ℕ) → length old ≡ size S m → length done ≡ room (S .nSatom) m (S .nPatom) → ((b : ℕ) → b < room (S .nSatom) m (S .nPatom) → getD done b 0 ≡ 0)
-      → (n : ℕ) → n ≤ room (S .nSatom) m (S .nPatom) → Reached n (times n (markedVisit mean m os S) (old, done))
+  reached : (done : List ℕ) → length old ≡ size S m → length done ≡ timesPower (S .nSatom) m (S .nPatom) → ((b : ℕ) → b < timesPower (S .nSatom) m (S .nPatom) → getD done b 0 ≡ 0)
+      → (n : ℕ) → n ≤ timesPower (S .nSatom) m (S .nPatom) → Reached n (times n (markedVisit mean m os S) (old, done))
   unfolding times
   reached done lo ld z zero h = record {
     written = written-start (groups S L m os G) (orbits S L m os G) nan mean old lo;
@@ -101,17 +101,17 @@ module _ (mean : List Float → Float) (S : Shifts) (L : Laws S) (m : ℕ) (os :
   }
   reached done lo ld z (suc n) h = reached-next n (times n (markedVisit mean m os S) (old, done)) h (reached done lo ld z n (omega arith))
 
-  pub marked-leaves : (done : List ℕ) → length old ≡ size S m → length done ≡ room (S .nSatom) m (S .nPatom) → ((b : ℕ) → b < room (S .nSatom) m (S .nPatom) → getD done b 0 ≡ 0)
-      → times (room (S .nSatom) m (S .nPatom)) (markedVisit mean m os S) (old, done) .0 ≡ symmetrized nan mean S m os old
+  pub marked-leaves : (done : List ℕ) → length old ≡ size S m → length done ≡ timesPower (S .nSatom) m (S .nPatom) → ((b : ℕ) → b < timesPower (S .nSatom) m (S .nPatom) → getD done b 0 ≡ 0)
+      → times (timesPower (S .nSatom) m (S .nPatom)) (markedVisit mean m os S) (old, done) .0 ≡ symmetrized nan mean S m os old
   marked-leaves done lo ld z =
-      symmetrizes S L m os G nan mean old _ (reached done lo ld z (room (S .nSatom) m (S .nPatom)) (omega arith) .written)
+      symmetrizes S L m os G nan mean old _ (reached done lo ld z (timesPower (S .nSatom) m (S .nPatom)) (omega arith) .written)
 
   -- ---- with a test
 
   module _ (first : ℕ → Bool)
-      (yes-first : (n : ℕ) → n < room (S .nSatom) m (S .nPatom) → first n ≡ true → fbOf (groups S L m os G) (n * inBlock m) ≡ n)
-      (not-first : (n : ℕ) → n < room (S .nSatom) m (S .nPatom) → first n ≡ false → fbOf (groups S L m os G) (n * inBlock m) < n) where
-    written-next : (n : ℕ) (xs : List Float) → n < room (S .nSatom) m (S .nPatom) → Written (groups S L m os G) nan mean old n xs
+      (yes-first : (n : ℕ) → n < timesPower (S .nSatom) m (S .nPatom) → first n ≡ true → fbOf (groups S L m os G) (n * inBlock m) ≡ n)
+      (not-first : (n : ℕ) → n < timesPower (S .nSatom) m (S .nPatom) → first n ≡ false → fbOf (groups S L m os G) (n * inBlock m) < n) where
+    written-next : (n : ℕ) (xs : List Float) → n < timesPower (S .nSatom) m (S .nPatom) → Written (groups S L m os G) nan mean old n xs
         → Written (groups S L m os G) nan mean old (suc n) (firstVisit mean m os first S n xs)
     unfolding firstVisit
     written-next n xs h W = go (first n) refl
@@ -120,20 +120,20 @@ module _ (mean : List Float → Float) (S : Shifts) (L : Laws S) (m : ℕ) (os :
         go true e = rw e (rw (worked-is n xs h) at (written-take (groups S L m os G) (orbits S L m os G) nan mean old n h xs W (yes-first n h e)))
         go false e = rw e (written-skip (groups S L m os G) (orbits S L m os G) nan mean old n h xs W (not-first n h e))
 
-    written-to : length old ≡ size S m → (n : ℕ) → n ≤ room (S .nSatom) m (S .nPatom) → Written (groups S L m os G) nan mean old n (times n (firstVisit mean m os first S) old)
+    written-to : length old ≡ size S m → (n : ℕ) → n ≤ timesPower (S .nSatom) m (S .nPatom) → Written (groups S L m os G) nan mean old n (times n (firstVisit mean m os first S) old)
     unfolding times
     written-to lo zero h = written-start (groups S L m os G) (orbits S L m os G) nan mean old lo
     written-to lo (suc n) h = written-next n (times n (firstVisit mean m os first S) old) h (written-to lo n (omega arith))
 
-    pub first-leaves : length old ≡ size S m → times (room (S .nSatom) m (S .nPatom)) (firstVisit mean m os first S) old ≡ symmetrized nan mean S m os old
-    first-leaves lo = symmetrizes S L m os G nan mean old _ (written-to lo (room (S .nSatom) m (S .nPatom)) (omega arith))
+    pub first-leaves : length old ≡ size S m → times (timesPower (S .nSatom) m (S .nPatom)) (firstVisit mean m os first S) old ≡ symmetrized nan mean S m os old
+    first-leaves lo = symmetrizes S L m os G nan mean old _ (written-to lo (timesPower (S .nSatom) m (S .nPatom)) (omega arith))
 
   -- the first block of the group of block n is the lowest of the group's blocks
-  lowest-is : (n : ℕ) → n < room (S .nSatom) m (S .nPatom) → fbOf (groups S L m os G) (n * inBlock m) ≡ least (groupBlocks S m os n)
+  lowest-is : (n : ℕ) → n < timesPower (S .nSatom) m (S .nPatom) → fbOf (groups S L m os G) (n * inBlock m) ≡ least (groupBlocks S m os n)
   unfolding firstBlock
   lowest-is n h = ap least (marked-are S L m os G n h)
 
-  pub lowest-leaves : length old ≡ size S m → times (room (S .nSatom) m (S .nPatom)) (firstVisit mean m os (isFirst m os S) S) old ≡ symmetrized nan mean S m os old
+  pub lowest-leaves : length old ≡ size S m → times (timesPower (S .nSatom) m (S .nPatom)) (firstVisit mean m os (isFirst m os S) S) old ≡ symmetrized nan mean S m os old
   unfolding isFirst
   lowest-leaves lo =
       first-leaves (λ n. eqb (least (groupBlocks S m os n)) n)

@@ -9,18 +9,18 @@ use lib.ListN.{getD}
 use lib.Ieee.{Float, nan}
 use Rattle.lists.specs.Tab.{tab, getD-tab, times}
 use Rattle.lists.specs.Elements.{All, map-same}
-use Rattle.lists.specs.Digits.{room, quotient, remainder, in-row}
+use Rattle.lists.specs.Digits.{timesPower, quotient, remainder, in-row}
 use Rattle.lists.specs.Members.{in-all}
 use Rattle.tables.specs.Shifts.{Shifts, Laws}
-use Rattle.places.specs.Places.{stored, opened, address, place, size}
-use Rattle.places.specs.Permutations.{taken, Permutation, Group}
+use Rattle.places.specs.Places.{stored, legsAt, address, place, size}
+use Rattle.places.specs.Permutations.{permuteLegs, Permutation, Group}
 use Rattle.places.specs.Moves.{source}
 use Rattle.orbits.specs.Blockwise.{inBlock}
 use Rattle.orbits.specs.Counterparts.{across}
 use Rattle.orbits.specs.Transposed.{counterpart, across-is, permuted-is-below, in-block-pos, size-blocks}
 use Rattle.blocks.specs.Permuted.{permuted}
 use Rattle.orbits.specs.Symmetric.{images}
-use Rattle.orbits.specs.Symmetrizer.{imgs, groups}
+use Rattle.orbits.specs.SymmetrizerLaws.{imgs, groups}
 use Rattle.orbits.specs.Spread.{setAll, meanOf, spread, blocksOf}
 
 -- the blocks of the group of block n, one for each permutation
@@ -58,7 +58,7 @@ module _ (S : Shifts) (L : Laws S) (m : ℕ) (os : List (List ℕ)) (G : Group m
   pub images-are : (q : ℕ) → q < size S m → imgs S L m os G q ≡ map (λ σ. counterpart S m σ (q / inBlock m) * inBlock m + permuted m σ (q % inBlock m)) os
   unfolding images across source
   images-are q h =
-      map-same (Permutation m) (λ σ. address S (stored S (taken σ (opened S (place S m q))))) (λ σ. counterpart S m σ (q / inBlock m) * inBlock m + permuted m σ (q % inBlock m)) os
+      map-same (Permutation m) (λ σ. address S (stored S (permuteLegs σ (legsAt S (place S m q))))) (λ σ. counterpart S m σ (q / inBlock m) * inBlock m + permuted m σ (q % inBlock m)) os
       (λ σ o. sym (across-is S L m σ o (λ b. false) q h)) (in-all (Permutation m) os (G .each))
 
   spots-are : (n k : ℕ) (rs : List (List ℕ)) → spots m rs (groupBlocks S m rs n) k ≡ map (λ σ. counterpart S m σ n * inBlock m + permuted m σ k) rs
@@ -66,9 +66,9 @@ module _ (S : Shifts) (L : Laws S) (m : ℕ) (os : List (List ℕ)) (G : Group m
   spots-are n k [] = refl
   spots-are n k (σ ∷ rs) = ap (λ l. (counterpart S m σ n * inBlock m + permuted m σ k) ∷ l) (spots-are n k rs)
 
-  module _ (n : ℕ) (hn : n < room (S .nSatom) m (S .nPatom)) where
+  module _ (n : ℕ) (hn : n < timesPower (S .nSatom) m (S .nPatom)) where
     place-below : (k : ℕ) → k < inBlock m → n * inBlock m + k < size S m
-    place-below k h = rw (size-blocks S m) (in-row (room (S .nSatom) m (S .nPatom)) (inBlock m) n k hn h)
+    place-below k h = rw (size-blocks S m) (in-row (timesPower (S .nSatom) m (S .nPatom)) (inBlock m) n k hn h)
 
     pub images-spots : (k : ℕ) → k < inBlock m → imgs S L m os G (n * inBlock m + k) ≡ spots m os (groupBlocks S m os n) k
     images-spots k h =

@@ -6,7 +6,12 @@ pub mod Trading
 pub mod Symmetric
 pub mod Mean
 pub mod Spread
-pub mod Symmetrizer
+pub mod SymmetrizerLaws
 pub mod Groups
 pub mod GroupLoop
-pub mod AtBlocks
+pub mod AtBlockLaws
+pub mod Exchanging
+pub mod TrueTransposes
+pub mod HalfShift
+pub mod Moved
+pub mod InnerLaws

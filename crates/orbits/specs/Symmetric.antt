@@ -11,7 +11,7 @@ use Rattle.tables.specs.Shifts.{Shifts, Laws}
 use Rattle.lists.specs.Floats.{sumFrom}
 use Rattle.lists.specs.Elements.{pick, pick-pick, map-same}
 use Rattle.lists.specs.Members.{In, Sub, in-all, keep, in-keep, keep-in, in-map, map-in, map-sub, least, greatest, least-le, least-in, greatest-le, greatest-in, least-same, greatest-same}
-use Rattle.places.specs.Places.{Leg, Legs, stored, opened, address, place, readOut, fill, inBlock, taken, readOut-fill}
+use Rattle.places.specs.Places.{Leg, Legs, stored, legsAt, address, place, readOut, fill, inBlock, permuteLegs, readOut-fill}
 use Rattle.places.specs.Permutations.{Permutation, taken-legs, Group}
 use Rattle.places.specs.Moves.{source, source-stored}
 
@@ -19,7 +19,7 @@ use Rattle.places.specs.Moves.{source, source-stored}
 
 -- the addresses of the legs in each of the permutations
 unfoldable pub images : Shifts → List (List ℕ) → List Leg → List ℕ
-images S os xs = map (λ σ. address S (stored S (taken σ xs))) os
+images S os xs = map (λ σ. address S (stored S (permuteLegs σ xs))) os
 
 -- the first block, in loop order, in which one of the addresses lies
 unfoldable pub firstBlock : ℕ → List ℕ → ℕ
@@ -55,11 +55,11 @@ module _ (c : ℕ) (qs : List ℕ) (a : ℕ) (h : In a qs) where
 module _ {A : Type 0} (z : A) (mean : List A → A) where
   -- the mean worked out from the legs at an address
   unfoldable pub meanAt : Shifts → ℕ → List (List ℕ) → List A → ℕ → A
-  meanAt S m os set q = mean (map (λ r. getD set r z) (images S os (opened S (place S m q))))
+  meanAt S m os set q = mean (map (λ r. getD set r z) (images S os (legsAt S (place S m q))))
 
   -- the set symmetrized
   unfoldable pub symmetrized : Shifts → ℕ → List (List ℕ) → List A → List A
-  symmetrized S m os set = fill S m (λ ys. meanAt S m os set (leader (inBlock m) (images S os (opened S ys))))
+  symmetrized S m os set = fill S m (λ ys. meanAt S m os set (leader (inBlock m) (images S os (legsAt S ys))))
 
 -- The mean of third order. The sum begins with the first number, so that six times -0.0 gives -0.0; divided by 6.0.
 abbrev pub mean6 : List Float → Float
@@ -83,38 +83,38 @@ leader-same c l k s t =
 
 module _ (S : Shifts) (L : Laws S) (m : ℕ) (os : List (List ℕ)) (G : Group m os) where
   -- the addresses of permuted legs are the same addresses
-  pub images-sub : (τ : List ℕ) (xs : List Leg) → In τ os → Legs S m xs → Sub (images S os (taken τ xs)) (images S os xs)
+  pub images-sub : (τ : List ℕ) (xs : List Leg) → In τ os → Legs S m xs → Sub (images S os (permuteLegs τ xs)) (images S os xs)
   unfolding images
   images-sub τ xs t p q i =
-      let (σ, h, e) = map-in (λ σ. address S (stored S (taken σ (taken τ xs)))) os q i in
+      let (σ, h, e) = map-in (λ σ. address S (stored S (permuteLegs σ (permuteLegs τ xs)))) os q i in
       rw (e, pick-pick (0, 0) σ τ xs (rw (G .each τ t .0) (G .each σ h .1)))
-      (in-map (λ σ. address S (stored S (taken σ xs))) os (pick 0 σ τ) (G .closed σ τ h t))
+      (in-map (λ σ. address S (stored S (permuteLegs σ xs))) os (pick 0 σ τ) (G .closed σ τ h t))
 
-  pub images-sup : (τ : List ℕ) (xs : List Leg) → In τ os → Legs S m xs → Sub (images S os xs) (images S os (taken τ xs))
+  pub images-sup : (τ : List ℕ) (xs : List Leg) → In τ os → Legs S m xs → Sub (images S os xs) (images S os (permuteLegs τ xs))
   unfolding images
   images-sup τ xs t p q i =
-      let (ρ, h, e) = map-in (λ σ. address S (stored S (taken σ xs))) os q i in
+      let (ρ, h, e) = map-in (λ σ. address S (stored S (permuteLegs σ xs))) os q i in
       let (σ, k, f) = G .solved ρ τ h t in
       rw (e, ← f, ← pick-pick (0, 0) σ τ xs (rw (G .each τ t .0) (G .each σ k .1)))
-      (in-map (λ σ. address S (stored S (taken σ (taken τ xs)))) os σ k)
+      (in-map (λ σ. address S (stored S (permuteLegs σ (permuteLegs τ xs)))) os σ k)
 
   -- nor do they depend on a shift
-  pub images-stored : (xs : List Leg) → Legs S m xs → images S os (opened S (stored S xs)) ≡ images S os xs
+  pub images-stored : (xs : List Leg) → Legs S m xs → images S os (legsAt S (stored S xs)) ≡ images S os xs
   unfolding images source
   images-stored xs p =
-      map-same (Permutation m) (λ σ. address S (stored S (taken σ (opened S (stored S xs))))) (λ σ. address S (stored S (taken σ xs))) os
+      map-same (Permutation m) (λ σ. address S (stored S (permuteLegs σ (legsAt S (stored S xs))))) (λ σ. address S (stored S (permuteLegs σ xs))) os
       (λ σ o. ap (address S) (source-stored S L m σ xs o p)) (in-all (Permutation m) os (G .each))
 
   module _ {A : Type 0} (z : A) (mean : List A → A) where
     pub symmetric : (set : List A) (τ : List ℕ) (xs : List Leg) → In τ os → Legs S m xs
-        → readOut z S (symmetrized z mean S m os set) (taken τ xs) ≡ readOut z S (symmetrized z mean S m os set) xs
+        → readOut z S (symmetrized z mean S m os set) (permuteLegs τ xs) ≡ readOut z S (symmetrized z mean S m os set) xs
     unfolding symmetrized
     symmetric set τ xs t p =
         let q = taken-legs S m τ xs (G .each τ t) p in
-        let f : List Leg → A = λ ys. meanAt z mean S m os set (leader (inBlock m) (images S os (opened S ys))) in
-        readOut-fill S L z m f (taken τ xs) q
+        let f : List Leg → A = λ ys. meanAt z mean S m os set (leader (inBlock m) (images S os (legsAt S ys))) in
+        readOut-fill S L z m f (permuteLegs τ xs) q
         ∙ ap (meanAt z mean S m os set)
-        (ap (leader (inBlock m)) (images-stored (taken τ xs) q)
-        ∙ leader-same (inBlock m) (images S os (taken τ xs)) (images S os xs) (images-sub τ xs t p) (images-sup τ xs t p)
+        (ap (leader (inBlock m)) (images-stored (permuteLegs τ xs) q)
+        ∙ leader-same (inBlock m) (images S os (permuteLegs τ xs)) (images S os xs) (images-sub τ xs t p) (images-sup τ xs t p)
         ∙ ap (leader (inBlock m)) (sym (images-stored xs p)))
         ∙ sym (readOut-fill S L z m f xs p)

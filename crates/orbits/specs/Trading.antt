@@ -12,10 +12,10 @@ use borrow.Author.Tests.{eqb-true, eq-eqb, not-true}
 use Rattle.lists.specs.Tests.{same-test, refuted, both, not-both, every, every-at, says}
 use Rattle.lists.specs.Tab.{tab-ext, times}
 use Rattle.lists.specs.Elements.{all-at, all-map, Below, pick, getD-map, length-pick, all-pick}
-use Rattle.lists.specs.Digits.{horner, room, rest, digits, rest-horner, digits-horner, rest-below, digits-below, length-digits}
+use Rattle.lists.specs.Digits.{horner, timesPower, rest, digits, rest-horner, digits-horner, rest-below, digits-below, length-digits}
 use Rattle.tables.specs.Shifts.{Shifts, Laws, row, p2sAt, s2ppAt, nsymAt, isNull, nsym-p2s}
 use Rattle.places.specs.Places.{Leg, atom, Place, at, fill, size, place, place-place, atoms-below}
-use Rattle.places.specs.Permutations.{taken, Permutation}
+use Rattle.places.specs.Permutations.{permuteLegs, Permutation}
 use Rattle.places.specs.Moves.{source, moved, stays, traded}
 use Rattle.orbits.specs.Blockwise.{blockAtoms, storedAtoms, openedAtoms, atomsAt}
 use Rattle.orbits.specs.Counterparts.{visit, loop-leaves}
@@ -38,13 +38,13 @@ pub record Trades (m i : ℕ) (σ : List ℕ) : Type 0 where
   pub leg : i < m
   pub first : getD σ 0 0 ≡ suc i
   pub second : getD σ (suc i) 0 ≡ 0
-  pub twice : (xs : List Leg) → length xs ≡ suc m → taken σ (taken σ xs) ≡ xs
+  pub twice : (xs : List Leg) → length xs ≡ suc m → permuteLegs σ (permuteLegs σ xs) ≡ xs
 
 module _ (S : Shifts) (L : Laws S) where
   -- ---- every block
 
-  module _ (m : ℕ) (σ : List ℕ) (o : Permutation m σ) (twice : (xs : List Leg) → length xs ≡ suc m → taken σ (taken σ xs) ≡ xs) {A : Type 0} (z : A) where
-    pub moves : (old : List A) → length old ≡ size S m → times (room (S .nSatom) m (S .nPatom)) (visit z theOther (blocksBy S m σ never)) old ≡ moved z S m σ old
+  module _ (m : ℕ) (σ : List ℕ) (o : Permutation m σ) (twice : (xs : List Leg) → length xs ≡ suc m → permuteLegs σ (permuteLegs σ xs) ≡ xs) {A : Type 0} (z : A) where
+    pub moves : (old : List A) → length old ≡ size S m → times (timesPower (S .nSatom) m (S .nPatom)) (visit z theOther (blocksBy S m σ never)) old ≡ moved z S m σ old
     unfolding moved
     moves old e =
         loop-leaves z theOther (blocksBy S m σ never) (paired S L m σ o twice z theOther never (λ b h. refl)) old (e ∙ size-blocks S m)
@@ -95,7 +95,7 @@ module _ (S : Shifts) (L : Laws S) where
     abbrev partner : ℕ → ℕ
     partner b = getD (digits (S .nSatom) m b) i 0
 
-    module _ (b : ℕ) (h : b < room (S .nSatom) m (S .nPatom)) where
+    module _ (b : ℕ) (h : b < timesPower (S .nSatom) m (S .nPatom)) where
       hp : first b < S .nPatom
       hp = rest-below (S .nSatom) m (S .nPatom) b h
 
@@ -153,7 +153,7 @@ module _ (S : Shifts) (L : Laws S) where
           go (x ∷ xs) l f u v = spelled x xs (omega arith) f u v
 
     -- a block stays where its counterpart does
-    pub stays-both : (b : ℕ) → b < room (S .nSatom) m (S .nPatom) → staysAt S m i (counterpart S m σ b) ≡ staysAt S m i b
+    pub stays-both : (b : ℕ) → b < timesPower (S .nSatom) m (S .nPatom) → staysAt S m i (counterpart S m σ b) ≡ staysAt S m i b
     unfolding staysAt
     stays-both b h =
         let c = counterpart S m σ b in
@@ -185,7 +185,7 @@ module _ (S : Shifts) (L : Laws S) where
 
     module _ {A : Type 0} (z : A) where
       pub trades : (old : List A) → length old ≡ size S m
-          → times (room (S .nSatom) m (S .nPatom)) (visit z theOther (blocksBy S m σ (staysAt S m i))) old ≡ traded z S m (suc i) σ old
+          → times (timesPower (S .nSatom) m (S .nPatom)) (visit z theOther (blocksBy S m σ (staysAt S m i))) old ≡ traded z S m (suc i) σ old
       unfolding traded fill
       trades old e =
           loop-leaves z theOther (blocksBy S m σ (staysAt S m i)) (paired S L m σ (T .isOrder) (T .twice) z theOther (staysAt S m i) stays-both) old (e ∙ size-blocks S m)

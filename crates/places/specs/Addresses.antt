@@ -1,17 +1,17 @@
 -- The address rule and the read-out spelled out at second, third and fourth order, and the numbers of blocks. Assumes nothing.
 use mathlib.Core.Path.{_≡_, refl, sym, ap, _∙_}
-use Prim.Native.Nat.{ℕ, suc, _+_, _*_, _≤_, _<_}
+use Prim.Native.Nat.{ℕ, _+_, _*_, _≤_, _<_}
 use native.Mathlib.Nat.{mul-le-mul-left, mul-le-mul-right}
 use native.Mathlib.Omega.{arith}
 use mathlib.Core.List.{List, [], _∷_, map}
 use lib.ListN.{length, getD}
 use lib.Ieee.{Float, nan}
 use Rattle.lists.specs.Elements.{Below}
-use Rattle.lists.specs.Digits.{horner, room, horner-below, room-mul}
-use Rattle.blocks.specs.Block.{block, getD-block, fits}
+use Rattle.lists.specs.Digits.{horner, timesPower, horner-below}
+use Rattle.blocks.specs.Block.{block, getD-block}
 use Rattle.tables.specs.Lengths.{set-length2, set-length3, set-length4}
 use Rattle.tables.specs.Shifts.{Shifts, row, s2ppAt, nsymAt}
-use Rattle.places.specs.Places.{shift, stored, address, size, size-rooms, at, readOut}
+use Rattle.places.specs.Places.{shift, stored, address, size, at, readOut}
 
 -- ---- how many numbers a set has: n_patom × n_satom^m blocks of 9, 27 or 81
 
@@ -89,28 +89,8 @@ module _ (S : Shifts) (set : List Float) (i j k l a b c d : ℕ) (ha : a < 3) (h
 -- ---- block numbers are in bounds
 
 -- the block of a first atom below m and of other atoms below n is one of m × n × … × n
-pub block-below : (n m p : ℕ) (js : List ℕ) → p < m → Below n js → horner n p js < room n (length js) m
+pub block-below : (n m p : ℕ) (js : List ℕ) → p < m → Below n js → horner n p js < timesPower n (length js) m
 block-below n m p js h b = horner-below n m p js h b
-
--- and it lies inside the set
-pub block-fits : (S : Shifts) (p : ℕ) (js : List ℕ) → p < S .nPatom → Below (S .nSatom) js
-    → horner (S .nSatom) p js * room 3 (suc (length js)) 1 + room 3 (suc (length js)) 1 ≤ size S (length js)
-block-fits S p js h b =
-    let r = room (S .nSatom) (length js) (S .nPatom) in
-    rw (size-rooms S (length js) ∙ room-mul 3 (suc (length js)) r) (fits (room 3 (suc (length js)) 1) (horner (S .nSatom) p js) r (block-below (S .nSatom) (S .nPatom) p js h b))
-
-module _ (S : Shifts) (p j k l : ℕ) (hp : p < S .nPatom) (hj : j < S .nSatom) where
-  pub fits2 : horner (S .nSatom) p (j ∷ []) * 9 + 9 ≤ size S 1
-  unfolding room
-  fits2 = block-fits S p (j ∷ []) hp (hj, tt)
-
-  pub fits3 : k < S .nSatom → horner (S .nSatom) p (j ∷ k ∷ []) * 27 + 27 ≤ size S 2
-  unfolding room
-  fits3 hk = block-fits S p (j ∷ k ∷ []) hp (hj, (hk, tt))
-
-  pub fits4 : k < S .nSatom → l < S .nSatom → horner (S .nSatom) p (j ∷ k ∷ l ∷ []) * 81 + 81 ≤ size S 3
-  unfolding room
-  fits4 hk hl = block-fits S p (j ∷ k ∷ l ∷ []) hp (hj, (hk, (hl, tt)))
 
 -- with each atom at most 1,024 times as many
 pub grown : (m b n a : ℕ) → b < m → a < n → n ≤ 1024 → b * n + a < m * 1024

@@ -3,5 +3,5 @@ pub mod Addresses
 pub mod ReadOuts
 pub mod Permutations
 pub mod Moves
-pub mod Whole
+pub mod WholeLaws
 pub mod Values

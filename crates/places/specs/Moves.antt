@@ -11,15 +11,15 @@ use borrow.Author.Tests.{not-true}
 use Rattle.lists.specs.Tests.{not-both, refuted, says}
 use Rattle.lists.specs.Elements.{all-at, pick-map, straight, pick-straight}
 use Rattle.tables.specs.Shifts.{Shifts, Laws, NoHalfShift, row, p2sAt, nsymAt, isNull, swaps-null}
-use Rattle.places.specs.Places.{Leg, atom, dir, Fit, Legs, Place, shift, stored, opened, at, readOut, fill, size, length-fill, stored-shift, opened-stored, stored-place, readOut-fill}
+use Rattle.places.specs.Places.{Leg, atom, dir, Fit, Legs, Place, shift, stored, legsAt, at, readOut, fill, size, length-fill, stored-shift, opened-stored, stored-place, readOut-fill}
 use Rattle.places.specs.Permutations.{taken-legs}
-pub use Rattle.places.specs.Permutations.{taken, Permutation}
+pub use Rattle.places.specs.Permutations.{permuteLegs, Permutation}
 
 -- ---- the set moved by a permutation of the legs: the true transpose
 
 -- the place whose number comes to stand at ys
 unfoldable pub source : Shifts → List ℕ → List Leg → List Leg
-source S σ ys = stored S (taken σ (opened S ys))
+source S σ ys = stored S (permuteLegs σ (legsAt S ys))
 
 module _ {A : Type 0} (z : A) where
   unfoldable pub moved : Shifts → ℕ → List ℕ → List A → List A
@@ -77,27 +77,23 @@ module _ {A : Type 0} (z : A) (S : Shifts) where
   unfolding moved
   length-moved m σ set = length-fill S m _
 
-  pub length-traded : (m k : ℕ) (σ : List ℕ) (set : List A) → length (traded z S m k σ set) ≡ size S m
-  unfolding traded
-  length-traded m k σ set = length-fill S m _
-
 module _ (S : Shifts) (L : Laws S) where
   -- to permute the place is to permute the legs
-  pub source-stored : (m : ℕ) (σ : List ℕ) (xs : List Leg) → Permutation m σ → Legs S m xs → source S σ (stored S xs) ≡ stored S (taken σ xs)
+  pub source-stored : (m : ℕ) (σ : List ℕ) (xs : List Leg) → Permutation m σ → Legs S m xs → source S σ (stored S xs) ≡ stored S (permuteLegs σ xs)
   unfolding source
   source-stored m σ [] o p = absurd (suc-ne-zero _ (sym (p .0)))
   source-stored m σ (x ∷ xs) o p =
       let t = nsymAt S (atom x) in
       let hx = p .1 .0 .0 in
-      let e : taken σ (shift S t (x ∷ xs)) ≡ shift S t (taken σ (x ∷ xs)) =
+      let e : permuteLegs σ (shift S t (x ∷ xs)) ≡ shift S t (permuteLegs σ (x ∷ xs)) =
       unfold shift in pick-map (0, 0) (0, 0) (λ x. (row S t (atom x), dir x)) σ (x ∷ xs) (rw (p .0) (o .1)) in
-      ap (λ l. stored S (taken σ l)) (opened-stored S L x xs hx)
-      ∙ ap (stored S) e ∙ stored-shift S L t (taken σ (x ∷ xs)) (L .nsym-below (atom x) hx) (taken-legs S m σ (x ∷ xs) o p .1)
+      ap (λ l. stored S (permuteLegs σ l)) (opened-stored S L x xs hx)
+      ∙ ap (stored S) e ∙ stored-shift S L t (permuteLegs σ (x ∷ xs)) (L .nsym-below (atom x) hx) (taken-legs S m σ (x ∷ xs) o p .1)
 
   module _ {A : Type 0} (z : A) where
     -- a set moved by σ reads out what stood at the legs permuted by σ
     pub readOut-moved : (m : ℕ) (σ : List ℕ) (set : List A) (xs : List Leg) → Permutation m σ → Legs S m xs
-        → readOut z S (moved z S m σ set) xs ≡ readOut z S set (taken σ xs)
+        → readOut z S (moved z S m σ set) xs ≡ readOut z S set (permuteLegs σ xs)
     unfolding moved readOut
     readOut-moved m σ set xs o p =
         readOut-fill S L z m (λ ys. at z S set (source S σ ys)) xs p ∙ ap (at z S set) (source-stored m σ xs o p)
@@ -123,7 +119,7 @@ module _ (S : Shifts) (L : Laws S) where
 
   module _ {A : Type 0} (z : A) (nh : NoHalfShift S) where
     pub readOut-traded : (m k : ℕ) (σ : List ℕ) (set : List A) (xs : List Leg) → k < m → Permutation m σ → Legs S m xs
-        → readOut z S (traded z S m (suc k) σ set) xs ≡ readOut z S set (taken σ xs)
+        → readOut z S (traded z S m (suc k) σ set) xs ≡ readOut z S set (permuteLegs σ xs)
     unfolding traded readOut
     readOut-traded m k σ set xs h o p =
         let ys = stored S xs in
@@ -134,20 +130,9 @@ module _ (S : Shifts) (L : Laws S) where
         ∙ ap (λ b. cond b (at z S set ys) (at z S set (source S σ ys))) e ∙ ap (at z S set) (source-stored m σ xs o p)
 
     pub readOut-transposed : (t : ℕ) (set : List A) (xs : List Leg) → Legs S 2 xs
-        → readOut z S (transposed z S t set) xs ≡ readOut z S set (taken (order t) xs)
+        → readOut z S (transposed z S t set) xs ≡ readOut z S set (permuteLegs (order t) xs)
     unfolding transposed order
     readOut-transposed zero set xs p = readOut-traded 2 0 (order 0) set xs (omega arith) (refl, omega arith) p
     readOut-transposed (suc zero) set xs p = readOut-traded 2 1 (order 1) set xs (omega arith) (refl, omega arith) p
     readOut-transposed (suc (suc zero)) set xs p = readOut-moved z 2 (order 2) set xs (refl, omega arith) p
     readOut-transposed (suc (suc (suc t))) set xs p = ap (readOut z S set) (sym (pick-straight (0, 0) 3 xs (p .0)))
-
-    pub readOut-transposed4 : (t : ℕ) (set : List A) (xs : List Leg) → Legs S 3 xs
-        → readOut z S (transposed4 z S t set) xs ≡ readOut z S set (taken (order4 t) xs)
-    unfolding transposed4 order4
-    readOut-transposed4 zero set xs p = readOut-traded 3 0 (order4 0) set xs (omega arith) (refl, omega arith) p
-    readOut-transposed4 (suc t) set xs p = ap (readOut z S set) (sym (pick-straight (0, 0) 4 xs (p .0)))
-
-    pub readOut-transposed2 : (set : List A) (xs : List Leg) → Legs S 1 xs
-        → readOut z S (transposed2 z S set) xs ≡ readOut z S set (taken order2 xs)
-    unfolding transposed2
-    readOut-transposed2 set xs p = readOut-traded 1 0 order2 set xs (omega arith) (refl, omega arith) p

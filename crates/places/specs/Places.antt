@@ -12,7 +12,7 @@ use Rattle.tables.specs.Lengths.{setLength, set-rooms}
 use Rattle.tables.specs.Shifts.{Shifts, Laws, row, p2sAt, s2ppAt, nsymAt, nsym-shift, nsym-p2s}
 use Rattle.lists.specs.Tab.{tab, length-tab, getD-tab}
 use Rattle.lists.specs.Elements.{All, all-map, map-id, Below, pick, straight}
-use Rattle.lists.specs.Digits.{horner, room, rest, digits, length-digits, digits-below, horner-digits, rest-below, horner-below, rest-horner, digits-horner}
+use Rattle.lists.specs.Digits.{horner, timesPower, rest, digits, length-digits, digits-below, horner-digits, rest-below, horner-below, rest-horner, digits-horner}
 
 abbrev pub Leg : Type 0
 Leg = ℕ × ℕ
@@ -35,9 +35,9 @@ stored S [] = []
 stored S (x ∷ xs) = (s2ppAt S (atom x), dir x) ∷ shift S (nsymAt S (atom x)) xs
 
 -- legs whose number stands at a place: the first atom is the primitive atom's representative, p2s[p]
-unfoldable pub opened : Shifts → List Leg → List Leg
-opened S [] = []
-opened S (y ∷ ys) = (p2sAt S (atom y), dir y) ∷ ys
+unfoldable pub legsAt : Shifts → List Leg → List Leg
+legsAt S [] = []
+legsAt S (y ∷ ys) = (p2sAt S (atom y), dir y) ∷ ys
 
 -- ---- the address rule: the atoms and then the directions, the first the slowest
 
@@ -78,31 +78,31 @@ fill S m f = tab (size S m) (λ q. f (place S m q))
 
 -- how many numbers a block of rank m + 1 has
 unfoldable pub inBlock : ℕ → ℕ
-inBlock m = room 3 (suc m) 1
+inBlock m = timesPower 3 (suc m) 1
 
 -- A full set is a compact set over tables with one shift, the null shift: every atom is its own representative.
-unfoldable pub whole : ℕ → Shifts
-whole n = record { nSatom = n; nPatom = n; numTrans = 1; perms = straight n; p2s = straight n; s2pp = straight n; nsymList = replicate n 0 }
+unfoldable pub fullShifts : ℕ → Shifts
+fullShifts n = record { nSatom = n; nPatom = n; numTrans = 1; perms = straight n; p2s = straight n; s2pp = straight n; nsymList = replicate n 0 }
 
 -- ---- permutations of legs, as lists of positions
 
 -- the legs permuted by σ
-abbrev pub taken : List ℕ → List Leg → List Leg
-taken σ xs = pick (0, 0) σ xs
+abbrev pub permuteLegs : List ℕ → List Leg → List Leg
+permuteLegs σ xs = pick (0, 0) σ xs
 
 -- the permutations of two, three and four legs, as the Rust lists them
 
 -- (i, j), (j, i)
-unfoldable pub two : List (List ℕ)
-two = (0 ∷ 1 ∷ []) ∷ (1 ∷ 0 ∷ []) ∷ []
+unfoldable pub perms2 : List (List ℕ)
+perms2 = (0 ∷ 1 ∷ []) ∷ (1 ∷ 0 ∷ []) ∷ []
 
 -- ijk, ikj, jik, jki, kij, kji: the terms of the six-term sum, first to last (fc3.rs)
-unfoldable pub six : List (List ℕ)
-six = (0 ∷ 1 ∷ 2 ∷ []) ∷ (0 ∷ 2 ∷ 1 ∷ []) ∷ (1 ∷ 0 ∷ 2 ∷ []) ∷ (1 ∷ 2 ∷ 0 ∷ []) ∷ (2 ∷ 0 ∷ 1 ∷ []) ∷ (2 ∷ 1 ∷ 0 ∷ []) ∷ []
+unfoldable pub perms3 : List (List ℕ)
+perms3 = (0 ∷ 1 ∷ 2 ∷ []) ∷ (0 ∷ 2 ∷ 1 ∷ []) ∷ (1 ∷ 0 ∷ 2 ∷ []) ∷ (1 ∷ 2 ∷ 0 ∷ []) ∷ (2 ∷ 0 ∷ 1 ∷ []) ∷ (2 ∷ 1 ∷ 0 ∷ []) ∷ []
 
 -- PERMS24 (fc4.rs)
-unfoldable pub twentyFour : List (List ℕ)
-twentyFour =
+unfoldable pub perms4 : List (List ℕ)
+perms4 =
     (0 ∷ 1 ∷ 2 ∷ 3 ∷ []) ∷ (0 ∷ 1 ∷ 3 ∷ 2 ∷ []) ∷ (0 ∷ 2 ∷ 1 ∷ 3 ∷ []) ∷ (0 ∷ 2 ∷ 3 ∷ 1 ∷ []) ∷ (0 ∷ 3 ∷ 1 ∷ 2 ∷ []) ∷ (0 ∷ 3 ∷ 2 ∷ 1 ∷ [])
     ∷ (1 ∷ 0 ∷ 2 ∷ 3 ∷ []) ∷ (1 ∷ 0 ∷ 3 ∷ 2 ∷ []) ∷ (1 ∷ 2 ∷ 0 ∷ 3 ∷ []) ∷ (1 ∷ 2 ∷ 3 ∷ 0 ∷ []) ∷ (1 ∷ 3 ∷ 0 ∷ 2 ∷ []) ∷ (1 ∷ 3 ∷ 2 ∷ 0 ∷ [])
     ∷ (2 ∷ 0 ∷ 1 ∷ 3 ∷ []) ∷ (2 ∷ 0 ∷ 3 ∷ 1 ∷ []) ∷ (2 ∷ 1 ∷ 0 ∷ 3 ∷ []) ∷ (2 ∷ 1 ∷ 3 ∷ 0 ∷ []) ∷ (2 ∷ 3 ∷ 0 ∷ 1 ∷ []) ∷ (2 ∷ 3 ∷ 1 ∷ 0 ∷ [])
@@ -167,7 +167,7 @@ module _ (S : Shifts) (m : ℕ) where
   dirs-below ys p = all-map (Fit S) (λ k. k < 3) dir ys (λ x h. h .1) p
 
   -- the number of places, factor by factor
-  pub size-rooms : size S m ≡ room 3 (suc m) (room (S .nSatom) m (S .nPatom))
+  pub size-rooms : size S m ≡ timesPower 3 (suc m) (timesPower (S .nSatom) m (S .nPatom))
   unfolding size
   size-rooms = set-rooms (S .nPatom) (S .nSatom) m
 
@@ -175,11 +175,11 @@ module _ (S : Shifts) (m : ℕ) where
   unfolding address
   address-below [] p = absurd p
   address-below (y ∷ ys) p =
-      let h : horner (S .nSatom) (atom y) (map atom ys) < room (S .nSatom) m (S .nPatom) =
-      subst (λ k. horner (S .nSatom) (atom y) (map atom ys) < room (S .nSatom) k (S .nPatom)) (length-map ys atom ∙ p .0)
+      let h : horner (S .nSatom) (atom y) (map atom ys) < timesPower (S .nSatom) m (S .nPatom) =
+      subst (λ k. horner (S .nSatom) (atom y) (map atom ys) < timesPower (S .nSatom) k (S .nPatom)) (length-map ys atom ∙ p .0)
       (horner-below (S .nSatom) (S .nPatom) (atom y) (map atom ys) (p .1) (atoms-below ys (p .3))) in
       let l : length (dir y ∷ map dir ys) ≡ suc m = ap suc (length-map ys dir ∙ p .0) in
-      rw size-rooms (rw l at (horner-below 3 (room (S .nSatom) m (S .nPatom)) (horner (S .nSatom) (atom y) (map atom ys)) (dir y ∷ map dir ys) h (p .2, dirs-below ys (p .3))))
+      rw size-rooms (rw l at (horner-below 3 (timesPower (S .nSatom) m (S .nPatom)) (horner (S .nSatom) (atom y) (map atom ys)) (dir y ∷ map dir ys) h (p .2, dirs-below ys (p .3))))
 
   pub place-address : (ys : List Leg) → Place S m ys → place S m (address S ys) ≡ ys
   unfolding address place
@@ -202,9 +202,9 @@ module _ (S : Shifts) (m : ℕ) where
   unfolding place legsOf digits
   place-place q l =
       let b = rest 3 (suc m) q in
-      let h : q < room 3 (suc m) (room (S .nSatom) m (S .nPatom)) = rw size-rooms at l in
-      let hb : b < room (S .nSatom) m (S .nPatom) = rest-below 3 (suc m) (room (S .nSatom) m (S .nPatom)) q h in
-      let hd : Below 3 (digits 3 (suc m) q) = digits-below 3 (suc m) (room (S .nSatom) m (S .nPatom)) q h in (
+      let h : q < timesPower 3 (suc m) (timesPower (S .nSatom) m (S .nPatom)) = rw size-rooms at l in
+      let hb : b < timesPower (S .nSatom) m (S .nPatom) = rest-below 3 (suc m) (timesPower (S .nSatom) m (S .nPatom)) q h in
+      let hd : Below 3 (digits 3 (suc m) q) = digits-below 3 (suc m) (timesPower (S .nSatom) m (S .nPatom)) q h in (
         length-legsOf (digits (S .nSatom) m b) (digits 3 m q) (length-digits (S .nSatom) m b ∙ sym (length-digits 3 m q)) ∙ length-digits (S .nSatom) m b,
         rest-below (S .nSatom) m (S .nPatom) b hb,
         hd .0,
@@ -253,12 +253,12 @@ module _ (S : Shifts) (L : Laws S) where
   stored-shift t (x ∷ xs) ht p = ap₂ _∷_ (ap (λ a. (a, dir x)) (L .s2pp-row t (atom x) ht (p .0 .0))) (shift-shift t (atom x) xs ht (p .0 .0) (p .1))
 
   -- to open the stored legs is to shift them
-  pub opened-stored : (x : Leg) (xs : List Leg) → atom x < S .nSatom → opened S (stored S (x ∷ xs)) ≡ shift S (nsymAt S (atom x)) (x ∷ xs)
-  unfolding opened stored shift
+  pub opened-stored : (x : Leg) (xs : List Leg) → atom x < S .nSatom → legsAt S (stored S (x ∷ xs)) ≡ shift S (nsymAt S (atom x)) (x ∷ xs)
+  unfolding legsAt stored shift
   opened-stored x xs h = rw (L .nsym-lands (atom x) h)
 
-  pub stored-opened : (m : ℕ) (ys : List Leg) → Place S m ys → stored S (opened S ys) ≡ ys
-  unfolding opened stored shift
+  pub stored-opened : (m : ℕ) (ys : List Leg) → Place S m ys → stored S (legsAt S ys) ≡ ys
+  unfolding legsAt stored shift
   stored-opened m [] p = absurd p
   stored-opened m (y ∷ ys) p =
       ap₂ _∷_ (ap (λ a. (a, dir y)) (L .s2pp-p2s (atom y) (p .1)))
@@ -275,8 +275,8 @@ module _ (S : Shifts) (L : Laws S) where
     all-map (Fit S) (Fit S) _ xs (λ y h. (L .row-below (nsymAt S (atom x)) (atom y) (L .nsym-below (atom x) (p .1 .0 .0)) (h .0), h .1)) (p .1 .1),
   )
 
-  pub opened-legs : (m : ℕ) (ys : List Leg) → Place S m ys → Legs S m (opened S ys)
-  unfolding opened
+  pub opened-legs : (m : ℕ) (ys : List Leg) → Place S m ys → Legs S m (legsAt S ys)
+  unfolding legsAt
   opened-legs m [] p = absurd p
   opened-legs m (y ∷ ys) p = (ap suc (p .0), ((L .p2s-below (atom y) (p .1), p .2), p .3))
 
@@ -286,7 +286,7 @@ module _ (S : Shifts) (L : Laws S) where
         → ((xs : List Leg) → Legs S m xs → readOut z S s xs ≡ readOut z S t xs) → s ≡ t
     unfolding readOut
     same-readOut m s t ls lt h =
-        same-set S m z s t ls lt (λ ys p. rw (stored-opened m ys p) at (h (opened S ys) (opened-legs m ys p)))
+        same-set S m z s t ls lt (λ ys p. rw (stored-opened m ys p) at (h (legsAt S ys) (opened-legs m ys p)))
 
     pub readOut-fill : (m : ℕ) (f : List Leg → A) (xs : List Leg) → Legs S m xs → readOut z S (fill S m f) xs ≡ f (stored S xs)
     unfolding readOut

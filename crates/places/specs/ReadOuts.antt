@@ -5,11 +5,11 @@ use native.Mathlib.Nat.{le-trans}
 use mathlib.Core.List.{List, [], _∷_, map}
 use lib.IntN.{ℤ}
 use lib.ListN.{length, length-map}
-use Rattle.lists.specs.Digits.{horner, room, in-row, horner-below}
+use Rattle.lists.specs.Digits.{horner, timesPower, in-row, horner-below}
 use Rattle.lists.specs.Elements.{Below, all-map}
 use Rattle.tables.specs.Conditions.{indexAt, Readable, IndexTable, read}
 use Rattle.tables.specs.Shifts.{row, s2ppAt, nsymAt}
-use Rattle.tables.specs.Compact.{ShiftTables, shiftTables, shiftsOf, Fit, perms-is, s2pp-is, nsym-is}
+use Rattle.tables.specs.Compact.{ShiftTables, shiftTables, shiftsOf, TablesFit, perms-is, s2pp-is, nsym-is}
 use Rattle.places.specs.Addresses.{storedBlock}
 
 -- the tables that a read-out looks at; p2s and the other two counts are not among them
@@ -32,7 +32,7 @@ pub record Tables (n : ℕ) (s2pp nsymList perms : List ℤ) : Type 0 where
 
 -- ---- from the guard's record
 
-pub tables : (limit : ℕ) (T : ShiftTables) → limit ≤ 1024 → Fit limit T → Tables (T .nSatom) (T .s2pp) (T .nsymList) (T .perms)
+pub tables : (limit : ℕ) (T : ShiftTables) → limit ≤ 1024 → TablesFit limit T → Tables (T .nSatom) (T .s2pp) (T .nsymList) (T .perms)
 tables limit T h F = record {
   nPatom = T .nPatom;
   numTrans = T .numTrans;
@@ -83,7 +83,7 @@ module _ {n : ℕ} {s2pp nsymList perms : List ℤ} (T : Tables n s2pp nsymList 
   along-below t j b e f g = rw (f, e) (perms-read j g .1)
 
   -- the stored block is one of the set's
-  pub stored-below : (js : List ℕ) → Below n js → storedIn n s2pp nsymList perms i js < room n (length js) (T .nPatom)
+  pub stored-below : (js : List ℕ) → Below n js → storedIn n s2pp nsymList perms i js < timesPower n (length js) (T .nPatom)
   stored-below js b =
       let f : ℕ → ℕ = λ j. indexAt perms (indexAt nsymList i * n + j) in
       rw (stored-read n s2pp nsymList perms i js) (rw (length-map js f) at

@@ -8,7 +8,7 @@ use Rattle.lists.specs.Elements.{pick}
 use Rattle.lists.specs.Digits.{horner, rest, digits}
 use Rattle.tables.specs.Shifts.{Shifts, row, p2sAt, s2ppAt, nsymAt, isNull}
 use Rattle.tables.specs.Lengths.{setLength}
-use Rattle.places.specs.Places.{shift, stored, opened, address, size, legsOf, place}
+use Rattle.places.specs.Places.{shift, stored, legsAt, address, size, legsOf, place}
 use Rattle.places.specs.Addresses.{storedBlock}
 use Rattle.places.specs.Moves.{source, stays, order}
 
@@ -46,7 +46,7 @@ sizes = refl
 
 -- type 0 puts the old block (0, 2, 1), first two directions swapped, at (0, 1, 2); no row exchanges two atoms, so no block stays
 source-012 : (a b c : ℕ) → source three (order 0) ((0, a) ∷ (1, b) ∷ (2, c) ∷ []) ≡ (0, b) ∷ (2, a) ∷ (1, c) ∷ []
-unfolding source order pick opened stored shift row p2sAt s2ppAt nsymAt
+unfolding source order pick legsAt stored shift row p2sAt s2ppAt nsymAt
 source-012 a b c = refl
 
 none-stays : map (stays three 0) (0 ∷ 1 ∷ 2 ∷ []) ≡ false ∷ false ∷ false ∷ []

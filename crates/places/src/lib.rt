@@ -14,7 +14,7 @@ use tables::atoms::s2pp_at;
 // One leg more: of the blocks that block b of the legs before it is divided into, one for each of n atoms, the one of atom a. A place in
 // a table of rows of n entries is the same sum, and so is a position inside a block, with directions for atoms. The number of every block
 // is made by this function; crate blocks has the starts of blocks, crate tables the places in the rows of perms.
-pub fn with_leg(b: usize, n: usize, a: usize) -> usize
+pub fn index_of(b: usize, n: usize, a: usize) -> usize
     requires { ⌜ b * n + a < 4611686018427387904 ⌝ }
     ensures { λ r. ⌜ r ≡ b * n + a ⌝ }
 {
@@ -22,14 +22,14 @@ pub fn with_leg(b: usize, n: usize, a: usize) -> usize
 }
 
 // The other way: the last leg's atom of block b, and the block of the legs before it.
-pub fn last_leg(b: usize, n: usize) -> usize
+pub fn column_of(b: usize, n: usize) -> usize
     requires { ⌜ 0 < n ⌝ }
     ensures { λ r. ⌜ r ≡ b % n ⌝ }
 {
     b % n
 }
 
-pub fn legs_before(b: usize, n: usize) -> usize
+pub fn row_of(b: usize, n: usize) -> usize
     requires { ⌜ 0 < n ⌝ }
     ensures { λ r. ⌜ r ≡ b / n ⌝ }
 {
@@ -41,7 +41,7 @@ pub fn block2(p: PrimAtom, j: SuperAtom, n_satom: usize) -> usize
     requires { ⌜ («n_satom» ≤ 1024) × (p .0 < 1024) × (j .0 < «n_satom») ⌝ }
     ensures { λ r. ⌜ r ≡ horner «n_satom» (p .0) (j .0 ∷ []) ⌝ }
 {
-    with_leg(p.0, n_satom, j.0)
+    index_of(p.0, n_satom, j.0)
 }
 
 // Block (p, j, k) of a compact set of third order.
@@ -49,7 +49,7 @@ pub fn block3(p: PrimAtom, j: SuperAtom, k: SuperAtom, n_satom: usize) -> usize
     requires { ⌜ («n_satom» ≤ 1024) × (p .0 < 1024) × (j .0 < «n_satom») × (k .0 < «n_satom») ⌝ }
     ensures { λ r. ⌜ r ≡ horner «n_satom» (p .0) (j .0 ∷ k .0 ∷ []) ⌝ }
 {
-    with_leg(block2(p, j, n_satom), n_satom, k.0)
+    index_of(block2(p, j, n_satom), n_satom, k.0)
 }
 
 // Block (p, j, k, l) of a compact set of fourth order.
@@ -57,7 +57,7 @@ pub fn block4(p: PrimAtom, j: SuperAtom, k: SuperAtom, l: SuperAtom, n_satom: us
     requires { ⌜ («n_satom» ≤ 1024) × (p .0 < 1024) × (j .0 < «n_satom») × (k .0 < «n_satom») × (l .0 < «n_satom») ⌝ }
     ensures { λ r. ⌜ r ≡ horner «n_satom» (p .0) (j .0 ∷ k .0 ∷ l .0 ∷ []) ⌝ }
 {
-    with_leg(block3(p, j, k, n_satom), n_satom, l.0)
+    index_of(block3(p, j, k, n_satom), n_satom, l.0)
 }
 
 // Block (i, j) of a full set of second order, whose first atom is one of the supercell too.
@@ -65,7 +65,7 @@ pub fn full2(i: SuperAtom, j: SuperAtom, n: usize) -> usize
     requires { ⌜ (n ≤ 1024) × (i .0 < n) × (j .0 < n) ⌝ }
     ensures { λ r. ⌜ r ≡ horner n (i .0) (j .0 ∷ []) ⌝ }
 {
-    with_leg(i.0, n, j.0)
+    index_of(i.0, n, j.0)
 }
 
 // Block (i, j, k) of a full set of third order.
@@ -73,7 +73,7 @@ pub fn full3(i: SuperAtom, j: SuperAtom, k: SuperAtom, n: usize) -> usize
     requires { ⌜ (n ≤ 1024) × (i .0 < n) × (j .0 < n) × (k .0 < n) ⌝ }
     ensures { λ r. ⌜ r ≡ horner n (i .0) (j .0 ∷ k .0 ∷ []) ⌝ }
 {
-    with_leg(full2(i, j, n), n, k.0)
+    index_of(full2(i, j, n), n, k.0)
 }
 
 // Block (i, j, k, l) of a full set of fourth order.
@@ -81,7 +81,7 @@ pub fn full4(i: SuperAtom, j: SuperAtom, k: SuperAtom, l: SuperAtom, n: usize) -
     requires { ⌜ (n ≤ 1024) × (i .0 < n) × (j .0 < n) × (k .0 < n) × (l .0 < n) ⌝ }
     ensures { λ r. ⌜ r ≡ horner n (i .0) (j .0 ∷ k .0 ∷ l .0 ∷ []) ⌝ }
 {
-    with_leg(full3(i, j, k, n), n, l.0)
+    index_of(full3(i, j, k, n), n, l.0)
 }
 
 // The position of directions a, b in a block of 9.
@@ -89,7 +89,7 @@ pub fn dir2(a: usize, b: usize) -> usize
     requires { ⌜ (a < 3) × (b < 3) ⌝ }
     ensures { λ r. ⌜ r ≡ horner 3 a (b ∷ []) ⌝ }
 {
-    with_leg(a, 3, b)
+    index_of(a, 3, b)
 }
 
 // The position of directions a, b, c in a block of 27.
@@ -97,11 +97,11 @@ pub fn dir3(a: usize, b: usize, c: usize) -> usize
     requires { ⌜ (a < 3) × (b < 3) × (c < 3) ⌝ }
     ensures { λ r. ⌜ r ≡ horner 3 a (b ∷ c ∷ []) ⌝ }
 {
-    with_leg(dir2(a, b), 3, c)
+    index_of(dir2(a, b), 3, c)
 }
 
 // The read-out entry for atoms (i, j) is this stored block: the one at s2pp[i] and the image of j under row nsym_list[i].
-pub fn read_out2(
+pub fn stored_block2(
     s2pp: &[i64],
     nsym_list: &[i64],
     perms: &[i64],
@@ -117,7 +117,7 @@ pub fn read_out2(
 }
 
 // The same for atoms (i, j, k): the block at s2pp[i] and the images of j and k.
-pub fn read_out3(
+pub fn stored_block3(
     s2pp: &[i64],
     nsym_list: &[i64],
     perms: &[i64],
@@ -139,7 +139,7 @@ pub fn read_out3(
 }
 
 // The same for atoms (i, j, k, l): the block at s2pp[i] and the images of j, k and l.
-pub fn read_out4(
+pub fn stored_block4(
     s2pp: &[i64],
     nsym_list: &[i64],
     perms: &[i64],
@@ -149,7 +149,8 @@ pub fn read_out4(
     l: SuperAtom,
     n_satom: usize,
 ) -> usize
-    requires { ⌜ Tables «n_satom» (now s2pp) (now «nsym_list») (now perms) × (i .0 < «n_satom») × (j .0 < «n_satom») × (k .0 < «n_satom») × (l .0 < «n_satom») ⌝ }
+    requires { ⌜
+        Tables «n_satom» (now s2pp) (now «nsym_list») (now perms) × (i .0 < «n_satom») × (j .0 < «n_satom») × (k .0 < «n_satom») × (l .0 < «n_satom») ⌝ }
     ensures { λ r. ⌜ r ≡ storedIn «n_satom» (now (s2pp .entry)) (now («nsym_list» .entry)) (now (perms .entry)) (i .0) (j .0 ∷ k .0 ∷ l .0 ∷ []) ⌝ }
 {
     let t = nsym_at(nsym_list, i);

@@ -10,7 +10,7 @@ use Rattle.lists.specs.Tab.{tab, tabFrom}
 use Rattle.lists.specs.Elements.{pick, straight, all-at}
 use Rattle.lists.specs.Members.{alike, alike-true}
 use Rattle.blocks.specs.Permuted.{permuted}
-use Rattle.places.specs.Permutations.{Permutation, twentyFour}
+use Rattle.places.specs.Permutations.{Permutation, perms4}
 use Rattle.orbits.proofs.Scatter.{permuted-permuted, permuted-straight}
 use Rattle.positions.specs.Positions.{permutationAt, in81, is-permutation}
 
@@ -33,7 +33,7 @@ isUndone : ℕ → Bool
 isUndone s = alike (pick 0 (permutationAt s) (permutationAt (inverseOf s))) (straight 4) && alike (pick 0 (permutationAt (inverseOf s)) (permutationAt s)) (straight 4)
 
 all-undone : every 24 isUndone ≡ true
-unfolding every isUndone alike pick permutationAt inverseOf straight tab tabFrom twentyFour
+unfolding every isUndone alike pick permutationAt inverseOf straight tab tabFrom perms4
 all-undone = refl
 
 module _ (s k : ℕ) (hs : s < 24) (hk : k < 81) where

@@ -6,17 +6,17 @@ use mathlib.Core.List.{List, []}
 use lib.ListN.{length, getD}
 use Rattle.lists.specs.Tab.{tab, getD-tab}
 use Rattle.lists.specs.Elements.{all-at}
-use Rattle.lists.specs.Digits.{room, quotient, remainder}
+use Rattle.lists.specs.Digits.{timesPower, quotient, remainder}
 use Rattle.lists.specs.Members.{in-all}
-use Rattle.places.specs.Permutations.{Permutation, twentyFour, twentyFour-group}
+use Rattle.places.specs.Permutations.{Permutation, perms4, twentyFour-group}
 use Rattle.orbits.specs.Blockwise.{inBlock}
 use Rattle.orbits.specs.Transposed.{permuted-is-below}
 use Rattle.blocks.specs.Permuted.{permuted}
 
 -- permutation s of the 24
 unfoldable pub permutationAt : ℕ → List ℕ
-unfolding twentyFour
-permutationAt s = getD twentyFour s []
+unfolding perms4
+permutationAt s = getD perms4 s []
 
 -- the position of the directions of position k in permutation s, at entry s * 81 + k
 unfoldable pub entryOf : ℕ → ℕ
@@ -28,15 +28,15 @@ unfolding entryOf
 addressTable = tab 1944 entryOf
 
 pub in81 : inBlock 3 ≡ 81
-unfolding inBlock room
+unfolding inBlock timesPower
 in81 = refl
 
 pub is-permutation : (s : ℕ) → s < 24 → Permutation 3 (permutationAt s)
 unfolding permutationAt
-is-permutation s h = all-at (Permutation 3) twentyFour s [] (in-all (Permutation 3) twentyFour (twentyFour-group .each)) (rw count h)
+is-permutation s h = all-at (Permutation 3) perms4 s [] (in-all (Permutation 3) perms4 (twentyFour-group .each)) (rw count h)
   where
-    count : length twentyFour ≡ 24
-    count = unfold twentyFour in refl
+    count : length perms4 ≡ 24
+    count = unfold perms4 in refl
 
 pub permuted-in : (s k : ℕ) → s < 24 → k < 81 → permuted 3 (permutationAt s) k < 81
 permuted-in s k hs hk = rw in81 at (permuted-is-below 3 (permutationAt s) k (is-permutation s hs) (rw in81 hk))

@@ -1,10 +1,10 @@
 // Direction addresses of fourth order: where the numbers of a block of 81 stand once their four directions are permuted, as a constant
-// table over the 24 permutations of four legs and the 81 positions. docs/direction-addresses.md shows it in rows of nine.
+// table over the 24 permutations of four legs and the 81 positions. `docs/addresses` prints it in rows of nine.
 ghost use mathlib.Core.Path.{_≡_};
 ghost use Prim.Native.Nat.{_<_};
 ghost use Rattle.blocks.specs.Permuted.{permuted};
 ghost use Rattle.positions.specs.Positions.{permutationAt, addressTable};
-use places::with_leg;
+use places::index_of;
 
 // 81 entries for each permutation, in the Rust's list of them (PERMS24, fc4.rs). Beside each entry stand its permutation and the directions
 // a, b, c, d of its position. It is 27 x + 9 y + 3 z + w, where x, y, z, w are a, b, c, d in the order that the comment above the 81 has.
@@ -1991,5 +1991,5 @@ pub fn entry(t: &[u8; 1944], s: usize, k: usize) -> u8
     requires { ⌜ (now t ≡ addressTable) × (s < 24) × (k < 81) ⌝ }
     ensures { λ r. ⌜ r ≡ permuted 3 (permutationAt s) k ⌝ }
 {
-    t[with_leg(s, 81, k)]
+    t[index_of(s, 81, k)]
 }

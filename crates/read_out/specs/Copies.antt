@@ -9,7 +9,7 @@ use lib.ListN.{length, getD}
 use lib.Ieee.{Float, nan}
 use Rattle.lists.specs.Tab.{times, is-tab, times-nest, times-same}
 use Rattle.lists.specs.Stages.{Stage, next, stages}
-use Rattle.lists.specs.Digits.{horner, room, rest, digits, quotient, remainder, rest-div, digits-mod, room-mul, length-digits, horner-digits, horner-split}
+use Rattle.lists.specs.Digits.{horner, timesPower, rest, digits, quotient, remainder, rest-div, digits-mod, room-mul, length-digits, horner-digits, horner-split}
 use Rattle.blocks.specs.Block.{block, putBlock, length-putBlock, getD-block, put-inside, put-outside}
 use Rattle.tables.specs.Conditions.{indexAt, Readable}
 use Rattle.tables.specs.Shifts.{Shifts, Laws}
@@ -17,7 +17,7 @@ use Rattle.tables.specs.Compact.{ShiftTables, shiftsOf}
 use Rattle.places.specs.Places.{Leg, atom, Legs, Place, stored, place, at, readOut, fill, size, place-place, stored-place}
 use Rattle.places.specs.Addresses.{storedBlock}
 use Rattle.places.specs.ReadOuts.{stored-in, stored-read}
-use Rattle.places.specs.Whole.{whole}
+use Rattle.places.specs.WholeLaws.{fullShifts}
 use Rattle.orbits.specs.Blockwise.{inBlock, blockAtoms, storedAtoms, atoms-stored, dirs-stored, atoms-of, dirs-of, address-is, block-below}
 use Rattle.orbits.specs.Transposed.{size-blocks, in-block-pos}
 use Rattle.read_out.specs.FullSet.{fullSet}
@@ -40,20 +40,20 @@ Along n t perms = (k : ℕ) → k < n → Readable perms (t * n + k) × (indexAt
 -- ---- block b of the full set
 
 -- the block of the compact set that it is read from
-unfoldable pub sourceOf : Shifts → ℕ → ℕ → ℕ
-sourceOf S m b = storedBlock S (rest (S .nSatom) m b) (digits (S .nSatom) m b)
+unfoldable pub copySource : Shifts → ℕ → ℕ → ℕ
+copySource S m b = storedBlock S (rest (S .nSatom) m b) (digits (S .nSatom) m b)
 
 unfoldable pub copyAt : Shifts → ℕ → ℕ → List Float → ℕ → List Float → List Float
-copyAt S m w set b xs = putBlock w b (block w (sourceOf S m b) set) xs
+copyAt S m w set b xs = putBlock w b (block w (copySource S m b) set) xs
 
 -- ---- the loops as one loop over the blocks
 
-module _ (n d k q : ℕ) (h : q < room n d 1) where
-  rest-at : rest n d (k * room n d 1 + q) ≡ k
-  rest-at = rest-div n d (k * room n d 1 + q) ∙ quotient (room n d 1) k q h
+module _ (n d k q : ℕ) (h : q < timesPower n d 1) where
+  rest-at : rest n d (k * timesPower n d 1 + q) ≡ k
+  rest-at = rest-div n d (k * timesPower n d 1 + q) ∙ quotient (timesPower n d 1) k q h
 
-  digits-at : 0 < n → digits n d (k * room n d 1 + q) ≡ digits n d q
-  digits-at p = digits-mod n d (k * room n d 1 + q) p ∙ ap (digits n d) (remainder (room n d 1) k q h)
+  digits-at : 0 < n → digits n d (k * timesPower n d 1 + q) ≡ digits n d q
+  digits-at p = digits-mod n d (k * timesPower n d 1 + q) p ∙ ap (digits n d) (remainder (timesPower n d 1) k q h)
 
 module _ (perms : List ℤ) (n w t : ℕ) (set : List Float) where
   abbrev image : ℕ → ℕ
@@ -61,24 +61,24 @@ module _ (perms : List ℤ) (n w t : ℕ) (set : List Float) where
 
   -- block q of those of d atoms more
   abbrev one : ℕ → ℕ → ℕ → ℕ → List Float → List Float
-  one d to from q = putBlock w (to * room n d 1 + q) (block w (horner n from (map image (digits n d q))) set)
+  one d to from q = putBlock w (to * timesPower n d 1 + q) (block w (horner n from (map image (digits n d q))) set)
 
-  one-more : (d to from k q : ℕ) → k < n → q < room n d 1 → (y : List Float) → one d (to * n + k) (from * n + image k) q y ≡ one (suc d) to from (k * room n d 1 + q) y
-  unfolding digits horner room
+  one-more : (d to from k q : ℕ) → k < n → q < timesPower n d 1 → (y : List Float) → one d (to * n + k) (from * n + image k) q y ≡ one (suc d) to from (k * timesPower n d 1 + q) y
+  unfolding digits horner timesPower
   one-more d to from k q hk hq y =
-      let R = room n d 1 in
+      let R = timesPower n d 1 in
       let p : 0 < n = omega arith in
-      let e : (to * n + k) * R + q ≡ to * room n d (1 * n) + (k * R + q) = rw (room-mul n d (1 * n)) (omega arith) in
+      let e : (to * n + k) * R + q ≡ to * timesPower n d (1 * n) + (k * R + q) = rw (room-mul n d (1 * n)) (omega arith) in
       let r : rest n d (k * R + q) % n ≡ k = ap (λ x. x % n) (rest-at n d k q hq) ∙ mod-eq-of-lt hk in
       ap₂ (λ b s. putBlock w b (block w s set) y) e
       (sym (ap₂ (λ x ds. horner n (from * n + image x) (map image ds)) r (digits-at n d k q hq p)))
 
-  legs-flat : (d to from : ℕ) (full : List Float) → copyLegs perms n w t d to from set full ≡ times (room n d 1) (one d to from) full
-  unfolding copyLegs times room digits horner
+  legs-flat : (d to from : ℕ) (full : List Float) → copyLegs perms n w t d to from set full ≡ times (timesPower n d 1) (one d to from) full
+  unfolding copyLegs times timesPower digits horner
   legs-flat zero to from full = let e : to ≡ to * 1 + 0 = omega arith in ap (λ b. putBlock w b (block w from set) full) e
   legs-flat (suc d) to from full =
-      let R = room n d 1 in
-      let e : n * R ≡ room n d (1 * n) = rw (room-mul n d (1 * n)) (omega arith) in
+      let R = timesPower n d 1 in
+      let e : n * R ≡ timesPower n d (1 * n) = rw (room-mul n d (1 * n)) (omega arith) in
       times-same n (λ k. copyLegs perms n w t d (to * n + k) (from * n + image k) set) (λ k. times R (λ q. one (suc d) to from (k * R + q))) full
       (λ k hk y. legs-flat d (to * n + k) (from * n + image k) y
       ∙ times-same R (one d (to * n + k) (from * n + image k)) (λ q. one (suc d) to from (k * R + q)) y (λ q hq z. one-more d to from k q hk hq z))
@@ -90,17 +90,17 @@ module _ (T : ShiftTables) (w m : ℕ) (set : List Float) where
   n = T .nSatom
 
   -- the block that the loops read is the stored one
-  source-is : (i q : ℕ) → i < n → q < room n m 1
-      → horner n (indexAt (T .s2pp) i) (map (λ k. indexAt (T .perms) (indexAt (T .nsymList) i * n + k)) (digits n m q)) ≡ sourceOf (shiftsOf T) m (i * room n m 1 + q)
-  unfolding sourceOf
+  source-is : (i q : ℕ) → i < n → q < timesPower n m 1
+      → horner n (indexAt (T .s2pp) i) (map (λ k. indexAt (T .perms) (indexAt (T .nsymList) i * n + k)) (digits n m q)) ≡ copySource (shiftsOf T) m (i * timesPower n m 1 + q)
+  unfolding copySource
   source-is i q hi hq =
       sym (stored-read n (T .s2pp) (T .nsymList) (T .perms) i (digits n m q)) ∙ stored-in T i (digits n m q)
       ∙ sym (ap₂ (storedBlock (shiftsOf T)) (rest-at n m i q hq) (digits-at n m i q hq (omega arith)))
 
-  rows-flat : (full : List Float) → copyRows (T .s2pp) (T .nsymList) (T .perms) n w m set full ≡ times (room n m n) (copyAt (shiftsOf T) m w set) full
+  rows-flat : (full : List Float) → copyRows (T .s2pp) (T .nsymList) (T .perms) n w m set full ≡ times (timesPower n m n) (copyAt (shiftsOf T) m w set) full
   unfolding copyRows copyAt
   rows-flat full =
-      let R = room n m 1 in
+      let R = timesPower n m 1 in
       times-same n (λ i. copyLegs (T .perms) n w (indexAt (T .nsymList) i) m i (indexAt (T .s2pp) i) set) (λ i. times R (λ q. copyAt (shiftsOf T) m w set (i * R + q))) full
       (λ i hi y. legs-flat (T .perms) n w (indexAt (T .nsymList) i) set m i (indexAt (T .s2pp) i) y
       ∙ times-same R (one (T .perms) n w (indexAt (T .nsymList) i) set m i (indexAt (T .s2pp) i)) (λ q. copyAt (shiftsOf T) m w set (i * R + q)) y
@@ -117,29 +117,29 @@ in-block : (m B q : ℕ) → horner 3 B (digits 3 (suc m) q) ≡ B * inBlock m +
 unfolding inBlock
 in-block m B q =
     let ds = digits 3 (suc m) q in
-    let c = room 3 (suc m) 1 in
+    let c = timesPower 3 (suc m) 1 in
     let l : length ds ≡ suc m = length-digits 3 (suc m) q in
     let e : q / c * c + horner 3 0 ds ≡ q =
-    sym (horner-split 3 (q / c) ds ∙ ap (λ k. q / c * room 3 k 1 + horner 3 0 ds) l) ∙ ap (λ b. horner 3 b ds) (sym (rest-div 3 (suc m) q)) ∙ horner-digits 3 (suc m) q in
+    sym (horner-split 3 (q / c) ds ∙ ap (λ k. q / c * timesPower 3 k 1 + horner 3 0 ds) l) ∙ ap (λ b. horner 3 b ds) (sym (rest-div 3 (suc m) q)) ∙ horner-digits 3 (suc m) q in
     let f : horner 3 0 ds ≡ q % c = same-rest (q / c * c) (horner 3 0 ds) (q % c) q e (div-add-mod' q c) in
-    horner-split 3 B ds ∙ ap₂ (λ k x. B * room 3 k 1 + x) l f
+    horner-split 3 B ds ∙ ap₂ (λ k x. B * timesPower 3 k 1 + x) l f
 
 -- ---- what the full set holds
 
 module _ (S : Shifts) (L : Laws S) (m : ℕ) (set : List Float) where
   abbrev W : Shifts
-  W = whole (S .nSatom)
+  W = fullShifts (S .nSatom)
 
   place-legs : (ys : List Leg) → Place W m ys → Legs S m ys
-  unfolding whole
+  unfolding fullShifts
   place-legs [] p = absurd p
   place-legs (y ∷ ys) p = (ap suc (p .0), ((p .1, p .2), p .3))
 
-  source-atoms : (q : ℕ) → blockAtoms S (storedAtoms S (map atom (place W m q))) ≡ sourceOf S m (q / inBlock m)
-  unfolding blockAtoms storedAtoms sourceOf storedBlock whole
+  source-atoms : (q : ℕ) → blockAtoms S (storedAtoms S (map atom (place W m q))) ≡ copySource S m (q / inBlock m)
+  unfolding blockAtoms storedAtoms copySource storedBlock fullShifts
   source-atoms q = ap (λ ks. blockAtoms S (storedAtoms S ks)) (atoms-of W m q)
 
-  pub number-at : (q : ℕ) → q < size W m → getD set (sourceOf S m (q / inBlock m) * inBlock m + q % inBlock m) nan ≡ readOut nan S set (place W m q)
+  pub number-at : (q : ℕ) → q < size W m → getD set (copySource S m (q / inBlock m) * inBlock m + q % inBlock m) nan ≡ readOut nan S set (place W m q)
   unfolding readOut at
   number-at q h =
       let xs = place W m q in
@@ -147,7 +147,7 @@ module _ (S : Shifts) (L : Laws S) (m : ℕ) (set : List Float) where
       sym (ap (λ r. getD set r nan)
       (address-is S m (stored S xs) p
       ∙ ap₂ (horner 3) (ap (blockAtoms S) (atoms-stored S xs) ∙ source-atoms q) (dirs-stored S xs ∙ dirs-of W m q)
-      ∙ in-block m (sourceOf S m (q / inBlock m)) q))
+      ∙ in-block m (copySource S m (q / inBlock m)) q))
 
   -- ---- THE COPIES MAKE THE FULL SET
 
@@ -161,33 +161,33 @@ module _ (S : Shifts) (L : Laws S) (m : ℕ) (set : List Float) where
     wide : 0 < w
     wide = subst (λ (c : ℕ). 0 < c) e (in-block-pos m)
 
-    turn : (b : ℕ) → b < room (S .nSatom) m (S .nSatom) → (ys : List Float) → Stage nan full key new b ys → Stage nan full key new (suc b) (copyAt S m w set b ys)
+    turn : (b : ℕ) → b < timesPower (S .nSatom) m (S .nSatom) → (ys : List Float) → Stage nan full key new b ys → Stage nan full key new (suc b) (copyAt S m w set b ys)
     unfolding copyAt
     turn b hb ys s =
-        let v = block w (sourceOf S m b) set in
+        let v = block w (copySource S m b) set in
         next nan full key new b ys (putBlock w b v ys) s (length-putBlock w b v ys)
         (λ q h g.
         let hq : q < size W m = rw l at h in
         put-inside w b v ys q (rw (s .long) h) g
-        ∙ getD-block w (sourceOf S m b) set (q % w) (mod-lt q wide)
-        ∙ ap (λ b. getD set (sourceOf S m b * w + q % w) nan) (sym g)
-        ∙ subst (λ (c : ℕ). getD set (sourceOf S m (q / c) * c + q % c) nan ≡ readOut nan S set (place W m q)) e (number-at q hq))
+        ∙ getD-block w (copySource S m b) set (q % w) (mod-lt q wide)
+        ∙ ap (λ b. getD set (copySource S m b * w + q % w) nan) (sym g)
+        ∙ subst (λ (c : ℕ). getD set (copySource S m (q / c) * c + q % c) nan ≡ readOut nan S set (place W m q)) e (number-at q hq))
         (λ q h g. put-outside w b v ys q (rw (s .long) h) g)
 
-    block-of : (q : ℕ) → q < size W m → q / w < room (S .nSatom) m (S .nSatom)
-    unfolding whole
-    block-of q h = subst (λ (c : ℕ). q / c < room (S .nSatom) m (S .nSatom)) e (block-below W m q h)
+    block-of : (q : ℕ) → q < size W m → q / w < timesPower (S .nSatom) m (S .nSatom)
+    unfolding fullShifts
+    block-of q h = subst (λ (c : ℕ). q / c < timesPower (S .nSatom) m (S .nSatom)) e (block-below W m q h)
 
-    pub copies-make : times (room (S .nSatom) m (S .nSatom)) (copyAt S m w set) full ≡ fullSet nan S m set
+    pub copies-make : times (timesPower (S .nSatom) m (S .nSatom)) (copyAt S m w set) full ≡ fullSet nan S m set
     unfolding fullSet fill
     copies-make =
-        let s = stages nan full key new (room (S .nSatom) m (S .nSatom)) (copyAt S m w set) turn in
-        is-tab nan (size W m) new (times (room (S .nSatom) m (S .nSatom)) (copyAt S m w set) full) (s .long ∙ l)
+        let s = stages nan full key new (timesPower (S .nSatom) m (S .nSatom)) (copyAt S m w set) turn in
+        is-tab nan (size W m) new (times (timesPower (S .nSatom) m (S .nSatom)) (copyAt S m w set) full) (s .long ∙ l)
         (λ q h. let hx : q < length full = rw l h in s .made q hx (block-of q h))
 
-pub rows-make : (T : ShiftTables) → Laws (shiftsOf T) → (w m : ℕ) → inBlock m ≡ w → (set full : List Float) → length full ≡ room (T .nSatom) m (T .nSatom) * w
+pub rows-make : (T : ShiftTables) → Laws (shiftsOf T) → (w m : ℕ) → inBlock m ≡ w → (set full : List Float) → length full ≡ timesPower (T .nSatom) m (T .nSatom) * w
     → copyRows (T .s2pp) (T .nsymList) (T .perms) (T .nSatom) w m set full ≡ fullSet nan (shiftsOf T) m set
-unfolding whole
+unfolding fullShifts
 rows-make T L w m e set full l =
-    let N = room (T .nSatom) m (T .nSatom) in
-    rows-flat T w m set full ∙ copies-make (shiftsOf T) L m set w e full (l ∙ ap (λ c. N * c) (sym e) ∙ sym (size-blocks (whole (T .nSatom)) m))
+    let N = timesPower (T .nSatom) m (T .nSatom) in
+    rows-flat T w m set full ∙ copies-make (shiftsOf T) L m set w e full (l ∙ ap (λ c. N * c) (sym e) ∙ sym (size-blocks (fullShifts (T .nSatom)) m))

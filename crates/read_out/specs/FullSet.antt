@@ -5,23 +5,23 @@ use mathlib.Core.List.{List}
 use lib.ListN.{length}
 use Rattle.tables.specs.Shifts.{Shifts}
 use Rattle.places.specs.Places.{Leg, Legs, readOut, fill, size, length-fill, readOut-fill}
-use Rattle.places.specs.Whole.{whole, whole-laws, stored-whole}
+use Rattle.places.specs.WholeLaws.{fullShifts, whole-laws, stored-whole}
 
 module _ {A : Type 0} (z : A) where
   unfoldable pub fullSet : Shifts → ℕ → List A → List A
-  fullSet S m set = fill (whole (S .nSatom)) m (λ xs. readOut z S set xs)
+  fullSet S m set = fill (fullShifts (S .nSatom)) m (λ xs. readOut z S set xs)
 
-  pub length-full : (S : Shifts) (m : ℕ) (set : List A) → length (fullSet S m set) ≡ size (whole (S .nSatom)) m
+  pub length-full : (S : Shifts) (m : ℕ) (set : List A) → length (fullSet S m set) ≡ size (fullShifts (S .nSatom)) m
   unfolding fullSet
-  length-full S m set = length-fill (whole (S .nSatom)) m _
+  length-full S m set = length-fill (fullShifts (S .nSatom)) m _
 
   -- its read-out is the compact set's
-  pub read-full : (S : Shifts) (m : ℕ) (set : List A) (xs : List Leg) → Legs (whole (S .nSatom)) m xs → readOut z (whole (S .nSatom)) (fullSet S m set) xs ≡ readOut z S set xs
+  pub read-full : (S : Shifts) (m : ℕ) (set : List A) (xs : List Leg) → Legs (fullShifts (S .nSatom)) m xs → readOut z (fullShifts (S .nSatom)) (fullSet S m set) xs ≡ readOut z S set xs
   unfolding fullSet
   read-full S m set xs p =
       let n = S .nSatom in
-      readOut-fill (whole n) (whole-laws n) z m (λ xs. readOut z S set xs) xs p ∙ ap (readOut z S set) (stored-whole n xs (p .1))
+      readOut-fill (fullShifts n) (whole-laws n) z m (λ xs. readOut z S set xs) xs p ∙ ap (readOut z S set) (stored-whole n xs (p .1))
 
-pub same-legs : (S : Shifts) (m : ℕ) (xs : List Leg) → Legs (whole (S .nSatom)) m xs → Legs S m xs
-unfolding whole
+pub same-legs : (S : Shifts) (m : ℕ) (xs : List Leg) → Legs (fullShifts (S .nSatom)) m xs → Legs S m xs
+unfolding fullShifts
 same-legs S m xs p = p

@@ -6,15 +6,13 @@ use lib.Ieee.{Float, nan}
 use Rattle.tables.specs.declared.Answer.{Answer}
 use Rattle.tables.specs.Answers.{after}
 use Rattle.tables.specs.Lengths.{setLength}
-use Rattle.tables.specs.Compact.{ShiftTables, shiftsOf, judgedTables}
+use Rattle.tables.specs.Compact.{ShiftTables, shiftsOf, judgedSet}
 use Rattle.tables.specs.Limits.{limit2, limit3, limit4}
 use Rattle.read_out.specs.FullSet.{fullSet}
 
 -- The guard at rank m + 1: a compact set of n_patom first atoms among n_satom, and the full set, in which each of n_satom atoms is a first one.
 unfoldable pub judgedReadOut : ℕ → ℕ → ℕ → ℕ → ShiftTables → Answer
-judgedReadOut limit m lenFull lenSet T =
-    let n = T .nSatom in
-    judgedTables limit ((lenSet, setLength (T .nPatom) n m) ∷ ((lenFull, setLength n n m) ∷ [])) T
+judgedReadOut limit m lenFull lenSet T = judgedSet limit m lenSet ((lenFull, setLength (T .nSatom) (T .nSatom) m) ∷ []) T
 
 -- the call: the answer and the full set; the compact set is only read
 unfoldable pub compactToFull : ℕ → ℕ → List Float → List Float → ShiftTables → Answer × List Float

@@ -1,1 +1,4 @@
 pub mod Tally
+pub mod Words
+pub mod Values
+pub mod FilledLaws

@@ -1,17 +1,19 @@
 // What the replay programs count and write: a tally of the records that were compared, and the lines of the report.
 ghost use mathlib.Core.Path.{_≡_};
 ghost use Rattle.replays.specs.Tally.{noRecord, countedAt, tally, differences, mixedNumbers, compare};
-use records::steps::plus;
-use records::steps::some;
+use crate::steps::plus;
+use crate::steps::some;
 
-pub mod entries;
+pub mod records;
 pub mod sets;
+pub mod steps;
+pub mod values;
 
-// What was compared so far: records, those that differ, how often each answer's number 0 to 6, checksum.
+// What was compared so far: records, those that differ, how often each answer's number, checksum.
 pub struct Tally {
     pub seen: u64,
     pub differ: u64,
-    pub answers: [u64; 7],
+    pub answers: [u64; 128],
     pub sum: u64,
 }
 
@@ -19,7 +21,7 @@ pub struct Tally {
 pub fn none() -> Tally
     ensures { λ r. ⌜ r ≡ noRecord ⌝ }
 {
-    let answers = [0u64; 7];
+    let answers = [0u64; 128];
     Tally {
         seen: 0,
         differ: 0,
@@ -28,11 +30,11 @@ pub fn none() -> Tally
     }
 }
 
-// The counts with one more of number k; a number above 6 is counted in none.
-pub fn counted(counts: [u64; 7], k: u64) -> [u64; 7]
+// The counts with one more of number k; a number above 127 is counted in none.
+pub fn counted(counts: [u64; 128], k: u64) -> [u64; 128]
     ensures { λ r. ⌜ r ≡ countedAt counts k ⌝ }
 {
-    if 6 < k {
+    if 127 < k {
         return counts;
     }
     let i = k as usize;
@@ -63,7 +65,10 @@ fn different(r: &[u8], got: &[u64]) -> u64
     let mut d = 0;
     let mut i = 0;
     while i < got.len() {
-        d = plus(d, records::differs(got[i], records::word_of(r, 1 + i)));
+        d = plus(
+            d,
+            crate::records::differs(got[i], crate::records::word_of(r, 1 + i)),
+        );
         i += 1;
     }
     d
@@ -76,7 +81,7 @@ fn mix_numbers(got: &[u64], h: u64) -> u64
     let mut g = h;
     let mut i = 0;
     while i < got.len() {
-        g = records::mix(g, got[i]);
+        g = crate::records::mix(g, got[i]);
         i += 1;
     }
     g
@@ -87,8 +92,11 @@ pub fn compared(t: Tally, r: &[u8], answer: u64, got: &[u64]) -> Tally
     ensures { λ n. ⌜ n ≡ compare t (now (r .entry)) answer (now (got .entry)) ⌝ }
 {
     let d = different(r, got);
-    let head = mix_numbers(got, records::mix(t.sum, records::word_of(r, 0)));
-    let sum = records::mix_words(r, 1 + got.len(), r.len() / 8, head);
+    let head = mix_numbers(
+        got,
+        crate::records::mix(t.sum, crate::records::word_of(r, 0)),
+    );
+    let sum = crate::records::mix_words(r, 1 + got.len(), r.len() / 8, head);
     tallied(t, answer, d, sum)
 }
 
@@ -109,11 +117,11 @@ pub fn first_line(title: &[u8], seen: u64, differ: u64) {
     io::write_all(1, b" differ\n");
 }
 
-// The report, with the same lines in every program.
-pub fn report(title: &[u8], t: Tally) {
+// The report, with the same lines for every call; `well` calls ended well.
+pub fn report_with(title: &[u8], t: Tally, well: u64) {
     let a = t.answers;
     first_line(title, t.seen, t.differ);
-    line(b"ended well: ", a[0]);
+    line(b"ended well: ", well);
     line(b"refused, 1: ", a[1]);
     line(b"refused, 2: ", a[2]);
     line(b"refused, 3: ", a[3]);
@@ -121,4 +129,11 @@ pub fn report(title: &[u8], t: Tally) {
     line(b"refused, 5: ", a[5]);
     line(b"refused, 6: ", a[6]);
     line(b"checksum ", t.sum);
+}
+
+// The report where 0 alone is the number of a call that ended well.
+pub fn report(title: &[u8], t: Tally) {
+    let a = t.answers;
+    let well = a[0];
+    report_with(title, t, well);
 }

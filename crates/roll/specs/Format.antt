@@ -28,12 +28,12 @@ abbrev pub sizeOf : Entry → ℕ
 sizeOf r = 10 + length (r .label)
 
 -- the kind is 1, 2 or 3, set numbers start at 1, and the earlier number is zero except for kind 2, where it is not
-unfoldable pub ruled : ℕ → ℕ → ℕ → Bool
-ruled kind number earlier = leb 1 kind && (leb kind 3 && (leb 1 number && cond (eqb kind 2) (not (eqb earlier 0)) (eqb earlier 0)))
+unfoldable pub recordRuled : ℕ → ℕ → ℕ → Bool
+recordRuled kind number earlier = leb 1 kind && (leb kind 3 && (leb 1 number && cond (eqb kind 2) (not (eqb earlier 0)) (eqb earlier 0)))
 
 -- the rules of a record; the label's length is one byte
 abbrev pub keepsRules : Entry → Bool
-keepsRules r = ruled (r .kind) (r .number) (r .earlier) && leb (length (r .label)) 255
+keepsRules r = recordRuled (r .kind) (r .number) (r .earlier) && leb (length (r .label)) 255
 
 -- ---- a roll from its records
 

@@ -15,13 +15,13 @@ use Rattle.lists.specs.Tests.{every, some, every-of, some-of, and-fst, both, re
 use Rattle.lists.specs.Tab.{tab, length-tab, getD-tab, tab-ext}
 use Rattle.lists.specs.Elements.{All, all-at}
 use Rattle.lists.specs.Members.{of-getD}
-use Rattle.roll.specs.Format.{Entry, inFour, inFours, joined, startsOf, ruled, keepsRules, rendered}
-use Rattle.roll.specs.Reading.{fourAt, trailerAt, countOf, listed, entryAt, start, isStart, ruledAt, follow, listedOnce, sized, framed, inOrder, isRoll, eachOnce, isFormerRoll, entriesOf}
-use Rattle.roll.specs.Starts.{start-apart, ends-before, head-before, follow-ruled}
-use Rattle.roll.specs.Numbers.{Bytes, four-written, four-small, read-back, length-fours, fours-more, fours-tab}
+use Rattle.roll.specs.Format.{Entry, inFour, inFours, joined, startsOf, recordRuled, keepsRules, rendered}
+use Rattle.roll.specs.Reading.{fourAt, trailerAt, countOf, listed, entryAt, recordStart, isStart, ruledAt, follow, listedOnce, sized, framed, inOrder, isRoll, eachOnce, isFormerRoll, entriesOf}
+use Rattle.roll.specs.StartLaws.{start-apart, ends-before, head-before, follow-ruled}
+use Rattle.roll.specs.NumberLaws.{Bytes, four-written, four-small, read-back, length-fours, fours-more, fours-tab}
 use Rattle.roll.specs.Rendering.{Fits, startAt, startList, start-at, tab-starts, tab-entries, starts-in, entries-in, records-back}
-use Rattle.roll.specs.Holding.{framed-following, framed-sized, is-framed, is-listing, former-framed, former-listing, length-starts-from, length-rendered}
-use Rattle.roll.specs.Listing.{Differ, listed-in-order}
+use Rattle.roll.specs.HoldingLaws.{framed-following, framed-sized, is-framed, is-listing, former-framed, former-listing, length-starts-from, length-rendered}
+use Rattle.roll.specs.ListingLaws.{Differ, listed-in-order}
 
 -- the list `order` has each start of the records once: as many numbers as records, each of them a start, none twice
 pub record Lists (rs : List Entry) (order : List ℕ) : Type 0 where
@@ -75,17 +75,17 @@ module _ (rs : List Entry) (order : List ℕ) (few : length rs ≤ 1000) (small 
       let z : 0 + t ≡ t = omega arith in
       (i .0 ∙ z, i .1)
 
-  pub end-back : start b n ≡ t
+  pub end-back : recordStart b n ≡ t
   end-back = start-at b n ∙ starts-back .0
 
-  pub start-back : (k : ℕ) → k < n → start b k ≡ getD (startsOf rs) k 0
-  start-back k h = sym (getD-tab n (start b) k 0 h) ∙ ap (λ l. getD l k 0) (sym (tab-starts b n) ∙ starts-back .1)
+  pub start-back : (k : ℕ) → k < n → recordStart b k ≡ getD (startsOf rs) k 0
+  start-back k h = sym (getD-tab n (recordStart b) k 0 h) ∙ ap (λ l. getD l k 0) (sym (tab-starts b n) ∙ starts-back .1)
 
   -- reading a rendered roll gives its records back
   pub entries-back : All Fits rs → entriesOf b ≡ rs
   unfolding entriesOf rendered
   entries-back f =
-      ap (λ m. tab m (λ i. entryAt b (start b i))) count-back ∙ sym (tab-entries b n) ∙ entries-in b rs 0 (inFours order ++ (inFour n ++ inFour t)) f refl
+      ap (λ m. tab m (λ i. entryAt b (recordStart b i))) count-back ∙ sym (tab-entries b n) ∙ entries-in b rs 0 (inFours order ++ (inFour n ++ inFour t)) f refl
 
   pub listed-back : (i : ℕ) → i < length order → getD order i 0 < 4294967296 → listed b i ≡ getD order i 0
   unfolding listed rendered inFours
@@ -107,21 +107,21 @@ module _ (rs : List Entry) (order : List ℕ) (few : length rs ≤ 1000) (small 
     fits : All Fits rs
     fits = of-getD Fits rs (entryAt b 0) (λ k h. all-at Good rs k (entryAt b 0) G h .0)
 
-    entry-at : (k : ℕ) → k < n → entryAt b (start b k) ≡ getD rs k (entryAt b 0)
+    entry-at : (k : ℕ) → k < n → entryAt b (recordStart b k) ≡ getD rs k (entryAt b 0)
     unfolding entriesOf
-    entry-at k h = sym (getD-tab (countOf b) (λ i. entryAt b (start b i)) k (entryAt b 0) (subst (λ m. k < m) (sym count-back) h)) ∙ ap (λ l. getD l k (entryAt b 0)) (entries-back fits)
+    entry-at k h = sym (getD-tab (countOf b) (λ i. entryAt b (recordStart b i)) k (entryAt b 0) (subst (λ m. k < m) (sym count-back) h)) ∙ ap (λ l. getD l k (entryAt b 0)) (entries-back fits)
 
-    ruled-at : (k : ℕ) → k < n → ruledAt b (start b k) ≡ true
+    ruled-at : (k : ℕ) → k < n → ruledAt b (recordStart b k) ≡ true
     unfolding ruledAt entryAt
     ruled-at k h =
         let r = getD rs k (entryAt b 0) in
-        ap (λ (e : Entry). ruled (e .kind) (e .number) (e .earlier)) (entry-at k h) ∙ and-fst (ruled (r .kind) (r .number) (r .earlier)) (leb (length (r .label)) 255) (all-at Good rs k (entryAt b 0) G h .1)
+        ap (λ (e : Entry). recordRuled (e .kind) (e .number) (e .earlier)) (entry-at k h) ∙ and-fst (recordRuled (r .kind) (r .number) (r .earlier)) (leb (length (r .label)) 255) (all-at Good rs k (entryAt b 0) G h .1)
 
     follows : follow b (countOf b) (trailerAt b) ≡ true
     unfolding follow
     follows =
         rw (count-back, trailer-back)
-        (both (eqb (start b n) t) (every n (λ i. ruledAt b (start b i))) (eq-eqb (start b n) t end-back) (every-of n (λ i. ruledAt b (start b i)) ruled-at))
+        (both (eqb (recordStart b n) t) (every n (λ i. ruledAt b (recordStart b i))) (eq-eqb (recordStart b n) t end-back) (every-of n (λ i. ruledAt b (recordStart b i)) ruled-at))
 
     -- a rendered roll is framed as one
     pub rendered-framed : framed b ≡ true
@@ -135,10 +135,10 @@ module _ (rs : List Entry) (order : List ℕ) (few : length rs ≤ 1000) (small 
         follows
 
   module _ (G : All Good rs) (L : Lists rs order) where
-    value-at : (i : ℕ) → i < n → (k : ℕ) × (k < n) × (start b k ≡ listed b i) × (listed b i ≡ getD order i 0)
+    value-at : (i : ℕ) → i < n → (k : ℕ) × (k < n) × (recordStart b k ≡ listed b i) × (listed b i ≡ getD order i 0)
     value-at i h =
         let (k, l, e) = L .starts i h in
-        let s : start b k ≡ getD order i 0 = start-back k l ∙ e in
+        let s : recordStart b k ≡ getD order i 0 = start-back k l ∙ e in
         let g : getD order i 0 < 4294967296 = omega (arith, s, ends-before b k n l, end-back, t-small) in
         let v = listed-back i (subst (λ m. i < m) (sym (L .many)) h) g in
         (k, l, s ∙ sym v, v)
@@ -154,7 +154,7 @@ module _ (rs : List Entry) (order : List ℕ) (few : length rs ≤ 1000) (small 
     once-at i h =
         let (k, l, e, v) = value-at i h in
         both (isStart b (listed b i)) (not (some i (λ k. eqb (listed b k) (listed b i))))
-        (some-of (countOf b) (λ k. eqb (start b k) (listed b i)) k (subst (λ m. k < m) (sym count-back) l) (eq-eqb (start b k) (listed b i) e))
+        (some-of (countOf b) (λ k. eqb (recordStart b k) (listed b i)) k (subst (λ m. k < m) (sym count-back) l) (eq-eqb (recordStart b k) (listed b i) e))
         (ap not (not-before i h))
 
     -- by the former rule it is a roll, in whatever order its starts are listed
@@ -168,7 +168,7 @@ module _ (rs : List Entry) (few : length rs ≤ 1000) (small : length (rendered 
   abbrev u : List ℕ
   u = rendered rs (startsOf rs)
 
-  listed-start : (i : ℕ) → i < length rs → listed u i ≡ start u i
+  listed-start : (i : ℕ) → i < length rs → listed u i ≡ recordStart u i
   listed-start i h =
       let s = start-back rs (startsOf rs) few small i h in
       let g : getD (startsOf rs) i 0 < 4294967296 =
@@ -179,33 +179,33 @@ module _ (rs : List Entry) (few : length rs ≤ 1000) (small : length (rendered 
   unfolding isRoll
   rendered-is =
       both (framed u) (inOrder u) (rendered-framed rs (startsOf rs) few small G (length-starts-from 0 rs))
-      (every-of (countOf u) (λ i. eqb (listed u i) (start u i)) (λ i h.
-      eq-eqb (listed u i) (start u i) (listed-start i (subst (λ m. i < m) (count-back rs (startsOf rs) few small) h))))
+      (every-of (countOf u) (λ i. eqb (listed u i) (recordStart u i)) (λ i h.
+      eq-eqb (listed u i) (recordStart u i) (listed-start i (subst (λ m. i < m) (count-back rs (startsOf rs) few small) h))))
 
 -- ---- a roll is rendered from its records
 
 module _ (b : List ℕ) (B : Bytes b) (F : framed b ≡ true) where
-  rules-at : (k : ℕ) → k < countOf b → ruled (getD b (start b k) 0) (fourAt b (start b k + 1)) (fourAt b (start b k + 5)) ≡ true
+  rules-at : (k : ℕ) → k < countOf b → recordRuled (getD b (recordStart b k) 0) (fourAt b (recordStart b k + 1)) (fourAt b (recordStart b k + 5)) ≡ true
   unfolding ruledAt
   rules-at k l = follow-ruled b (countOf b) (trailerAt b) (framed-following b F) k l
 
-  good-at : (k : ℕ) → k < countOf b → Good (entryAt b (start b k))
+  good-at : (k : ℕ) → k < countOf b → Good (entryAt b (recordStart b k))
   unfolding entryAt
   good-at k l =
-      let at = start b k in
+      let at = recordStart b k in
       let L = getD b (at + 9) 0 in
       let short : length (take L (drop (at + 10) b)) ≤ 255 = omega (arith, length-take L (drop (at + 10) b), B (at + 9)) in (
         (four-small b (at + 1) B, four-small b (at + 5) B),
-        both (ruled (getD b at 0) (fourAt b (at + 1)) (fourAt b (at + 5))) (leb (length (take L (drop (at + 10) b))) 255) (rules-at k l) (le-leb (length (take L (drop (at + 10) b))) 255 short),
+        both (recordRuled (getD b at 0) (fourAt b (at + 1)) (fourAt b (at + 5))) (leb (length (take L (drop (at + 10) b))) 255) (rules-at k l) (le-leb (length (take L (drop (at + 10) b))) 255 short),
       )
 
   -- each record that is read keeps the rules
   pub good-framed : All Good (entriesOf b)
   unfolding entriesOf
   good-framed =
-      of-getD Good (tab (countOf b) (λ i. entryAt b (start b i))) (entryAt b 0)
-      (λ k h. let l : k < countOf b = subst (λ m. k < m) (length-tab (countOf b) (λ i. entryAt b (start b i))) h in
-      subst Good (sym (getD-tab (countOf b) (λ i. entryAt b (start b i)) k (entryAt b 0) l)) (good-at k l))
+      of-getD Good (tab (countOf b) (λ i. entryAt b (recordStart b i))) (entryAt b 0)
+      (λ k h. let l : k < countOf b = subst (λ m. k < m) (length-tab (countOf b) (λ i. entryAt b (recordStart b i))) h in
+      subst Good (sym (getD-tab (countOf b) (λ i. entryAt b (recordStart b i)) k (entryAt b 0) l)) (good-at k l))
 
   -- the bytes of the trailer's list
   list-back : (m : ℕ) → trailerAt b + 4 * m ≤ length b → inFours (tab m (listed b)) ≡ take (4 * m) (drop (trailerAt b) b)
@@ -242,8 +242,8 @@ module _ (b : List ℕ) (B : Bytes b) (F : framed b ≡ true) where
       let n = countOf b in
       let t = trailerAt b in
       let S = framed-sized b F in
-      let J : joined (tab n (λ i. entryAt b (start b i))) ≡ take t b = records-back b B n (omega (arith, S .ends, S .whole)) ∙ ap (λ m. take m b) (S .ends) in
-      let j : length (joined (tab n (λ i. entryAt b (start b i)))) ≡ t = ap length J ∙ length-take-le t b (omega (arith, S .whole)) in
+      let J : joined (tab n (λ i. entryAt b (recordStart b i))) ≡ take t b = records-back b B n (omega (arith, S .ends, S .whole)) ∙ ap (λ m. take m b) (S .ends) in
+      let j : length (joined (tab n (λ i. entryAt b (recordStart b i)))) ≡ t = ap length J ∙ length-take-le t b (omega (arith, S .whole)) in
       let a : length b - 8 ≡ t + 4 * n = omega (arith, S .whole) in
       let c : length b - 4 ≡ t + 4 * n + 4 = omega (arith, S .whole) in
       let w : drop (4 * n + 8) (drop t b) ≡ [] = drop-drop (4 * n + 8) t b ∙ ap (λ m. drop m b) (let z : t + (4 * n + 8) ≡ length b = omega (arith, S .whole) in z) ∙ drop-length b in
@@ -252,20 +252,20 @@ module _ (b : List ℕ) (B : Bytes b) (F : framed b ≡ true) where
       sym (take-append-drop t b)
       ∙ ap₂ _++_ (sym J) (parts n (drop t b) w
       ∙ ap₂ _++_ (sym (list-back n (omega (arith, S .whole)))) (ap₂ _++_ (sym X) (sym Y)))
-      ∙ ap₂ (λ x y. joined (tab n (λ i. entryAt b (start b i))) ++ (inFours (tab n (listed b)) ++ (inFour x ++ inFour y))) (sym (length-tab n (λ i. entryAt b (start b i)))) (sym j)
+      ∙ ap₂ (λ x y. joined (tab n (λ i. entryAt b (recordStart b i))) ++ (inFours (tab n (listed b)) ++ (inFour x ++ inFour y))) (sym (length-tab n (λ i. entryAt b (recordStart b i)))) (sym j)
 
   -- the starts of the records that are read are where those stand
-  starts-are : tab (countOf b) (start b) ≡ startsOf (entriesOf b)
+  starts-are : tab (countOf b) (recordStart b) ≡ startsOf (entriesOf b)
   unfolding rendered entriesOf
   starts-are =
-      let rs = tab (countOf b) (λ i. entryAt b (start b i)) in
-      let l : length rs ≡ countOf b = length-tab (countOf b) (λ i. entryAt b (start b i)) in
+      let rs = tab (countOf b) (λ i. entryAt b (recordStart b i)) in
+      let l : length rs ≡ countOf b = length-tab (countOf b) (λ i. entryAt b (recordStart b i)) in
       let e = starts-in b rs 0 (inFours (tab (countOf b) (listed b)) ++ (inFour (length rs) ++ inFour (length (joined rs)))) framed-is .1 in
       sym (tab-starts b (countOf b)) ∙ ap (startList b 0) (sym l) ∙ e
 
   pub many-entries : length (entriesOf b) ≡ countOf b
   unfolding entriesOf
-  many-entries = length-tab (countOf b) (λ i. entryAt b (start b i))
+  many-entries = length-tab (countOf b) (λ i. entryAt b (recordStart b i))
 
 -- each record of a roll keeps the rules
 pub good-entries : (b : List ℕ) → Bytes b → isRoll b ≡ true → All Good (entriesOf b)
@@ -277,7 +277,7 @@ good-entries b B R = good-framed b B (is-framed b R)
 pub roll-is : (b : List ℕ) → Bytes b → isRoll b ≡ true → b ≡ rendered (entriesOf b) (startsOf (entriesOf b))
 roll-is b B R =
     let F = is-framed b R in
-    framed-is b B F ∙ ap (rendered (entriesOf b)) (tab-ext 0 (countOf b) (listed b) (start b) (is-listing b R) ∙ starts-are b B F)
+    framed-is b B F ∙ ap (rendered (entriesOf b)) (tab-ext 0 (countOf b) (listed b) (recordStart b) (is-listing b R) ∙ starts-are b B F)
 
 -- two rolls have the same records in the same order exactly when they have the same bytes
 pub same-bytes : (a b : List ℕ) → Bytes a → Bytes b → isRoll a ≡ true → isRoll b ≡ true → (entriesOf a ≡ entriesOf b) ↔ (a ≡ b)
@@ -294,10 +294,10 @@ is-former b R = both (framed b) (every (countOf b) (listedOnce b)) (is-framed b 
     once i h =
         let e = is-listing b R i h in
         both (isStart b (listed b i)) (not (some i (λ k. eqb (listed b k) (listed b i))))
-        (some-of (countOf b) (λ k. eqb (start b k) (listed b i)) i h (eq-eqb (start b i) (listed b i) (sym e)))
+        (some-of (countOf b) (λ k. eqb (recordStart b k) (listed b i)) i h (eq-eqb (recordStart b i) (listed b i) (sym e)))
         (ap not (refuted (some i (λ k. eqb (listed b k) (listed b i))) (λ q.
         let (k, l, w) = some-at i (λ k. eqb (listed b k) (listed b i)) q in
-        let s : start b k ≡ start b i = sym (is-listing b R k (omega arith)) ∙ eqb-true (listed b k) (listed b i) w ∙ e in
+        let s : recordStart b k ≡ recordStart b i = sym (is-listing b R k (omega arith)) ∙ eqb-true (listed b k) (listed b i) w ∙ e in
         absurd (omega (arith, start-apart b k i s)))))
 
 -- a list rises
@@ -315,7 +315,7 @@ in-order b = (λ R. (is-former b R, rises R), λ p. back (p .0) (p .1))
     back : isFormerRoll b ≡ true → Rises b → isRoll b ≡ true
     back R up =
         both (framed b) (inOrder b) (former-framed b R)
-        (every-of (countOf b) (λ i. eqb (listed b i) (start b i)) (λ i h. eq-eqb (listed b i) (start b i) (listed-in-order b (former-listing b R) up i h)))
+        (every-of (countOf b) (λ i. eqb (listed b i) (recordStart b i)) (λ i h. eq-eqb (listed b i) (recordStart b i) (listed-in-order b (former-listing b R) up i h)))
 
 -- an older roll comes over: its records, rendered anew, are a roll of as many bytes that holds the same records
 pub comes-over : (b : List ℕ) → Bytes b → isFormerRoll b ≡ true

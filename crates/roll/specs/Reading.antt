@@ -6,7 +6,7 @@ use lib.Dec.{eqb, leb}
 use lib.ListN.{length, getD, take, drop}
 use Rattle.lists.specs.Tests.{every, some}
 use Rattle.lists.specs.Tab.{tab}
-use Rattle.roll.specs.Format.{Entry, ruled}
+use Rattle.roll.specs.Format.{Entry, recordRuled}
 
 -- the integer in the 4 bytes at `at`
 unfoldable pub fourAt : List ℕ → ℕ → ℕ
@@ -31,17 +31,17 @@ unfoldable pub sizeAt : List ℕ → ℕ → ℕ
 sizeAt b at = 10 + getD b (at + 9) 0
 
 -- where record i starts: the first at byte 0, each other where the one before it ends
-unfoldable pub start : List ℕ → ℕ → ℕ
-start b zero = 0
-start b (suc i) = start b i + sizeAt b (start b i)
+unfoldable pub recordStart : List ℕ → ℕ → ℕ
+recordStart b zero = 0
+recordStart b (suc i) = recordStart b i + sizeAt b (recordStart b i)
 
 -- a record starts at `at`
 unfoldable pub isStart : List ℕ → ℕ → Bool
-isStart b at = some (countOf b) (λ i. eqb (start b i) at)
+isStart b at = some (countOf b) (λ i. eqb (recordStart b i) at)
 
 -- the kind and the numbers of the record at `at` keep the rules
 unfoldable pub ruledAt : List ℕ → ℕ → Bool
-ruledAt b at = ruled (getD b at 0) (fourAt b (at + 1)) (fourAt b (at + 5))
+ruledAt b at = recordRuled (getD b at 0) (fourAt b (at + 1)) (fourAt b (at + 5))
 
 -- number i of the list is where a record starts, and is none of those before it
 unfoldable pub listedOnce : List ℕ → ℕ → Bool
@@ -49,7 +49,7 @@ listedOnce b i = isStart b (listed b i) && not (some i (λ k. eqb (listed b k) (
 
 -- n records that keep the rules follow each other from byte 0 up to t
 unfoldable pub follow : List ℕ → ℕ → ℕ → Bool
-follow b n t = eqb (start b n) t && every n (λ i. ruledAt b (start b i))
+follow b n t = eqb (recordStart b n) t && every n (λ i. ruledAt b (recordStart b i))
 
 -- at most 1,000 records and 65,536 bytes; the trailer has one number for each record, and the two last numbers
 abbrev pub sized : List ℕ → Bool
@@ -61,7 +61,7 @@ framed b = sized b && follow b (countOf b) (trailerAt b)
 
 -- the rule for the list: number i is where record i starts, so the starts stand in rising order
 abbrev pub inOrder : List ℕ → Bool
-inOrder b = every (countOf b) (λ i. eqb (listed b i) (start b i))
+inOrder b = every (countOf b) (λ i. eqb (listed b i) (recordStart b i))
 
 -- the bytes are a roll
 unfoldable pub isRoll : List ℕ → Bool
@@ -77,7 +77,7 @@ isFormerRoll b = framed b && eachOnce b
 
 -- the records of a roll, in the order in which they stand
 unfoldable pub entriesOf : List ℕ → List Entry
-entriesOf b = tab (countOf b) (λ i. entryAt b (start b i))
+entriesOf b = tab (countOf b) (λ i. entryAt b (recordStart b i))
 
 -- a roll fills the first bytes of a lent slice s, their count given with it: those bytes, and none where the count passes the slice
 unfoldable pub rollBytes : List ℕ → ℕ → List ℕ

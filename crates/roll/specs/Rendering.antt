@@ -9,8 +9,8 @@ use lib.Seq.{drop-cons, take-add, drop-drop, getD-drop, take-append-seam, drop-a
 use Rattle.lists.specs.Tab.{tab, is-tab}
 use Rattle.lists.specs.Elements.{All}
 use Rattle.roll.specs.Format.{Entry, bytesOf, sizeOf, inFour, joined, startsFrom}
-use Rattle.roll.specs.Reading.{fourAt, entryAt, sizeAt, start}
-use Rattle.roll.specs.Numbers.{Bytes, four-written, read-back}
+use Rattle.roll.specs.Reading.{fourAt, entryAt, sizeAt, recordStart}
+use Rattle.roll.specs.NumberLaws.{Bytes, four-written, read-back}
 
 -- ---- sizes
 
@@ -48,8 +48,8 @@ module _ (b : List ℕ) where
   start-after zero p = refl
   start-after (suc i) p = start-after i (p + sizeAt b p)
 
-  pub start-at : (i : ℕ) → start b i ≡ startAt b 0 i
-  unfolding start startAt
+  pub start-at : (i : ℕ) → recordStart b i ≡ startAt b 0 i
+  unfolding recordStart startAt
   start-at zero = refl
   start-at (suc i) = ap (λ x. x + sizeAt b x) (start-at i) ∙ sym (start-after i 0)
 
@@ -69,8 +69,8 @@ module _ (b : List ℕ) where
   getD-starts (suc n) p zero h = refl
   getD-starts (suc n) p (suc k) h = getD-starts n (p + sizeAt b p) k (le-of-suc-le-suc h)
 
-  pub tab-starts : (n : ℕ) → startList b 0 n ≡ tab n (start b)
-  tab-starts n = is-tab 0 n (start b) (startList b 0 n) (length-starts n 0) (λ k h. getD-starts n 0 k h ∙ sym (start-at k))
+  pub tab-starts : (n : ℕ) → startList b 0 n ≡ tab n (recordStart b)
+  tab-starts n = is-tab 0 n (recordStart b) (startList b 0 n) (length-starts n 0) (λ k h. getD-starts n 0 k h ∙ sym (start-at k))
 
   length-entries : (n p : ℕ) → length (entryList b p n) ≡ n
   unfolding entryList
@@ -83,9 +83,9 @@ module _ (b : List ℕ) where
   getD-entries d (suc n) p zero h = refl
   getD-entries d (suc n) p (suc k) h = getD-entries d n (p + sizeAt b p) k (le-of-suc-le-suc h)
 
-  pub tab-entries : (n : ℕ) → entryList b 0 n ≡ tab n (λ i. entryAt b (start b i))
+  pub tab-entries : (n : ℕ) → entryList b 0 n ≡ tab n (λ i. entryAt b (recordStart b i))
   tab-entries n =
-      is-tab (entryAt b 0) n (λ i. entryAt b (start b i)) (entryList b 0 n) (length-entries n 0)
+      is-tab (entryAt b 0) n (λ i. entryAt b (recordStart b i)) (entryList b 0 n) (length-entries n 0)
       (λ k h. getD-entries (entryAt b 0) n 0 k h ∙ ap (entryAt b) (sym (start-at k)))
 
 -- ---- bytes that begin with a record
@@ -192,7 +192,7 @@ module _ (b : List ℕ) (B : Bytes b) where
       ∙ ap (λ j. take j (drop p b)) (sym e)
 
   -- the records of the first bytes, one after the other, are those bytes
-  pub records-back : (n : ℕ) → start b n ≤ length b → joined (tab n (λ i. entryAt b (start b i))) ≡ take (start b n) b
+  pub records-back : (n : ℕ) → recordStart b n ≤ length b → joined (tab n (λ i. entryAt b (recordStart b i))) ≡ take (recordStart b n) b
   records-back n h =
       let e = start-at b n in
       let g : startAt b 0 n ≤ length b = subst (λ m. m ≤ length b) e h in

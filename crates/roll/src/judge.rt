@@ -5,8 +5,8 @@ ghost use Prim.Native.Nat.{_+_, _*_, _≤_};
 ghost use lib.Dec.{eqb, leb};
 ghost use lib.ListN.{length, replicate};
 ghost use Rattle.lists.specs.Tests.{every};
-ghost use Rattle.roll.specs.Format.{ruled};
-ghost use Rattle.roll.specs.Reading.{sizeAt, start, ruledAt, follow, listed, listedOnce, countOf, trailerAt, sized, isRoll, isFormerRoll, holdsRoll, holdsFormerRoll};
+ghost use Rattle.roll.specs.Format.{recordRuled};
+ghost use Rattle.roll.specs.Reading.{sizeAt, recordStart, ruledAt, follow, listed, listedOnce, countOf, trailerAt, sized, isRoll, isFormerRoll, holdsRoll, holdsFormerRoll};
 ghost use Rattle.roll.specs.Roll.{Sized, Marked};
 use super::layout::count_in;
 use super::layout::earlier_at;
@@ -19,7 +19,7 @@ use super::numbers::wide;
 
 // Whether a record's kind and numbers keep the rules.
 pub fn is_ruled(kind: usize, number: usize, earlier: usize) -> bool
-    ensures { λ r. ⌜ r ≡ ruled kind number earlier ⌝ }
+    ensures { λ r. ⌜ r ≡ recordRuled kind number earlier ⌝ }
 {
     if kind < 1 {
         return false;
@@ -103,7 +103,7 @@ fn has_records(b: &[u8], n: usize, t: usize) -> bool
 // Whether n records follow each other from byte 0 up to t, and number i of the trailer's list is where record i starts.
 fn lists_in_order(b: &[u8], n: usize, t: usize) -> bool
     requires { ⌜ (n ≡ countOf (now b)) × (t ≡ trailerAt (now b)) × (n ≤ 1000) × (length (now b) ≤ 65536) × (t + 4 * n + 8 ≡ length (now b)) ⌝ }
-    ensures { λ r. ⌜ r ≡ (follow (now (b .entry)) n t && every n (λ i. eqb (listed (now (b .entry)) i) (start (now (b .entry)) i))) ⌝ }
+    ensures { λ r. ⌜ r ≡ (follow (now (b .entry)) n t && every n (λ i. eqb (listed (now (b .entry)) i) (recordStart (now (b .entry)) i))) ⌝ }
 {
     let mut p = 0;
     let mut i = 0;

@@ -13,8 +13,9 @@ use lib.Ieee.{Float, nan, add, mul, binary64}
 use Rattle.lists.specs.Tab.{tab, tabFrom, getD-tab, is-tab, tab-ext, fill-more, times, times-more, times-same}
 use Rattle.lists.specs.Digits.{in-row, quotient, remainder}
 use Rattle.blocks.specs.Block.{putBlock, put-inside, put-outside}
-use Rattle.blocks.specs.Nine.{transposed9}
-use Rattle.rotations.specs.Rotation.{plusZero, coefficient, weighted, rotated, coefficients, widenedAt, widened, shared, sums}
+use Rattle.blocks.specs.Block9.{transposed9}
+use Rattle.lists.specs.Floats.{plusZero}
+use Rattle.rotations.specs.Rotation.{coefficient, weighted, rotated, coefficients, widenedAt, widened, shared, sums}
 
 -- ---- the coefficients
 

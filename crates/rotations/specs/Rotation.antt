@@ -5,11 +5,9 @@ use Prim.Native.Nat.{ℕ, zero, suc, _+_, _*_, _/_, _%_, _^_}
 use lib.ListN.{getD}
 use lib.Ieee.{Float, nan, add, mul, binary64, ofBits}
 use Rattle.lists.specs.Tab.{tab, times}
+use Rattle.lists.specs.Floats.{plusZero}
 
--- +0.0 and 1.0
-abbrev pub plusZero : Float
-plusZero = ofBits binary64 0
-
+-- 1.0
 abbrev pub one : Float
 one = ofBits binary64 0x3ff0_0000_0000_0000
 

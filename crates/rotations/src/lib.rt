@@ -3,10 +3,9 @@
 ghost use mathlib.Core.Path.{_≡_};
 ghost use Prim.Native.Nat.{ℕ, _+_, _*_, _<_, _≤_};
 ghost use lib.ListN.{length, getD};
-ghost use lib.Ieee.{Float, nan};
-ghost use mathlib.Core.List.{List};
+ghost use lib.Ieee.{nan};
 ghost use Rattle.blocks.specs.Block.{putBlock};
-ghost use Rattle.rotations.specs.Rotation.{coefficients, rotated, widenedAt, widened, shared, sums};
+ghost use Rattle.rotations.specs.Rotation.{coefficients, widenedAt, widened, shared, sums};
 
 // The coefficients of old number q, from those of one leg less: before has w * w, into has 9 * w * w.
 fn widen_row(into: &mut [f64], before: &[f64], m: &[f64; 9], w: usize, q: usize)
@@ -75,9 +74,9 @@ fn sums9(c: &[f64], t: &[f64], first: usize) -> [f64; 9]
     s
 }
 
-// A block of two legs rotated by the matrix whose coefficients c has.
+// A block of two legs, each new number the sum of the old ones times their coefficients: with the coefficients of a matrix the block rotated by it.
 pub fn rotated9(c: &[f64; 81], t: [f64; 9]) -> [f64; 9]
-    ensures { λ r. ⌜ ((m : List Float) → now (c .entry) ≡ coefficients m 2 9 → r ≡ rotated m 2 t) ⌝ }
+    ensures { λ r. ⌜ r ≡ sums 9 9 9 0 (now (c .entry)) t ⌝ }
 {
     sums9(c, &t, 0)
 }
@@ -140,9 +139,9 @@ fn share27(s: [f64; 27], c: &[f64], at: usize, x: f64) -> [f64; 27]
     r
 }
 
-// A block of three legs rotated by the matrix whose coefficients c has: all 27 sums side by side.
+// The same of three legs: all 27 sums side by side.
 pub fn rotated27(c: &[f64; 729], t: [f64; 27]) -> [f64; 27]
-    ensures { λ r. ⌜ ((m : List Float) → now (c .entry) ≡ coefficients m 3 27 → r ≡ rotated m 3 t) ⌝ }
+    ensures { λ r. ⌜ r ≡ sums 27 27 27 0 (now (c .entry)) t ⌝ }
 {
     let mut s = [0.0f64; 27];
     for q in 0..27usize {
@@ -161,9 +160,9 @@ fn write18(r: &mut [f64], b: usize, v: [f64; 18])
     lists::copy_all(&mut r[at..at + 18], &v);
 }
 
-// A block of four legs rotated by the matrix whose coefficients c has: 18 sums side by side four times, then the last nine.
+// The same of four legs: 18 sums side by side four times, then the last nine.
 pub fn rotated81(c: &[f64; 6561], t: [f64; 81]) -> [f64; 81]
-    ensures { λ r. ⌜ ((m : List Float) → now (c .entry) ≡ coefficients m 4 81 → r ≡ rotated m 4 t) ⌝ }
+    ensures { λ r. ⌜ r ≡ sums 81 81 81 0 (now (c .entry)) t ⌝ }
 {
     let mut r = [0.0f64; 81];
     for h in 0..4usize {

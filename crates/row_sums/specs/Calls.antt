@@ -1,6 +1,6 @@
 -- What the guards of row_sums_fc2 and replace_block_fc2 tell, and what the calls leave by their answers. Assumes nothing.
 use mathlib.Core.Path.{_≡_, refl, sym, ap, _∙_}
-use mathlib.Core.Bool.{Bool, true, false, not, _&&_, _||_, true≢false, false≢true}
+use mathlib.Core.Bool.{true, false, not, _&&_, _||_}
 use mathlib.Core.List.{List, [], _∷_}
 use Prim.Native.Nat.{ℕ, _+_, _*_, _≤_, _<_}
 use native.Mathlib.Omega.{arith}
@@ -12,15 +12,16 @@ use Rattle.lists.specs.Digits.{horner}
 use Rattle.lists.specs.Tests.{and-fst, and-snd}
 use Rattle.tables.specs.declared.Answer.{Answer}
 use Rattle.tables.specs.declared.Answer.the-variants.{Done}
-use Rattle.tables.specs.declared.Refusal.the-variants.{CountAboveLimit, WrongLength, IndexOutOfRange, OffGrid}
-use Rattle.tables.specs.Answers.{isRefusal, after, refuseIf, is-done, after-refusal, after-done, passed, refused-call, done-call}
-use Rattle.tables.specs.Conditions.{anyAbove, anyWrong, not-above, not-wrong, or-false}
-use Rattle.tables.specs.Lengths.{setLength, set-length2}
+use Rattle.tables.specs.declared.Refusal.the-variants.{IndexOutOfRange, OffGrid}
+use Rattle.tables.specs.Answers.{isRefusal, after, andThen, first-refuses, first-passes, both-done, is-done, after-refusal, after-done, passed, refused-call, done-call}
+use Rattle.tables.specs.Conditions.{or-false}
+use Rattle.tables.specs.Full.{done-full}
+use Rattle.tables.specs.Lengths.{set-length2}
 use Rattle.tables.specs.Limits.{limit2}
 use Rattle.blocks.specs.Block.{block, putBlock}
 use Rattle.lines.specs.Lines.{Sized, block-fits}
 use Rattle.grid.specs.Grid.{nineOnGrid}
-use Rattle.row_sums.specs.RowSums.{rowSums, corrected, judgedLengths, judgedSums, judgedBlock, judgedReplace, rowSumsFc2, replaced, replaceBlock}
+use Rattle.row_sums.specs.RowSums.{rowSums, corrected, judgedSums, judgedBlock, judgedReplace, rowSumsFc2, replaced, replaceBlock}
 
 -- a set of n atoms with nine sums for each, and a block of it
 pub record Ready (i j n set sums : ℕ) : Type 0 where
@@ -51,54 +52,30 @@ module _ {i j n set sums : ℕ} (r : Ready i j n set sums) where
 
 -- ---- the guards
 
--- refusals 1 and 2 alone, and before others
-stops : (b c : Bool) (next : Answer) → isRefusal (refuseIf b CountAboveLimit (refuseIf c WrongLength Done)) ≡ true
-    → refuseIf b CountAboveLimit (refuseIf c WrongLength Done) ≡ refuseIf b CountAboveLimit (refuseIf c WrongLength next)
-stops true c next e = refl
-stops false true next e = refl
-stops false false next e = absurd (false≢true e)
-
-goes : (b c : Bool) (next : Answer) → isRefusal (refuseIf b CountAboveLimit (refuseIf c WrongLength Done)) ≡ false
-    → next ≡ refuseIf b CountAboveLimit (refuseIf c WrongLength next)
-goes true c next e = absurd (true≢false e)
-goes false true next e = absurd (true≢false e)
-goes false false next e = refl
-
 module _ (lenSet lenSums n : ℕ) (a : Answer) (e : a ≡ judgedSums lenSet lenSums n) where
-  abbrev above : Bool
-  above = anyAbove limit2 (n ∷ [])
+  pub lengths-refuse : (next : Answer) → isRefusal a ≡ true → a ≡ andThen (judgedSums lenSet lenSums n) next
+  lengths-refuse next h = first-refuses a next h ∙ ap (λ b. andThen b next) e
 
-  abbrev wrong : Bool
-  wrong = anyWrong ((lenSet, setLength n n 1) ∷ (lenSums, n * 9) ∷ [])
-
-  pub lengths-refuse : (next : Answer) → isRefusal a ≡ true → a ≡ judgedLengths lenSet lenSums n next
-  lengths-refuse next h = e ∙ stops above wrong next (ap isRefusal (sym e) ∙ h)
-
-  pub lengths-pass : (next : Answer) → isRefusal a ≡ false → next ≡ judgedLengths lenSet lenSums n next
-  lengths-pass next h = goes above wrong next (ap isRefusal (sym e) ∙ h)
+  pub lengths-pass : (next : Answer) → isRefusal a ≡ false → next ≡ andThen (judgedSums lenSet lenSums n) next
+  lengths-pass next h = first-passes a next h ∙ ap (λ b. andThen b next) e
 
   pub lengths-known : isRefusal a ≡ false → Sized n n lenSet × (lenSums ≡ n * 9)
   lengths-known h =
-      let (c, r) = passed above CountAboveLimit _ (sym e ∙ is-done a h) in
-      let (l, _) = passed wrong WrongLength Done r in
-      let small = not-above limit2 (n ∷ []) c .0 in
-      let lens = not-wrong ((lenSet, setLength n n 1) ∷ (lenSums, n * 9) ∷ []) l in
-      (record { few = small; small = small; long = lens .0 ∙ set-length2 n n }, lens .1 .0)
+      let (few, long, others) = done-full limit2 1 lenSet ((lenSums, n * 9) ∷ []) n (sym e ∙ is-done a h) in
+      (record { few = few; small = few; long = long ∙ set-length2 n n }, others .0)
 
 pub accepted : (set : List Float) (lenSums : ℕ) (new : List Float) (i j n : ℕ) → isRefusal (judgedReplace set lenSums new i j n) ≡ false
     → Accepted set lenSums new i j n
 unfolding judgedReplace judgedBlock
 accepted set lenSums new i j n r =
-    let (q1, e1) = passed (anyAbove limit2 (n ∷ [])) CountAboveLimit _ (is-done (judgedReplace set lenSums new i j n) r) in
-    let (q2, e2) = passed (anyWrong ((length set, setLength n n 1) ∷ (lenSums, n * 9) ∷ [])) WrongLength _ e1 in
+    let (e1, e2) = both-done (judgedSums (length set) lenSums n) _ (is-done (judgedReplace set lenSums new i j n) r) in
     let (q3, e3) = passed (leb n i || leb n j) IndexOutOfRange _ e2 in
     let (q10, e10) = passed (not (nineOnGrid (block 9 (i * n + j) set) && nineOnGrid new)) OffGrid Done e3 in
     let (u, v) = or-false (leb n i) (leb n j) q3 in
     let g = not-false (nineOnGrid (block 9 (i * n + j) set) && nineOnGrid new) q10 in
-    let small = not-above limit2 (n ∷ []) q1 .0 in
-    let lens = not-wrong ((length set, setLength n n 1) ∷ (lenSums, n * 9) ∷ []) q2 in
+    let (few, long, others) = done-full limit2 1 (length set) ((lenSums, n * 9) ∷ []) n e1 in
     record {
-      ready = record { sized = record { few = small; small = small; long = lens .0 ∙ set-length2 n n }; sums-long = lens .1 .0; first = leb-false n i u; second = leb-false n j v };
+      ready = record { sized = record { few = few; small = few; long = long ∙ set-length2 n n }; sums-long = others .0; first = leb-false n i u; second = leb-false n j v };
       old-on = and-fst (nineOnGrid (block 9 (i * n + j) set)) (nineOnGrid new) g;
       new-on = and-snd (nineOnGrid (block 9 (i * n + j) set)) (nineOnGrid new) g;
     }

@@ -1,4 +1,5 @@
 pub mod RowSums
+pub mod Values
 pub mod Calls
-pub mod Rows
+pub mod RowLaws
 pub mod Right

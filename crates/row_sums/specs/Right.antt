@@ -1,15 +1,15 @@
 -- Row sums that were right stay right over any series of edits on the grid, and each edit leaves all else alone (document 02, A.10).
 -- Assumes nothing.
-use mathlib.Core.Path.{_≡_, sym, ap, ap₂, _∙_}
+use mathlib.Core.Path.{_≡_, refl, sym, ap, ap₂, _∙_}
 use mathlib.Core.Logic.{_⊎_, inl, inr}
 use mathlib.Core.Bool.{true, false}
 use mathlib.Core.List.{List, [], _∷_}
 use Prim.Native.Nat.{ℕ, _+_, _*_, _/_, _%_, _≤_, _<_}
-use native.Mathlib.Nat.{mod-lt, div-lt-iff-lt-mul}
+use native.Mathlib.Nat.{mod-lt, div-lt-iff-lt-mul, suc-ne-zero}
 use native.Mathlib.Omega.{arith}
 use lib.Dec.{lit<}
-use lib.ListN.{length, getD}
-use lib.Ieee.{Float, nan, binary64, add}
+use lib.ListN.{length, getD, replicate, getD-replicate}
+use lib.Ieee.{Float, nan, binary64, ofBits, add}
 use Rattle.lists.specs.Cases.{eq-or-ne}
 use Rattle.lists.specs.Digits.{quotient, remainder}
 use Rattle.lists.specs.Tab.{length-tab, getD-tab, is-tab, times-same}
@@ -17,12 +17,12 @@ use Rattle.lists.specs.Tests.{split, every-at}
 use Rattle.tables.specs.declared.Answer.{Answer}
 use Rattle.tables.specs.Answers.{isRefusal, after, after-refusal, after-done}
 use Rattle.blocks.specs.Block.{block, putBlock, getD-block, length-putBlock, put-inside, put-outside, block-put, block-put-other, fits}
-use Rattle.lines.specs.Nine.{getD-nine, in-nine, block-at}
+use Rattle.lines.specs.Sums3x3.{getD-nine, in-nine, block-at}
 use Rattle.lines.specs.Lines.{place-in, block-fits}
 use Rattle.grid.specs.Grid.{onGrid, nineOnGrid}
 use Rattle.grid.specs.Sums.{passOver, AllOnGrid}
 use Rattle.grid.specs.Edits.{edited, ButAt, stays-right}
-use Rattle.row_sums.specs.RowSums.{entry, rowSums, corrected, judgedReplace, replaced, replaceBlock}
+use Rattle.row_sums.specs.RowSums.{blockEntry, rowSums, corrected, judgedReplace, replaced, replaceBlock}
 use Rattle.row_sums.specs.Calls.{Accepted, accepted, block-in}
 
 -- a full set of n atoms, every entry on the grid
@@ -76,12 +76,12 @@ module _ (n : ℕ) (set sums new : List Float) (i j : ℕ) (G : OnGrid n set) (F
   sums-long = ap length F ∙ length-rowSums n set
 
   -- sum q before
-  right-at : (q : ℕ) → q < n * 9 → getD sums q nan ≡ passOver n (entry n set (q / 9) (q % 9))
+  right-at : (q : ℕ) → q < n * 9 → getD sums q nan ≡ passOver n (blockEntry n set (q / 9) (q % 9))
   unfolding rowSums
   right-at q h = ap (λ l. getD l q nan) F ∙ getD-tab (n * 9) _ q nan h
 
   -- the numbers of the new set
-  here : (k : ℕ) → k < 9 → entry n set′ i k j ≡ getD new k nan
+  here : (k : ℕ) → k < 9 → blockEntry n set′ i k j ≡ getD new k nan
   here k hk = put-inside 9 b new set (b * 9 + k) (rw (G .long) (place-in n n i j k hi hj hk)) (quotient 9 b k hk) ∙ ap (λ k. getD new k nan) (remainder 9 b k hk)
 
   elsewhere : (q : ℕ) → q < n * n * 9 → (q / 9 ≡ b → ⊥) → getD set′ q nan ≡ getD set q nan
@@ -97,38 +97,38 @@ module _ (n : ℕ) (set sums new : List Float) (i j : ℕ) (G : OnGrid n set) (F
       go (inr d) = ap onGrid (elsewhere q hq d) ∙ G .entries q hq
 
   -- another atom's row is as it was, and so is atom i's but for block j
-  other-row : (a k l : ℕ) → a < n → l < n → k < 9 → (a ≡ i → ⊥) → entry n set′ a k l ≡ entry n set a k l
+  other-row : (a k l : ℕ) → a < n → l < n → k < 9 → (a ≡ i → ⊥) → blockEntry n set′ a k l ≡ blockEntry n set a k l
   other-row a k l ha hl hk d =
       elsewhere ((a * n + l) * 9 + k) (place-in n n a l k ha hl hk) (λ e. d (same-block n a l i j hl hj (sym (quotient 9 (a * n + l) k hk) ∙ e) .0))
 
-  row-but : (k : ℕ) → k < 9 → ButAt n j (entry n set i k) (entry n set′ i k)
+  row-but : (k : ℕ) → k < 9 → ButAt n j (blockEntry n set i k) (blockEntry n set′ i k)
   row-but k hk l hl d =
       elsewhere ((i * n + l) * 9 + k) (place-in n n i l k hi hl hk) (λ e. d (same-block n i l i j hl hj (sym (quotient 9 (i * n + l) k hk) ∙ e) .1))
 
-  row-grid : (k : ℕ) → k < 9 → AllOnGrid n (entry n set i k)
+  row-grid : (k : ℕ) → k < 9 → AllOnGrid n (blockEntry n set i k)
   row-grid k hk l hl = G .entries ((i * n + l) * 9 + k) (place-in n n i l k hi hl hk)
 
-  row-grid′ : (k : ℕ) → k < 9 → AllOnGrid n (entry n set′ i k)
+  row-grid′ : (k : ℕ) → k < 9 → AllOnGrid n (blockEntry n set′ i k)
   row-grid′ k hk l hl = stays-on-grid ((i * n + l) * 9 + k) (place-in n n i l k hi hl hk)
 
-  same-pass : (a k : ℕ) → a < n → k < 9 → (a ≡ i → ⊥) → passOver n (entry n set a k) ≡ passOver n (entry n set′ a k)
+  same-pass : (a k : ℕ) → a < n → k < 9 → (a ≡ i → ⊥) → passOver n (blockEntry n set a k) ≡ passOver n (blockEntry n set′ a k)
   unfolding passOver
   same-pass a k ha hk d = times-same n _ _ _ (λ l hl s. ap (add binary64 s) (sym (other-row a k l ha hl hk d)))
 
   -- sum q is one of atom i's: less the old number, plus the new
-  own-sum : (q : ℕ) → q < n * 9 → q / 9 ≡ i → getD sums′ q nan ≡ passOver n (entry n set′ (q / 9) (q % 9))
+  own-sum : (q : ℕ) → q < n * 9 → q / 9 ≡ i → getD sums′ q nan ≡ passOver n (blockEntry n set′ (q / 9) (q % 9))
   own-sum q h e =
       let k = q % 9 in
       let hk : k < 9 = in-nine q in
       put-inside 9 i (corrected (block 9 i sums) (block 9 b set) new) sums q (rw sums-long h) e
       ∙ getD-nine (λ p. edited (getD (block 9 i sums) p nan) (getD (block 9 b set) p nan) (getD new p nan)) k hk
-      ∙ ap₂ (λ s o. edited s o (getD new k nan)) (block-at i sums q e ∙ right-at q h ∙ ap (λ a. passOver n (entry n set a k)) e) (getD-block 9 b set k hk)
-      ∙ ap (λ v. edited (passOver n (entry n set i k)) (entry n set i k j) v) (sym (here k hk))
-      ∙ stays-right n j (entry n set i k) (entry n set′ i k) small hj (row-grid k hk) (row-grid′ k hk) (row-but k hk)
-      ∙ ap (λ a. passOver n (entry n set′ a k)) (sym e)
+      ∙ ap₂ (λ s o. edited s o (getD new k nan)) (block-at i sums q e ∙ right-at q h ∙ ap (λ a. passOver n (blockEntry n set a k)) e) (getD-block 9 b set k hk)
+      ∙ ap (λ v. edited (passOver n (blockEntry n set i k)) (blockEntry n set i k j) v) (sym (here k hk))
+      ∙ stays-right n j (blockEntry n set i k) (blockEntry n set′ i k) small hj (row-grid k hk) (row-grid′ k hk) (row-but k hk)
+      ∙ ap (λ a. passOver n (blockEntry n set′ a k)) (sym e)
 
   -- or another atom's
-  other-sum : (q : ℕ) → q < n * 9 → (q / 9 ≡ i → ⊥) → getD sums′ q nan ≡ passOver n (entry n set′ (q / 9) (q % 9))
+  other-sum : (q : ℕ) → q < n * 9 → (q / 9 ≡ i → ⊥) → getD sums′ q nan ≡ passOver n (blockEntry n set′ (q / 9) (q % 9))
   other-sum q h d =
       put-outside 9 i (corrected (block 9 i sums) (block 9 b set) new) sums q (rw sums-long h) d
       ∙ right-at q h ∙ same-pass (q / 9) (q % 9) (atom-of n q h) (in-nine q) d
@@ -140,7 +140,7 @@ module _ (n : ℕ) (set sums new : List Float) (i j : ℕ) (G : OnGrid n set) (F
     fresh = is-tab nan (n * 9) _ sums′ (length-putBlock 9 i _ sums ∙ sums-long) (λ q h. at-place q h (eq-or-ne (q / 9) i));
   }
     where
-      at-place : (q : ℕ) → q < n * 9 → (q / 9 ≡ i) ⊎ (q / 9 ≡ i → ⊥) → getD sums′ q nan ≡ passOver n (entry n set′ (q / 9) (q % 9))
+      at-place : (q : ℕ) → q < n * 9 → (q / 9 ≡ i) ⊎ (q / 9 ≡ i → ⊥) → getD sums′ q nan ≡ passOver n (blockEntry n set′ (q / 9) (q % 9))
       at-place q h (inl e) = own-sum q h e
       at-place q h (inr d) = other-sum q h d
 
@@ -225,3 +225,30 @@ module _ (set sums new : List Float) (i j n : ℕ) where
   pub alone : Alone set sums new i j n
   unfolding replaceBlock replaced
   alone = record { blocks = blocks-by (split (isRefusal judged)); sums-of = sums-by (split (isRefusal judged)); stored = stored-by }
+
+-- ---- THE LAWS USED: two atoms, every number 1.0; a call with another count, which is refused, between two that are done
+
+abbrev one : Float
+one = ofBits binary64 0x3ff0_0000_0000_0000
+
+abbrev ones : List Float
+ones = replicate 36 one
+
+abbrev edits : List Edit
+edits =
+    record { new = replicate 9 (ofBits binary64 0x4000_0000_0000_0000); i = 0; j = 1; n = 2 }
+    ∷ record { new = replicate 9 one; i = 0; j = 1; n = 3 }
+    ∷ record { new = replicate 9 (ofBits binary64 0); i = 1; j = 1; n = 2 } ∷ []
+
+ones-right : Right 2 ones (rowSums 2 ones)
+unfolding onGrid ofBits
+ones-right = record { grid = record { long = refl; entries = λ q h. ap onGrid (getD-replicate 36 q one nan h) }; fresh = refl }
+
+pub three-edits : let r = afterAll edits (ones, rowSums 2 ones) in r .1 ≡ rowSums 2 (r .0)
+three-edits = series 2 edits ones (rowSums 2 ones) ones-right .fresh
+
+-- the first of them leaves block (1, 0) and the sums of atom 1
+pub others-stay : let r = replaceBlock ones (rowSums 2 ones) (replicate 9 one) 0 1 2 in (block 9 2 (r .1) ≡ block 9 2 ones) × (block 9 1 (r .2) ≡ block 9 1 (rowSums 2 ones))
+others-stay =
+    let a = alone ones (rowSums 2 ones) (replicate 9 one) 0 1 2 in
+    (a .blocks 1 0 (lit< tt) (lit< tt) (λ (e, _). suc-ne-zero 0 e), a .sums-of 1 (lit< tt) (λ e. suc-ne-zero 0 e))

@@ -8,29 +8,28 @@ use lib.Ieee.{Float, nan}
 use Rattle.lists.specs.Tab.{tab}
 use Rattle.tables.specs.declared.Answer.{Answer}
 use Rattle.tables.specs.declared.Answer.the-variants.{Done}
-use Rattle.tables.specs.declared.Refusal.the-variants.{CountAboveLimit, WrongLength, IndexOutOfRange, OffGrid}
-use Rattle.tables.specs.Answers.{after, refuseIf}
-use Rattle.tables.specs.Conditions.{anyAbove, anyWrong}
-use Rattle.tables.specs.Lengths.{setLength}
+use Rattle.tables.specs.declared.Refusal.the-variants.{IndexOutOfRange, OffGrid}
+use Rattle.tables.specs.Answers.{after, refuseIf, andThen}
+use Rattle.tables.specs.Full.{judgedFull}
 use Rattle.tables.specs.Limits.{limit2}
 use Rattle.blocks.specs.Block.{block, putBlock}
-use Rattle.blocks.specs.Nine.{nine}
-use Rattle.lines.specs.Nine.{Sums, sumIn}
+use Rattle.blocks.specs.Block9.{nine}
+use Rattle.lines.specs.Sums3x3.{Sums, sumIn}
 use Rattle.grid.specs.Grid.{nineOnGrid}
 use Rattle.grid.specs.Sums.{passOver}
 use Rattle.grid.specs.Edits.{edited}
 
 -- number k of block (i, j) of a full set of n atoms
-abbrev pub entry : ℕ → List Float → ℕ → ℕ → ℕ → Float
-entry n set i k j = getD set ((i * n + j) * 9 + k) nan
+abbrev pub blockEntry : ℕ → List Float → ℕ → ℕ → ℕ → Float
+blockEntry n set i k j = getD set ((i * n + j) * 9 + k) nan
 
 -- a fresh pass: sum k of atom i is that of number k of its blocks, over the second atom, from 0.0 and rising
 unfoldable pub rowSums : ℕ → List Float → List Float
-rowSums n set = tab (n * 9) (λ q. passOver n (entry n set (q / 9) (q % 9)))
+rowSums n set = tab (n * 9) (λ q. passOver n (blockEntry n set (q / 9) (q % 9)))
 
 -- 3 by 3 sums as nine numbers, row after row
-abbrev pub flat : Sums → List Float
-flat s = nine (λ p. sumIn s p)
+abbrev pub flatSums : Sums → List Float
+flatSums s = nine (λ p. sumIn s p)
 
 -- nine sums after an edit: each less the old number, plus the new
 abbrev pub corrected : List Float → List Float → List Float → List Float
@@ -38,14 +37,9 @@ corrected s old new = nine (λ p. edited (getD s p nan) (getD old p nan) (getD n
 
 -- ---- what is refused
 
--- 1 and 2, and what comes after them
-abbrev pub judgedLengths : ℕ → ℕ → ℕ → Answer → Answer
-judgedLengths lenSet lenSums n next =
-    refuseIf (anyAbove limit2 (n ∷ [])) CountAboveLimit
-    (refuseIf (anyWrong ((lenSet, setLength n n 1) ∷ (lenSums, n * 9) ∷ [])) WrongLength next)
-
+-- 1 and 2: a full set of n atoms, and nine sums for each
 abbrev pub judgedSums : ℕ → ℕ → ℕ → Answer
-judgedSums lenSet lenSums n = judgedLengths lenSet lenSums n Done
+judgedSums lenSet lenSums n = judgedFull limit2 1 lenSet ((lenSums, n * 9) ∷ []) n
 
 -- 3: i or j is not below the count; 10: an entry of the old block or of the incoming one is off the grid
 unfoldable pub judgedBlock : List Float → List Float → ℕ → ℕ → ℕ → Answer
@@ -54,7 +48,7 @@ judgedBlock set new i j n =
     (refuseIf (not (nineOnGrid (block 9 (i * n + j) set) && nineOnGrid new)) OffGrid Done)
 
 unfoldable pub judgedReplace : List Float → ℕ → List Float → ℕ → ℕ → ℕ → Answer
-judgedReplace set lenSums new i j n = judgedLengths (length set) lenSums n (judgedBlock set new i j n)
+judgedReplace set lenSums new i j n = andThen (judgedSums (length set) lenSums n) (judgedBlock set new i j n)
 
 -- ---- the calls
 

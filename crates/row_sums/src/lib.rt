@@ -1,31 +1,30 @@
 // Row sums of a full second-order set (document 02, A.10): made by a fresh pass, and kept up to date while pair blocks are replaced.
 use places::full2;
-use places::with_leg;
+use places::index_of;
 use tables::Answer;
 use tables::Refusal;
 use tables::atoms::SuperAtom;
 use tables::limits::LIMIT2;
+use tables::sets::judge_full;
 ghost use mathlib.Core.Path.{_≡_};
 ghost use Prim.Native.Nat.{_*_};
 ghost use lib.ListN.{length};
 ghost use Rattle.lines.specs.Lines.{Sized};
-ghost use Rattle.row_sums.specs.RowSums.{flat as flatOf, corrected as correctedOf, rowSums, judgedSums, judgedBlock, judgedReplace, rowSumsFc2, replaced, replaceBlock};
+ghost use Rattle.row_sums.specs.RowSums.{flatSums as flatOf, corrected as correctedOf, rowSums, judgedSums, judgedBlock, judgedReplace, rowSumsFc2, replaced, replaceBlock};
 ghost use Rattle.row_sums.specs.Calls.{Ready};
 
 // Refusals 1 and 2, which both calls have.
 fn judge_lengths(fc_len: usize, sums_len: usize, n: usize) -> Answer
     ensures { λ r. ⌜ r ≡ judgedSums «fc_len» «sums_len» n ⌝ }
 {
-    if n > LIMIT2 {
-        return Answer::Refused(Refusal::CountAboveLimit);
+    let a = judge_full(LIMIT2, 1, fc_len, n);
+    if tables::is_refusal(a) {
+        return a;
     }
-    if fc_len != n * n * 9 {
-        return Answer::Refused(Refusal::WrongLength);
+    if sums_len == n * 9 {
+        return a;
     }
-    if sums_len != n * 9 {
-        return Answer::Refused(Refusal::WrongLength);
-    }
-    Answer::Done
+    Answer::Refused(Refusal::WrongLength)
 }
 
 // ---- the sums afresh
@@ -53,7 +52,7 @@ fn sum_rows(sums: &mut [f64], fc: &[f64], n: usize)
     ensures { λ _. ⌜ now (sums .exit) ≡ rowSums n (now (fc .entry)) ⌝ }
 {
     for i in 0..n {
-        let s = lines::line_sums(fc, [[0.0f64; 3]; 3], with_leg(i, n, 0), 1, n);
+        let s = lines::line_sums(fc, [[0.0f64; 3]; 3], index_of(i, n, 0), 1, n);
         blocks::write9(sums, i, flat(s));
     }
 }

@@ -9,10 +9,10 @@ use lib.Dec.{eqb}
 use lib.ListN.{getD}
 use Rattle.lists.specs.Tests.{every, says}
 use Rattle.tables.specs.Conditions.{indexAt, read}
-use Rattle.shift_rows.specs.Rows.{image, Closed, Sent}
+use Rattle.shifts.specs.Rows.{image, Closed, Sent}
 use Rattle.shifts.specs.Placing.{Spread, Placed}
 use Rattle.tables.specs.Shifts.{Shifts, row, p2sAt, s2ppAt, nsymAt, distinct, distinct-says, isNull, isAfter, follows, countsAgree, hasNull, rowsClosed, nsymLands, ruled, Within, Laws, laws, passes}
-use Rattle.tables.specs.Compact.{ShiftTables, Fit, fit-within, shiftsOf, perms-is, p2s-is, s2pp-is}
+use Rattle.tables.specs.Compact.{ShiftTables, TablesFit, fit-within, shiftsOf, perms-is, p2s-is, s2pp-is}
 
 -- s2pp is p for p2s[p] and its images
 unfoldable pub p2sKept : Shifts → Bool
@@ -126,7 +126,7 @@ module _ (S : Shifts) (W : Within S) where
       passes S (all-laws S (record { within = W; null = n′; after = λ t u ht hu. a′ u hu t ht; lands = l′; kept = k′; free = f′ }) c′)
 
 -- the same of the tables as the code reads them
-module _ (T : ShiftTables) (F : Fit 1024 T) where
+module _ (T : ShiftTables) (F : TablesFit 1024 T) where
   at-rep : (t p : ℕ) → image (T .perms) (T .nSatom) t (indexAt (T .p2s) p) ≡ row (shiftsOf T) t (p2sAt (shiftsOf T) p)
   at-rep t p = perms-is T t _ ∙ ap (row (shiftsOf T) t) (p2s-is T p)
 

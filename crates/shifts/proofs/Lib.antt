@@ -1,4 +1,4 @@
 pub mod Together
-pub mod Rooms
 pub mod Inverses
 pub mod Placing
+pub mod Generators

@@ -11,8 +11,8 @@ use lib.Seq.{getD-set-other, getD-set-same}
 use borrow.Author.Count.{below-more}
 use Rattle.lists.specs.Cases.{eq-or-ne}
 use Rattle.tables.specs.Conditions.{indexAt}
-use Rattle.shift_rows.specs.Rows.{image}
-use Rattle.shift_rows.proofs.Generators.{getD-zeros}
+use Rattle.shifts.specs.Rows.{image}
+use Rattle.shifts.proofs.Generators.{getD-zeros}
 use Rattle.shifts.specs.Placing.{Placing, Placed, Fresh, Spread}
 
 pub none-placing : (n a p : ℕ) (perms s2pp : List ℤ) (old : List ℕ) → length old ≡ 1024 → Placing n 0 a p perms s2pp old old

@@ -1,22 +1,23 @@
 -- The rules one by one and all together, and the tests of the rows alone as those of the tables.
 -- Assumes nothing.
-use mathlib.Core.Path.{_≡_, refl, sym, ap, _∙_}
+use mathlib.Core.Path.{_≡_, refl, ap}
 use mathlib.Core.List.{[], _∷_}
 use mathlib.Core.Bool.{Bool, true, false, not, _||_}
-use Prim.Native.Nat.{ℕ, suc, _*_, _≤_}
+use Prim.Native.Nat.{ℕ, _*_, _≤_}
 use native.Mathlib.Nat.{mul-le-mul-right}
 use native.Mathlib.Omega.{arith}
 use lib.Dec.{eqb}
 use borrow.Author.Tests.{eq-eqb, ne-eqb}
-use Rattle.lists.specs.Digits.{room}
 use Rattle.lists.specs.Tests.{and-says}
+use Rattle.tables.specs.declared.Answer.{Answer}
 use Rattle.tables.specs.declared.Answer.the-variants.{Refused}
 use Rattle.tables.specs.declared.Refusal.the-variants.{CountAboveLimit, WrongLength}
-use Rattle.tables.specs.Answers.{refused, not-refused}
+use Rattle.tables.specs.Answers.{refuseIf}
 use Rattle.tables.specs.Conditions.{anyAbove, anyWrong}
+use Rattle.tables.specs.Lengths.{setLength}
 use Rattle.tables.specs.Shifts.{Shifts, row, isNull, countsAgree, rowsInjective, hasNull, rowsClosed, rowsFree, p2sBack, s2ppKept, nsymLands, ruled}
-use Rattle.tables.specs.Compact.{ShiftTables, shiftsOf, tableLengths, judgedEntries, judgedTables, judgedCompact, judged-rooms}
-use Rattle.shift_rows.specs.Rows.{rowsOf}
+use Rattle.tables.specs.Compact.{ShiftTables, shiftsOf, tableLengths, judgedEntries, judgedTables, judgedSet}
+use Rattle.shifts.specs.Rows.{rowsOf}
 
 pub product-small : (a b : ℕ) → a ≤ 1024 → b ≤ 1024 → a * b ≤ 1048576
 product-small a b ha hb = omega (arith, mul-le-mul-right b ha)
@@ -32,56 +33,45 @@ module _ (T : ShiftTables) where
   unfolding hasNull isNull row
   same-null = refl
 
--- ---- the guard of compact calls, return by return
+-- ---- the guard of a compact set, return by return
 
-lengths-1 : (u v w : Bool) → u ≡ true → ((u || (v || false)) || w) ≡ true
-lengths-1 u v w e = rw e
+-- by its conditions: a count above, the set's length, those of the tables
+abbrev answerBy : Bool → Bool → Bool → Answer → Answer
+answerBy x y t next = refuseIf x CountAboveLimit (refuseIf ((y || false) || t) WrongLength next)
 
-lengths-2 : (u v w : Bool) → u ≡ false → v ≡ true → ((u || (v || false)) || w) ≡ true
-lengths-2 u v w e f = rw (e, f)
+by-count : (x y t : Bool) (next : Answer) → x ≡ true → Refused CountAboveLimit ≡ answerBy x y t next
+by-count x y t next e = rw e
 
-lengths-3 : (u v w : Bool) → u ≡ false → v ≡ false → ((u || (v || false)) || w) ≡ w
-lengths-3 u v w e f = rw (e, f)
+by-set : (x y t : Bool) (next : Answer) → x ≡ false → y ≡ true → Refused WrongLength ≡ answerBy x y t next
+by-set x y t next e f = rw (e, f)
 
-module _ (limit m lenSet k lenWork : ℕ) (T : ShiftTables) where
-  above : Bool
+by-tables : (x y t : Bool) (next : Answer) → x ≡ false → y ≡ false → t ≡ true → Refused WrongLength ≡ answerBy x y t next
+by-tables x y t next e f g = rw (e, f, g)
+
+by-none : (x y t : Bool) (next : Answer) → x ≡ false → y ≡ false → t ≡ false → next ≡ answerBy x y t next
+by-none x y t next e f g = rw (e, f, g)
+
+module _ (limit m lenSet : ℕ) (T : ShiftTables) where
+  abbrev above : Bool
   above = anyAbove limit (T .nSatom ∷ (T .nPatom ∷ (T .numTrans ∷ [])))
 
-  set : ℕ
-  set = room 3 (suc m) (room (T .nSatom) m (T .nPatom))
+  abbrev stated : ℕ
+  stated = setLength (T .nPatom) (T .nSatom) m
 
-  work : ℕ
-  work = room (T .nSatom) k (T .nPatom)
+  pub count-above : above ≡ true → Refused CountAboveLimit ≡ judgedSet limit m lenSet [] T
+  unfolding judgedTables
+  count-above e = by-count above (not (eqb lenSet stated)) (anyWrong (tableLengths T)) (judgedEntries T) e
 
-  wrong : Bool
-  wrong = (not (eqb lenSet set) || (not (eqb lenWork work) || false)) || anyWrong (tableLengths T)
+  module _ (e : above ≡ false) where
+    pub wrong-set : (lenSet ≡ stated → ⊥) → Refused WrongLength ≡ judgedSet limit m lenSet [] T
+    unfolding judgedTables
+    wrong-set d = by-set above (not (eqb lenSet stated)) (anyWrong (tableLengths T)) (judgedEntries T) e (ap not (ne-eqb lenSet stated d))
 
-  pub count-above : anyAbove limit (T .nSatom ∷ (T .nPatom ∷ (T .numTrans ∷ []))) ≡ true → Refused CountAboveLimit ≡ judgedCompact limit m lenSet k lenWork T
-  unfolding judgedTables above
-  count-above e = refused above CountAboveLimit _ e ∙ sym (judged-rooms limit m lenSet k lenWork T)
+    module _ (s : lenSet ≡ stated) where
+      pub wrong-tables : anyWrong (tableLengths T) ≡ true → Refused WrongLength ≡ judgedSet limit m lenSet [] T
+      unfolding judgedTables
+      wrong-tables w = by-tables above (not (eqb lenSet stated)) (anyWrong (tableLengths T)) (judgedEntries T) e (ap not (eq-eqb lenSet stated s)) w
 
-  module _ (e : anyAbove limit (T .nSatom ∷ (T .nPatom ∷ (T .numTrans ∷ []))) ≡ false) where
-    by-length : wrong ≡ true → Refused WrongLength ≡ judgedCompact limit m lenSet k lenWork T
-    unfolding judgedTables above wrong set work
-    by-length f = refused wrong WrongLength (judgedEntries T) f ∙ not-refused above CountAboveLimit _ e ∙ sym (judged-rooms limit m lenSet k lenWork T)
-
-    pub wrong-set : (lenSet ≡ room 3 (suc m) (room (T .nSatom) m (T .nPatom)) → ⊥) → Refused WrongLength ≡ judgedCompact limit m lenSet k lenWork T
-    unfolding set work wrong
-    wrong-set h = by-length (lengths-1 (not (eqb lenSet set)) (not (eqb lenWork work)) (anyWrong (tableLengths T)) (ap not (ne-eqb lenSet set h)))
-
-    module _ (s : lenSet ≡ room 3 (suc m) (room (T .nSatom) m (T .nPatom))) where
-      pub wrong-work : (lenWork ≡ room (T .nSatom) k (T .nPatom) → ⊥) → Refused WrongLength ≡ judgedCompact limit m lenSet k lenWork T
-      unfolding set work wrong
-      wrong-work h = by-length (lengths-2 (not (eqb lenSet set)) (not (eqb lenWork work)) (anyWrong (tableLengths T)) (ap not (eq-eqb lenSet set s)) (ap not (ne-eqb lenWork work h)))
-
-      module _ (w : lenWork ≡ room (T .nSatom) k (T .nPatom)) where
-        tables-left : wrong ≡ anyWrong (tableLengths T)
-        unfolding set work wrong
-        tables-left = lengths-3 (not (eqb lenSet set)) (not (eqb lenWork work)) (anyWrong (tableLengths T)) (ap not (eq-eqb lenSet set s)) (ap not (eq-eqb lenWork work w))
-
-        pub wrong-tables : anyWrong (tableLengths T) ≡ true → Refused WrongLength ≡ judgedCompact limit m lenSet k lenWork T
-        wrong-tables h = by-length (tables-left ∙ h)
-
-        pub entries-left : anyWrong (tableLengths T) ≡ false → judgedEntries T ≡ judgedCompact limit m lenSet k lenWork T
-        unfolding judgedTables above wrong set work
-        entries-left h = not-refused wrong WrongLength (judgedEntries T) (tables-left ∙ h) ∙ not-refused above CountAboveLimit _ e ∙ sym (judged-rooms limit m lenSet k lenWork T)
+      pub entries-left : anyWrong (tableLengths T) ≡ false → judgedEntries T ≡ judgedSet limit m lenSet [] T
+      unfolding judgedTables
+      entries-left w = by-none above (not (eqb lenSet stated)) (anyWrong (tableLengths T)) (judgedEntries T) e (ap not (eq-eqb lenSet stated s)) w

@@ -7,7 +7,7 @@ use Prim.Native.Nat.{ℕ, _+_, _<_}
 use lib.IntN.{ℤ}
 use lib.ListN.{length, getD}
 use Rattle.tables.specs.Conditions.{indexAt}
-use Rattle.shift_rows.specs.Rows.{image}
+use Rattle.shifts.specs.Rows.{image}
 
 -- the images of atom a under the first k rows are of primitive atom p, and have their entries
 pub record Placing (n k a p : ℕ) (perms s2pp : List ℤ) (old new : List ℕ) : Type 0 where

@@ -2,31 +2,19 @@
 ghost use mathlib.Core.Path.{_≡_};
 ghost use mathlib.Core.Bool.{false};
 ghost use mathlib.Core.List.{[], _∷_};
-ghost use Prim.Native.Nat.{ℕ, _≤_, _<_, _^_};
-ghost use Rattle.lists.specs.Digits.{room as roomOf};
+ghost use Prim.Native.Nat.{_≤_};
 ghost use Rattle.tables.specs.Conditions.{anyAbove, anyWrong};
 ghost use Rattle.tables.specs.Limits.{limit2};
-ghost use Rattle.tables.specs.Compact.{shiftTables, tableLengths, tablesOutOfRange, judgedEntries, judgedTables, judgedCompact};
+ghost use Rattle.tables.specs.Compact.{ShiftTables, shiftTables, tableLengths, tablesOutOfRange, judgedEntries, judgedTables, judgedSet, judgedCompact};
 use tables::Answer;
 use tables::Refusal;
 use tables::index::all_below;
 use tables::limits::LIMIT2;
+use tables::sets::set_blocks;
+use tables::sets::set_length;
 
+pub mod rows;
 mod rules;
-
-// n · b · … · b, with k factors b: the stated lengths.
-fn room(b: usize, k: usize, n: usize) -> usize
-    requires { ⌜ ((j : ℕ) → j ≤ k → roomOf b j n < 2 ^ 64) ⌝ }
-    ensures { λ r. ⌜ r ≡ roomOf b k n ⌝ }
-{
-    let mut x = n;
-    let mut i = 0;
-    while i < k {
-        x *= b;
-        i += 1;
-    }
-    x
-}
 
 // 1: whether a count is above the limit.
 fn any_above(limit: usize, n_satom: usize, n_patom: usize, num_trans: usize) -> bool
@@ -51,8 +39,10 @@ fn any_wrong(
     n_patom: usize,
     num_trans: usize,
 ) -> bool
-    requires { ⌜ («n_satom» ≤ 1024) × («num_trans» ≤ 1024) ⌝ }
-    ensures { λ r. ⌜ r ≡ anyWrong (tableLengths (shiftTables (now (p2s .entry)) (now (s2pp .entry)) (now («nsym_list» .entry)) (now (perms .entry)) «n_satom» «n_patom» «num_trans»)) ⌝ }
+    ghost { ShiftTables }
+    requires { λ T. ⌜ shiftTables (now p2s) (now s2pp) (now «nsym_list») (now perms) «n_satom» «n_patom» «num_trans» ≡ T ⌝ }
+    requires counts { λ T. ⌜ («n_satom» ≤ 1024) × («num_trans» ≤ 1024) ⌝ }
+    ensures { λ T r. ⌜ r ≡ anyWrong (tableLengths T) ⌝ }
 {
     if perms.len() != num_trans * n_satom {
         return true;
@@ -76,7 +66,9 @@ fn any_out(
     n_patom: usize,
     num_trans: usize,
 ) -> bool
-    ensures { λ r. ⌜ r ≡ tablesOutOfRange (shiftTables (now (p2s .entry)) (now (s2pp .entry)) (now («nsym_list» .entry)) (now (perms .entry)) «n_satom» «n_patom» «num_trans») ⌝ }
+    ghost { ShiftTables }
+    requires { λ T. ⌜ shiftTables (now p2s) (now s2pp) (now «nsym_list») (now perms) «n_satom» «n_patom» «num_trans» ≡ T ⌝ }
+    ensures { λ T r. ⌜ r ≡ tablesOutOfRange T ⌝ }
 {
     if !all_below(perms, n_satom) {
         return true;
@@ -100,9 +92,11 @@ fn judge_entries(
     n_patom: usize,
     num_trans: usize,
 ) -> Answer
-    requires counts { ⌜ («n_satom» ≤ 1024) × («n_patom» ≤ 1024) × («num_trans» ≤ 1024) ⌝ }
-    requires lengths { ⌜ anyWrong (tableLengths (shiftTables (now p2s) (now s2pp) (now «nsym_list») (now perms) «n_satom» «n_patom» «num_trans»)) ≡ false ⌝ }
-    ensures { λ r. ⌜ r ≡ judgedEntries (shiftTables (now (p2s .entry)) (now (s2pp .entry)) (now («nsym_list» .entry)) (now (perms .entry)) «n_satom» «n_patom» «num_trans») ⌝ }
+    ghost { ShiftTables }
+    requires { λ T. ⌜ shiftTables (now p2s) (now s2pp) (now «nsym_list») (now perms) «n_satom» «n_patom» «num_trans» ≡ T ⌝ }
+    requires counts { λ T. ⌜ («n_satom» ≤ 1024) × («n_patom» ≤ 1024) × («num_trans» ≤ 1024) ⌝ }
+    requires lengths { λ T. ⌜ anyWrong (tableLengths T) ≡ false ⌝ }
+    ensures { λ T r. ⌜ r ≡ judgedEntries T ⌝ }
 {
     if any_out(p2s, s2pp, nsym_list, perms, n_satom, n_patom, num_trans) {
         return Answer::Refused(Refusal::IndexOutOfRange);
@@ -124,7 +118,9 @@ pub fn check_shift_tables(
     n_patom: usize,
     num_trans: usize,
 ) -> Answer
-    ensures { λ r. ⌜ r ≡ judgedTables limit2 [] (shiftTables (now (p2s .entry)) (now (s2pp .entry)) (now («nsym_list» .entry)) (now (perms .entry)) «n_satom» «n_patom» «num_trans») ⌝ }
+    ensures { λ r. ⌜
+        (let T = shiftTables (now (p2s .entry)) (now (s2pp .entry)) (now («nsym_list» .entry)) (now (perms .entry)) «n_satom» «n_patom» «num_trans» in
+        r ≡ judgedTables limit2 [] T) ⌝ }
 {
     if any_above(LIMIT2, n_satom, n_patom, num_trans) {
         return Answer::Refused(Refusal::CountAboveLimit);
@@ -135,7 +131,37 @@ pub fn check_shift_tables(
     judge_entries(p2s, s2pp, nsym_list, perms, n_satom, n_patom, num_trans)
 }
 
-// The guard of a compact call of rank m + 1, whose work slice has n_patom × n_satom^k entries.
+// The guard of a call that brings a compact set of rank m + 1 and no other slice.
+pub fn judge_set(
+    limit: usize,
+    m: usize,
+    set_len: usize,
+    p2s: &[i64],
+    s2pp: &[i64],
+    nsym_list: &[i64],
+    perms: &[i64],
+    n_satom: usize,
+    n_patom: usize,
+    num_trans: usize,
+) -> Answer
+    ghost { ShiftTables }
+    requires { λ T. ⌜ shiftTables (now p2s) (now s2pp) (now «nsym_list») (now perms) «n_satom» «n_patom» «num_trans» ≡ T ⌝ }
+    requires ranks { λ T. ⌜ (limit ≤ 1024) × (m ≤ 3) ⌝ }
+    ensures { λ T r. ⌜ r ≡ judgedSet limit m «set_len» [] T ⌝ }
+{
+    if any_above(limit, n_satom, n_patom, num_trans) {
+        return Answer::Refused(Refusal::CountAboveLimit);
+    }
+    if set_len != set_length(n_patom, n_satom, m) {
+        return Answer::Refused(Refusal::WrongLength);
+    }
+    if any_wrong(p2s, s2pp, nsym_list, perms, n_satom, n_patom, num_trans) {
+        return Answer::Refused(Refusal::WrongLength);
+    }
+    judge_entries(p2s, s2pp, nsym_list, perms, n_satom, n_patom, num_trans)
+}
+
+// The same with a work slice of n_patom × n_satom^k entries. A wrong length of it is refusal 2, unless a count is above its limit.
 pub fn judge_compact(
     limit: usize,
     m: usize,
@@ -150,20 +176,28 @@ pub fn judge_compact(
     n_patom: usize,
     num_trans: usize,
 ) -> Answer
-    requires { ⌜ (limit ≤ 1024) × (m ≤ 3) × (k ≤ 3) ⌝ }
-    ensures { λ r. ⌜ r ≡ judgedCompact limit m «set_len» k «work_len» (shiftTables (now (p2s .entry)) (now (s2pp .entry)) (now («nsym_list» .entry)) (now (perms .entry)) «n_satom» «n_patom» «num_trans») ⌝ }
+    ghost { ShiftTables }
+    requires { λ T. ⌜ shiftTables (now p2s) (now s2pp) (now «nsym_list») (now perms) «n_satom» «n_patom» «num_trans» ≡ T ⌝ }
+    requires ranks { λ T. ⌜ (limit ≤ 1024) × (m ≤ 3) × (k ≤ 3) ⌝ }
+    ensures { λ T r. ⌜ r ≡ judgedCompact limit m «set_len» k «work_len» T ⌝ }
 {
-    if any_above(limit, n_satom, n_patom, num_trans) {
-        return Answer::Refused(Refusal::CountAboveLimit);
+    let a = judge_set(
+        limit,
+        m,
+        set_len,
+        p2s,
+        s2pp,
+        nsym_list,
+        perms,
+        n_satom,
+        n_patom,
+        num_trans,
+    );
+    if tables::number(a) == 1 {
+        return a;
     }
-    if set_len != room(3, m + 1, room(n_satom, m, n_patom)) {
-        return Answer::Refused(Refusal::WrongLength);
+    if work_len == set_blocks(n_patom, n_satom, k) {
+        return a;
     }
-    if work_len != room(n_satom, k, n_patom) {
-        return Answer::Refused(Refusal::WrongLength);
-    }
-    if any_wrong(p2s, s2pp, nsym_list, perms, n_satom, n_patom, num_trans) {
-        return Answer::Refused(Refusal::WrongLength);
-    }
-    judge_entries(p2s, s2pp, nsym_list, perms, n_satom, n_patom, num_trans)
+    Answer::Refused(Refusal::WrongLength)
 }

@@ -15,10 +15,10 @@ use Rattle.tables.specs.declared.Refusal.the-variants.{NotARoll, NotLawful}
 use Rattle.roll.specs.Format.{Entry}
 use Rattle.roll.specs.Reading.{isRoll, entriesOf}
 use Rattle.standing.specs.Register.{Register, registerOf, lawful, answer, rule, standsNow}
-use Rattle.standing.specs.Chains.{Sound, endOf, end-zero, end-goes}
+use Rattle.standing.specs.Chains.{Sound, chainEnd, end-zero, end-goes}
 use Rattle.standing.specs.Laws.{sound-roll}
 use Rattle.standing.specs.Walk.{entries-many}
-use Rattle.standing.specs.Ends.{atEnd, by-end}
+use Rattle.standing.specs.EndLaws.{atEnd, by-end}
 use Rattle.standing.specs.declared.Standing.{Standing}
 use Rattle.standing.specs.declared.Standing.the-variants.{Unknown, Retired, Current, Refused}
 
@@ -54,21 +54,21 @@ turned false s = refl
 
 -- today's answer for a delivered set: retirement at the end of its chain
 abbrev AtEnd : ℕ → Register → ℕ → Standing
-AtEnd n g x = atEnd g (endOf n g x)
+AtEnd n g x = atEnd g (chainEnd n g x)
 
 -- what is said of a delivered set
 abbrev Changed : ℕ → Register → ℕ → Type 0
-Changed m g x = AtEnd m g x ≡ cond (heldBack m g x && not (g .retired (endOf m g x))) (Current (endOf m g x)) (formerAnswer (suc m) g x)
+Changed m g x = AtEnd m g x ≡ cond (heldBack m g x && not (g .retired (chainEnd m g x))) (Current (chainEnd m g x)) (formerAnswer (suc m) g x)
 
 at-last : (m : ℕ) (g : Register) (x : ℕ) → g .delivered x ≡ true → g .replacedBy x ≡ 0 → Changed m g x
-unfolding heldBack endOf formerAnswer formerRule
+unfolding heldBack chainEnd formerAnswer formerRule
 at-last zero g x d b = rw (d, eq-eqb (g .replacedBy x) 0 b) refl
 at-last (suc m) g x d b = rw (d, eq-eqb (g .replacedBy x) 0 b) refl
 
 change-step : (m : ℕ) (g : Register) (x : ℕ) → g .delivered x ≡ true → eqb (g .replacedBy x) 0 ≡ false → (g .retired x ≡ true) ⊎ (g .retired x ≡ false)
     → Changed m g (g .replacedBy x) → Changed (suc m) g x
-unfolding heldBack endOf formerAnswer formerRule
-change-step m g x d b (inl r) ih = rw (d, b, r) (turned (g .retired (endOf m g (g .replacedBy x))) (Current (endOf m g (g .replacedBy x))))
+unfolding heldBack chainEnd formerAnswer formerRule
+change-step m g x d b (inl r) ih = rw (d, b, r) (turned (g .retired (chainEnd m g (g .replacedBy x))) (Current (chainEnd m g (g .replacedBy x))))
 change-step m g x d b (inr r) ih = rw (d, b, r) ih
 
 -- what A.8 said where a retired set that was also replaced stands in the chain
@@ -97,7 +97,7 @@ unfolding answer rule formerAnswer formerRule
 not-delivered m g x d = rw d refl
 
 module _ (n : ℕ) (g : Register) (p : Sound n g) where
-  change : (m x : ℕ) → g .delivered x ≡ true → g .replacedBy (endOf m g x) ≡ 0 → Changed m g x
+  change : (m x : ℕ) → g .delivered x ≡ true → g .replacedBy (chainEnd m g x) ≡ 0 → Changed m g x
   change zero x d h = at-last zero g x d (ap (g .replacedBy) (sym (end-zero g x)) ∙ h)
   change (suc m) x d h =
       ⊎-elim (at-last (suc m) g x d)
@@ -117,14 +117,14 @@ module _ (n : ℕ) (g : Register) (p : Sound n g) where
       (split (g .retired x))
 
   -- of any set
-  changes : (x : ℕ) → answer (suc n) g x ≡ cond (g .delivered x && (heldBack n g x && not (g .retired (endOf n g x)))) (Current (endOf n g x)) (formerAnswer (suc n) g x)
+  changes : (x : ℕ) → answer (suc n) g x ≡ cond (g .delivered x && (heldBack n g x && not (g .retired (chainEnd n g x)))) (Current (chainEnd n g x)) (formerAnswer (suc n) g x)
   changes x = ⊎-elim known unknown (split (g .delivered x))
     where
-      known : g .delivered x ≡ true → answer (suc n) g x ≡ cond (g .delivered x && (heldBack n g x && not (g .retired (endOf n g x)))) (Current (endOf n g x)) (formerAnswer (suc n) g x)
-      known d = by-end n g p n x d (p .ends x) ∙ change n x d (p .ends x) ∙ sym (ap (λ t. cond (t && (heldBack n g x && not (g .retired (endOf n g x)))) (Current (endOf n g x)) (formerAnswer (suc n) g x)) d)
+      known : g .delivered x ≡ true → answer (suc n) g x ≡ cond (g .delivered x && (heldBack n g x && not (g .retired (chainEnd n g x)))) (Current (chainEnd n g x)) (formerAnswer (suc n) g x)
+      known d = by-end n g p n x d (p .ends x) ∙ change n x d (p .ends x) ∙ sym (ap (λ t. cond (t && (heldBack n g x && not (g .retired (chainEnd n g x)))) (Current (chainEnd n g x)) (formerAnswer (suc n) g x)) d)
 
-      unknown : g .delivered x ≡ false → answer (suc n) g x ≡ cond (g .delivered x && (heldBack n g x && not (g .retired (endOf n g x)))) (Current (endOf n g x)) (formerAnswer (suc n) g x)
-      unknown d = not-delivered n g x d ∙ sym (ap (λ t. cond (t && (heldBack n g x && not (g .retired (endOf n g x)))) (Current (endOf n g x)) (formerAnswer (suc n) g x)) d)
+      unknown : g .delivered x ≡ false → answer (suc n) g x ≡ cond (g .delivered x && (heldBack n g x && not (g .retired (chainEnd n g x)))) (Current (chainEnd n g x)) (formerAnswer (suc n) g x)
+      unknown d = not-delivered n g x d ∙ sym (ap (λ t. cond (t && (heldBack n g x && not (g .retired (chainEnd n g x)))) (Current (chainEnd n g x)) (formerAnswer (suc n) g x)) d)
 
 -- ---- any bytes
 
@@ -133,7 +133,7 @@ module _ (b : List ℕ) (x : ℕ) where
   rs = entriesOf b
 
   abbrev last : ℕ
-  last = endOf (length rs) (registerOf rs) x
+  last = chainEnd (length rs) (registerOf rs) x
 
   -- the bytes are a roll to which 9 does not apply, the set was delivered, a retired set that was also replaced stands in its chain from it
   -- onward, and the end is not retired

@@ -12,13 +12,13 @@ use lib.ListN.{getD}
 use borrow.Author.Tests.{eq-eqb, leb-true}
 use Rattle.lists.specs.Cases.{eq-or-ne}
 use Rattle.lists.specs.Tests.{and-fst, and-snd}
-use Rattle.roll.specs.Format.{ruled}
-use Rattle.roll.specs.Reading.{fourAt, start, entryAt, ruledAt, countOf, trailerAt, isRoll, entriesOf}
-use Rattle.roll.specs.Starts.{follow-ruled}
-use Rattle.roll.specs.Holding.{is-following}
+use Rattle.roll.specs.Format.{recordRuled}
+use Rattle.roll.specs.Reading.{fourAt, recordStart, entryAt, ruledAt, countOf, trailerAt, isRoll, entriesOf}
+use Rattle.roll.specs.StartLaws.{follow-ruled}
+use Rattle.roll.specs.HoldingLaws.{is-following}
 use Rattle.standing.specs.Register.{Register, registerOf, lawful, rule, answer, standsNow}
-use Rattle.standing.specs.Walk.{recordOf, after, lawfulTo, entries-register, entries-lawful, by-rules}
-use Rattle.standing.specs.Chains.{Sound, endOf, end-zero, end-goes, sound}
+use Rattle.standing.specs.Walk.{recordOf, registerAfter, lawfulTo, entries-register, entries-lawful, by-rules}
+use Rattle.standing.specs.Chains.{Sound, chainEnd, end-zero, end-goes, sound}
 use Rattle.standing.specs.declared.Standing.{Standing}
 
 -- ---- the rules over a register whose chains end
@@ -31,20 +31,20 @@ module _ (g : Register) where
       (λ (d : g .replacedBy x ≡ 0 → ⊥). rw (q d) refl)
       (eq-or-ne (g .replacedBy x) 0)
 
-  never : {A : Type 0} (x : ℕ) → g .replacedBy (endOf zero g x) ≡ 0 → (g .replacedBy x ≡ 0 → ⊥) → A
+  never : {A : Type 0} (x : ℕ) → g .replacedBy (chainEnd zero g x) ≡ 0 → (g .replacedBy x ≡ 0 → ⊥) → A
   never x e d = absurd (d (ap (g .replacedBy) (sym (end-zero g x)) ∙ e))
 
-  later : (m x : ℕ) → g .replacedBy (endOf (suc m) g x) ≡ 0 → (g .replacedBy x ≡ 0 → ⊥) → g .replacedBy (endOf m g (g .replacedBy x)) ≡ 0
+  later : (m x : ℕ) → g .replacedBy (chainEnd (suc m) g x) ≡ 0 → (g .replacedBy x ≡ 0 → ⊥) → g .replacedBy (chainEnd m g (g .replacedBy x)) ≡ 0
   later m x e d = ap (g .replacedBy) (sym (end-goes m g x d)) ∙ e
 
   -- one set more makes no difference where the chain has ended
-  stable : (m x : ℕ) → g .replacedBy (endOf m g x) ≡ 0 → answer (suc m) g x ≡ rule g (answer (suc m) g) x
+  stable : (m x : ℕ) → g .replacedBy (chainEnd m g x) ≡ 0 → answer (suc m) g x ≡ rule g (answer (suc m) g) x
   unfolding answer
   stable zero x e = rule-same (answer zero g) (answer (suc zero) g) x (never x e)
   stable (suc m) x e = rule-same (answer (suc m) g) (answer (suc (suc m)) g) x (λ d. stable m (g .replacedBy x) (later m x e d))
 
   -- whatever keeps to the rules gives these answers
-  alone : (h : ℕ → Standing) → ((x : ℕ) → h x ≡ rule g h x) → (m x : ℕ) → g .replacedBy (endOf m g x) ≡ 0 → h x ≡ answer (suc m) g x
+  alone : (h : ℕ → Standing) → ((x : ℕ) → h x ≡ rule g h x) → (m x : ℕ) → g .replacedBy (chainEnd m g x) ≡ 0 → h x ≡ answer (suc m) g x
   unfolding answer
   alone h r zero x e = r x ∙ rule-same h (answer zero g) x (never x e)
   alone h r (suc m) x e = r x ∙ rule-same h (answer (suc m) g) x (λ d. alone h r m (g .replacedBy x) (later m x e d))
@@ -56,13 +56,13 @@ module _ (b : List ℕ) (R : isRoll b ≡ true) (L : lawful (entriesOf b) ≡ tr
   n = countOf b
 
   abbrev G : Register
-  G = after (recordOf b) n
+  G = registerAfter (recordOf b) n
 
   -- set numbers start at 1
   pub named : (k : ℕ) → k < n → recordOf b k .number ≡ 0 → ⊥
-  unfolding recordOf entryAt ruledAt ruled
+  unfolding recordOf entryAt ruledAt recordRuled
   named k h e =
-      let at = start b k in
+      let at = recordStart b k in
       let q = follow-ruled b n (trailerAt b) (is-following b R) k h in
       let last = cond (eqb (getD b at 0) 2) (not (eqb (fourAt b (at + 5)) 0)) (eqb (fourAt b (at + 5)) 0) in
       let i = and-snd (leb 1 (getD b at 0)) (leb (getD b at 0) 3 && (leb 1 (fourAt b (at + 1)) && last)) q in
@@ -83,7 +83,7 @@ module _ (b : List ℕ) (R : isRoll b ≡ true) (L : lawful (entriesOf b) ≡ tr
   is-answer x = by-rules b x n R refl lawful-to (ap (λ m. answer m G x) (sym (add-one n)))
 
   -- a chain of replacements has no more steps than the roll has records
-  pub chain-ends : (x : ℕ) → registerOf (entriesOf b) .replacedBy (endOf n (registerOf (entriesOf b)) x) ≡ 0
+  pub chain-ends : (x : ℕ) → registerOf (entriesOf b) .replacedBy (chainEnd n (registerOf (entriesOf b)) x) ≡ 0
   chain-ends x = sound-roll .ends x
 
   -- the roll's answers keep to the rules over its register: reading it record by record gives what they give

@@ -12,9 +12,9 @@ use borrow.Author.Tests.{eq-eqb, ne-eqb}
 use Rattle.lists.specs.Tests.{every}
 use Rattle.lists.specs.Tab.{tab, tabFrom, length-tab}
 use Rattle.roll.specs.Format.{Entry}
-use Rattle.roll.specs.Reading.{fourAt, start, entryAt, countOf, isRoll, entriesOf}
-use Rattle.roll.specs.Starts.{head-before}
-use Rattle.roll.specs.Holding.{is-sized}
+use Rattle.roll.specs.Reading.{fourAt, recordStart, entryAt, countOf, isRoll, entriesOf}
+use Rattle.roll.specs.StartLaws.{head-before}
+use Rattle.roll.specs.HoldingLaws.{is-sized}
 use Rattle.tables.specs.declared.Refusal.the-variants.{NotARoll, NotLawful}
 use Rattle.standing.specs.declared.Standing.{Standing}
 use Rattle.standing.specs.declared.Standing.the-variants.{Refused}
@@ -22,16 +22,16 @@ use Rattle.standing.specs.Register.{Register, blank, delivers, retires, 
 
 -- record k of a roll
 unfoldable pub recordOf : List ℕ → ℕ → Entry
-recordOf b k = entryAt b (start b k)
+recordOf b k = entryAt b (recordStart b k)
 
 -- the register after the first n records; f k is record k
-unfoldable pub after : (ℕ → Entry) → ℕ → Register
-after f zero = blank
-after f (suc n) = noted (f n) (after f n)
+unfoldable pub registerAfter : (ℕ → Entry) → ℕ → Register
+registerAfter f zero = blank
+registerAfter f (suc n) = noted (f n) (registerAfter f n)
 
 -- 9 applies to none of the first n records
 unfoldable pub lawfulTo : (ℕ → Entry) → ℕ → Bool
-lawfulTo f n = every n (λ k. allowed (after f k) (f k))
+lawfulTo f n = every n (λ k. allowed (registerAfter f k) (f k))
 
 -- what the register g notes of x, as the code holds it
 pub record Notes (g : Register) (x : ℕ) (delivered retired : Bool) (by : ℕ) : Type 0 where
@@ -76,8 +76,8 @@ allowed-next g [] r = and-true (allowed g r)
 allowed-next g (x ∷ xs) r = ap (λ z. allowed g x && z) (allowed-next (noted x g) xs r) ∙ and-assoc (allowed g x) (allAllowed (noted x g) xs) (allowed (notedAll (noted x g) xs) r)
 
 -- the register of the first n records
-pub register-is : (n : ℕ) (f : ℕ → Entry) → registerOf (tab n f) ≡ after f n
-unfolding tab tabFrom notedAll after
+pub register-is : (n : ℕ) (f : ℕ → Entry) → registerOf (tab n f) ≡ registerAfter f n
+unfolding tab tabFrom notedAll registerAfter
 register-is zero f = refl
 register-is (suc n) f = ap (notedAll blank) (tab-next n f) ∙ noted-next blank (tab n f) (f n) ∙ ap (noted (f n)) (register-is n f)
 
@@ -91,34 +91,34 @@ lawful-is (suc n) f =
 module _ (b : List ℕ) where
   pub entries-lawful : lawful (entriesOf b) ≡ lawfulTo (recordOf b) (countOf b)
   unfolding entriesOf recordOf
-  entries-lawful = lawful-is (countOf b) (λ i. entryAt b (start b i))
+  entries-lawful = lawful-is (countOf b) (λ i. entryAt b (recordStart b i))
 
-  pub entries-register : registerOf (entriesOf b) ≡ after (recordOf b) (countOf b)
+  pub entries-register : registerOf (entriesOf b) ≡ registerAfter (recordOf b) (countOf b)
   unfolding entriesOf recordOf
-  entries-register = register-is (countOf b) (λ i. entryAt b (start b i))
+  entries-register = register-is (countOf b) (λ i. entryAt b (recordStart b i))
 
   pub entries-many : length (entriesOf b) ≡ countOf b
   unfolding entriesOf
-  entries-many = length-tab (countOf b) (λ i. entryAt b (start b i))
+  entries-many = length-tab (countOf b) (λ i. entryAt b (recordStart b i))
 
 -- ---- one record more
 
 module _ (b : List ℕ) where
   abbrev G : ℕ → Register
-  G k = after (recordOf b) k
+  G k = registerAfter (recordOf b) k
 
   none-yet : (x : ℕ) → (false ≡ G 0 .delivered x) × (false ≡ G 0 .retired x) × (0 ≡ G 0 .replacedBy x)
-  unfolding after blank
+  unfolding registerAfter blank
   none-yet x = (refl, refl, refl)
 
   -- the register without records notes nothing
   pub notes-none : (x : ℕ) → Notes (G 0) x false false 0
   notes-none x = record { delivers = none-yet x .0; retires = none-yet x .1; replaces = none-yet x .2; small = omega arith }
 
-  pub notes-more : (k x at : ℕ) {d t d′ t′ : Bool} {y y′ : ℕ} → at ≡ start b k → Notes (G k) x d t y
+  pub notes-more : (k x at : ℕ) {d t d′ t′ : Bool} {y y′ : ℕ} → at ≡ recordStart b k → Notes (G k) x d t y
       → d′ ≡ (d || delivers (entryAt b at) x) → t′ ≡ (t || retires (entryAt b at) x) → y′ ≡ cond (replaces (entryAt b at) x) (entryAt b at .number) y → y′ < 4294967296
       → Notes (G (k + 1)) x d′ t′ y′
-  unfolding after noted recordOf
+  unfolding registerAfter noted recordOf
   notes-more k x at {d} {t} {d′} {t′} {y} {y′} e N p q s l =
       record {
         delivers = p ∙ ap₂ (λ u (r : Entry). u || delivers r x) (N .delivers) (ap (entryAt b) e) ∙ ap (λ m. G m .delivered x) (sym (add-one k));
@@ -139,16 +139,16 @@ module _ (b : List ℕ) where
     replaced-before q = sym (cond-false (entryAt b at .number) by (sym e ∙ q))
 
   -- the head of record i is inside the roll
-  pub inside : isRoll b ≡ true → (i p : ℕ) → i < countOf b → p ≡ start b i → (p + 10 ≤ 65536) × (p + 10 ≤ length b)
+  pub inside : isRoll b ≡ true → (i p : ℕ) → i < countOf b → p ≡ recordStart b i → (p + 10 ≤ 65536) × (p + 10 ≤ length b)
   inside R i p h e =
       let S = is-sized b R in
       (omega (arith, head-before b i (countOf b) h, S .ends, S .whole, S .small), omega (arith, head-before b i (countOf b) h, S .ends, S .whole))
 
 -- ---- refusal 9 for one record
 
-module _ (b : List ℕ) (n at k m : ℕ) (e : at ≡ start b n) (ek : k ≡ getD b at 0) (em : m ≡ fourAt b (at + 1)) where
+module _ (b : List ℕ) (n at k m : ℕ) (e : at ≡ recordStart b n) (ek : k ≡ getD b at 0) (em : m ≡ fourAt b (at + 1)) where
   abbrev g : Register
-  g = after (recordOf b) n
+  g = registerAfter (recordOf b) n
 
   allowed-is : allowed g (recordOf b n) ≡ cond (eqb k 3) (g .delivered m) (not (g .delivered m) && cond (eqb k 2) (g .delivered (fourAt b (at + 5)) && eqb (g .replacedBy (fourAt b (at + 5))) 0) true)
   unfolding allowed recordOf entryAt
@@ -191,8 +191,8 @@ module _ (b : List ℕ) (x : ℕ) where
     is-lawful : lawful (entriesOf b) ≡ lawfulTo (recordOf b) n
     is-lawful = entries-lawful b ∙ ap (lawfulTo (recordOf b)) (sym e)
 
-    is-register : registerOf (entriesOf b) ≡ after (recordOf b) n
-    is-register = entries-register b ∙ ap (after (recordOf b)) (sym e)
+    is-register : registerOf (entriesOf b) ≡ registerAfter (recordOf b) n
+    is-register = entries-register b ∙ ap (registerAfter (recordOf b)) (sym e)
 
     is-many : length (entriesOf b) ≡ n
     is-many = entries-many b ∙ sym e
@@ -201,6 +201,6 @@ module _ (b : List ℕ) (x : ℕ) where
     unfolding standsNow
     no-law l = rw (R, is-lawful, l) refl
 
-    pub by-rules : {a : Standing} → lawfulTo (recordOf b) n ≡ true → a ≡ answer (n + 1) (after (recordOf b) n) x → a ≡ standsNow b x
+    pub by-rules : {a : Standing} → lawfulTo (recordOf b) n ≡ true → a ≡ answer (n + 1) (registerAfter (recordOf b) n) x → a ≡ standsNow b x
     unfolding standsNow
     by-rules l p = rw (R, is-lawful, l) (p ∙ ap₂ (λ k g. answer (k + 1) g x) (sym is-many) (sym is-register))

@@ -1,11 +1,13 @@
 // Which set stands now (document 02, A.8 and A.14): the rules over a plain register, each entry of it read off the roll by a walk.
+pub mod retire;
+
 ghost use mathlib.Core.Path.{_≡_};
 ghost use mathlib.Core.Bool.{true, _||_, cond};
 ghost use Prim.Native.Nat.{_+_, _≤_, _<_};
 ghost use lib.ListN.{length};
-ghost use Rattle.roll.specs.Reading.{start, entryAt, countOf, isRoll, rollBytes};
+ghost use Rattle.roll.specs.Reading.{recordStart, entryAt, countOf, isRoll, rollBytes};
 ghost use Rattle.standing.specs.Register.{standingNumber, delivers, retires, replaces, allowed, answer, standsNow};
-ghost use Rattle.standing.specs.Walk.{recordOf, after, lawfulTo, Notes};
+ghost use Rattle.standing.specs.Walk.{recordOf, registerAfter, lawfulTo, Notes};
 ghost use Rattle.standing.specs.Chains.{carried};
 use roll::judge::is_whole_roll;
 use roll::layout::count_in;
@@ -101,7 +103,7 @@ fn replacer(b: &[u8], at: usize, x: usize, by: usize) -> usize
 // What the register of the first n records of the roll b notes of x.
 pub fn look_up(b: &[u8], n: usize, x: usize) -> Found
     requires { ⌜ (isRoll (now b) ≡ true) × (n ≤ countOf (now b)) ⌝ }
-    ensures { λ r. ⌜ Notes (after (recordOf (now (b .entry))) n) x (r .delivered) (r .retired) (r .by) ⌝ }
+    ensures { λ r. ⌜ Notes (registerAfter (recordOf (now (b .entry))) n) x (r .delivered) (r .retired) (r .by) ⌝ }
 {
     let mut delivered = false;
     let mut retired = false;
@@ -124,8 +126,8 @@ pub fn look_up(b: &[u8], n: usize, x: usize) -> Found
 
 // Whether 9 does not apply to record n, which starts at `at`.
 fn is_allowed(b: &[u8], n: usize, at: usize) -> bool
-    requires { ⌜ (isRoll (now b) ≡ true) × (n < countOf (now b)) × (at ≡ start (now b) n) ⌝ }
-    ensures { λ r. ⌜ r ≡ allowed (after (recordOf (now (b .entry))) n) (recordOf (now (b .entry)) n) ⌝ }
+    requires { ⌜ (isRoll (now b) ≡ true) × (n < countOf (now b)) × (at ≡ recordStart (now b) n) ⌝ }
+    ensures { λ r. ⌜ r ≡ allowed (registerAfter (recordOf (now (b .entry))) n) (recordOf (now (b .entry)) n) ⌝ }
 {
     let kind = wide(b[at]);
     let own = look_up(b, n, set_at(b, at));
@@ -181,7 +183,7 @@ pub fn end_of(b: &[u8], n: usize, x: usize) -> usize
 // The rules: replacement is followed first, and retirement looked at where the chain ends.
 fn follow(b: &[u8], n: usize, x: usize) -> Standing
     requires { ⌜ (isRoll (now b) ≡ true) × (n ≡ countOf (now b)) × (x < 4294967296) × (lawfulTo (recordOf (now b)) n ≡ true) ⌝ }
-    ensures { λ r. ⌜ r ≡ answer (n + 1) (after (recordOf (now (b .entry))) n) x ⌝ }
+    ensures { λ r. ⌜ r ≡ answer (n + 1) (registerAfter (recordOf (now (b .entry))) n) x ⌝ }
 {
     let f = look_up(b, n, x);
     if !f.delivered {

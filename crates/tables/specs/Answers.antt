@@ -1,7 +1,7 @@
 -- What a call answers (document 01, "The refusal line on a job sheet"): done, or the first refusal that applies, and what either leaves.
 -- Assumes nothing.
 use mathlib.Core.Path.{_≡_, refl, sym, ap, _∙_}
-use mathlib.Core.Bool.{Bool, true, false, cond, true≢false}
+use mathlib.Core.Bool.{Bool, true, false, cond, true≢false, false≢true}
 use Prim.Native.Nat.{ℕ}
 use Rattle.tables.specs.declared.Refusal.{Refusal}
 use Rattle.tables.specs.declared.Refusal.the-variants.{CountAboveLimit, WrongLength, IndexOutOfRange, BadSlab, BadRepresentative, BadShiftTables, NotARoll, NoRoom, NotLawful, OffGrid, UnknownSet}
@@ -39,7 +39,25 @@ after a new old = cond (isRefusal a) old new
 abbrev pub refuseIf : Bool → Refusal → Answer → Answer
 refuseIf b r next = cond b (Refused r) next
 
+-- the first answer where it is a refusal, otherwise the next
+abbrev pub andThen : Answer → Answer → Answer
+andThen Done next = next
+andThen (Refused r) next = Refused r
+
 -- ---- laws
+
+-- two guards, one after the other
+pub first-refuses : (a next : Answer) → isRefusal a ≡ true → a ≡ andThen a next
+first-refuses Done next e = absurd (false≢true e)
+first-refuses (Refused r) next e = refl
+
+pub first-passes : (a next : Answer) → isRefusal a ≡ false → next ≡ andThen a next
+first-passes Done next e = refl
+first-passes (Refused r) next e = absurd (true≢false e)
+
+pub both-done : (a next : Answer) → andThen a next ≡ Done → (a ≡ Done) × (next ≡ Done)
+both-done Done next e = (refl, e)
+both-done (Refused r) next e = absurd (true≢false (ap isRefusal e))
 
 -- an answer that is no refusal is Done
 pub is-done : (a : Answer) → isRefusal a ≡ false → a ≡ Done

@@ -1,20 +1,20 @@
 -- The one guard of every compact call, whatever its rank (document 01, refusals 1, 2, 3 and 6), and what a set that passes it is known to be.
 -- Assumes nothing.
-use mathlib.Core.Path.{_≡_, sym, ap₂, _∙_}
+use mathlib.Core.Path.{_≡_, sym, _∙_}
 use mathlib.Core.Bool.{Bool, false, not, _||_}
 use mathlib.Core.List.{List, [], _∷_, map}
-use Prim.Native.Nat.{ℕ, suc, _+_, _*_, _≤_}
+use Prim.Native.Nat.{ℕ, _+_, _*_, _≤_}
 use lib.IntN.{ℤ, pos}
 use lib.ListN.{length, List·getD-map}
 use borrow.Author.Tests.{not-false}
-use Rattle.lists.specs.Digits.{room, in-row}
+use Rattle.lists.specs.Digits.{timesPower, in-row}
 use Rattle.lists.specs.Elements.{All}
 use Rattle.tables.specs.declared.Answer.{Answer}
 use Rattle.tables.specs.declared.Answer.the-variants.{Done}
 use Rattle.tables.specs.declared.Refusal.the-variants.{CountAboveLimit, WrongLength, IndexOutOfRange, BadShiftTables}
 use Rattle.tables.specs.Answers.{refuseIf, passed}
 use Rattle.tables.specs.Conditions.{anyAbove, anyWrong, outOfRange, nat, indexAt, IndexTable, or-false, not-above, not-wrong, read}
-use Rattle.tables.specs.Lengths.{setBlocks, setLength, block-rooms, set-rooms}
+use Rattle.tables.specs.Lengths.{setBlocks, setLength, block-rooms}
 use Rattle.tables.specs.Shifts.{Shifts, row, p2sAt, s2ppAt, nsymAt, ruled, Within, Laws, laws}
 
 -- the shift tables as a call is given them
@@ -72,24 +72,18 @@ judgedTables limit lengths T =
     refuseIf (anyAbove limit (T .nSatom ∷ (T .nPatom ∷ (T .numTrans ∷ [])))) CountAboveLimit
     (refuseIf (anyWrong lengths || anyWrong (tableLengths T)) WrongLength (judgedEntries T))
 
--- A compact call of rank m + 1: a set of n_patom first atoms among n_satom, and a work slice with an entry for each block of rank k + 1.
-unfoldable pub judgedCompact : ℕ → ℕ → ℕ → ℕ → ℕ → ShiftTables → Answer
-judgedCompact limit m lenSet k lenWork T =
-    judgedTables limit ((lenSet, setLength (T .nPatom) (T .nSatom) m) ∷ ((lenWork, setBlocks (T .nPatom) (T .nSatom) k) ∷ [])) T
+-- A compact call of rank m + 1: a set of n_patom first atoms among n_satom; `others` are the lengths of its other slices, each with the one stated for it.
+abbrev pub judgedSet : ℕ → ℕ → ℕ → List (ℕ × ℕ) → ShiftTables → Answer
+judgedSet limit m lenSet others T = judgedTables limit ((lenSet, setLength (T .nPatom) (T .nSatom) m) ∷ others) T
 
--- the same lengths factor by factor
-pub judged-rooms : (limit m lenSet k lenWork : ℕ) (T : ShiftTables) → judgedCompact limit m lenSet k lenWork T
-    ≡ judgedTables limit ((lenSet, room 3 (suc m) (room (T .nSatom) m (T .nPatom))) ∷ ((lenWork, room (T .nSatom) k (T .nPatom)) ∷ [])) T
-unfolding judgedCompact
-judged-rooms limit m lenSet k lenWork T =
-    ap₂ (λ x y. judgedTables limit ((lenSet, x) ∷ ((lenWork, y) ∷ [])) T)
-    (set-rooms (T .nPatom) (T .nSatom) m)
-    (block-rooms (T .nPatom) (T .nSatom) k)
+-- with a work slice that has an entry for each block of rank k + 1
+unfoldable pub judgedCompact : ℕ → ℕ → ℕ → ℕ → ℕ → ShiftTables → Answer
+judgedCompact limit m lenSet k lenWork T = judgedSet limit m lenSet ((lenWork, setBlocks (T .nPatom) (T .nSatom) k) ∷ []) T
 
 -- ---- what is known of tables and sets that pass
 
 -- counts within the limit, four tables of the stated lengths whose entries are indices
-pub record Fit (limit : ℕ) (T : ShiftTables) : Type 0 where
+pub record TablesFit (limit : ℕ) (T : ShiftTables) : Type 0 where
   pub satoms : T .nSatom ≤ limit
   pub patoms : T .nPatom ≤ limit
   pub shifts : T .numTrans ≤ limit
@@ -101,8 +95,8 @@ pub record Fit (limit : ℕ) (T : ShiftTables) : Type 0 where
 -- a compact set of rank m + 1 with its work slice
 pub record Compact (limit m lenSet k lenWork : ℕ) (T : ShiftTables) : Type 0 where
   pub set-length : lenSet ≡ setLength (T .nPatom) (T .nSatom) m
-  pub work-length : lenWork ≡ room (T .nSatom) k (T .nPatom)
-  pub fit : Fit limit T
+  pub work-length : lenWork ≡ timesPower (T .nSatom) k (T .nPatom)
+  pub fit : TablesFit limit T
   pub rules : Laws (shiftsOf T)
 
 -- what is read from a table is the accessor's number
@@ -124,7 +118,7 @@ module _ (T : ShiftTables) where
   nsym-is a = sym (List·getD-map nat (T .nsymList) a (pos 0))
 
 -- every entry of tables that fit is an index
-pub fit-within : {limit : ℕ} (T : ShiftTables) → Fit limit T → Within (shiftsOf T)
+pub fit-within : {limit : ℕ} (T : ShiftTables) → TablesFit limit T → Within (shiftsOf T)
 fit-within T F = record {
   row-below = λ t a ht ha. rw (← perms-is T t a) (read (F .perms-fit) (t * T .nSatom + a) (in-row (T .numTrans) (T .nSatom) t a ht ha) .1);
   p2s-below = λ p h. rw (← p2s-is T p) (read (F .p2s-fit) p h .1);
@@ -134,7 +128,7 @@ fit-within T F = record {
 
 -- tables that pass refusals 1, 2 and 3 fit
 pub fit-of : (limit : ℕ) (T : ShiftTables) → T .nSatom ≤ limit → T .nPatom ≤ limit → T .numTrans ≤ limit
-    → anyWrong (tableLengths T) ≡ false → tablesOutOfRange T ≡ false → Fit limit T
+    → anyWrong (tableLengths T) ≡ false → tablesOutOfRange T ≡ false → TablesFit limit T
 fit-of limit T nS nP nT hl hr =
     let (l1, (l2, (l3, (l4, _)))) = not-wrong (tableLengths T) hl in
     let (r1, r2′) = or-false (outOfRange (T .nSatom) (T .perms)) _ hr in
@@ -152,7 +146,7 @@ fit-of limit T nS nP nT hl hr =
 
 -- tables that are not refused
 pub done-tables : (limit : ℕ) (ls : List (ℕ × ℕ)) (T : ShiftTables) → judgedTables limit ls T ≡ Done
-    → All (λ l. l .0 ≡ l .1) ls × Fit limit T × Laws (shiftsOf T)
+    → All (λ l. l .0 ≡ l .1) ls × TablesFit limit T × Laws (shiftsOf T)
 unfolding judgedTables judgedEntries
 done-tables limit ls T e =
     let (q1, e1) = passed _ _ _ e in

@@ -10,9 +10,8 @@ use native.Mathlib.Omega.{arith}
 use lib.Dec.{leb, ltb, eqb}
 use lib.IntN.{ℤ, pos, negsuc}
 use lib.ListN.{length, getD}
-use borrow.Author.Tests.{ltb-true, ltb-false, leb-false, eqb-true, eqb-false, not-true, not-false}
+use borrow.Author.Tests.{ltb-true, ltb-false, leb-false, eqb-true, eqb-false, not-false}
 use Rattle.lists.specs.Elements.{All}
-use Rattle.lists.specs.Tests.{refuted, not-both}
 
 -- 1: a count is above its limit
 abbrev pub anyAbove : ℕ → List ℕ → Bool
@@ -112,9 +111,6 @@ module _ (n : ℕ) where
   none-out (x ∷ xs) h =
       let e : below n x ≡ true = h zero (omega arith) in
       rw e (none-out xs (λ i g. h (suc i) (omega arith)))
-
-  pub one-out : (t : List ℤ) (i : ℕ) → i < length t → below n (getD t i (pos 0)) ≡ false → outOfRange n t ≡ true
-  one-out t i h e = not-false (outOfRange n t) (refuted (not (outOfRange n t)) (λ p. not-both (below-at t (not-true (outOfRange n t) p) i h) e))
 
 -- what is read from a table that passed
 pub read : {len n : ℕ} {t : List ℤ} → IndexTable len n t → (i : ℕ) → i < len → Readable t i × (indexAt t i < n)

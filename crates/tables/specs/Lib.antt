@@ -3,5 +3,8 @@ pub mod Limits
 pub mod Conditions
 pub mod Lengths
 pub mod Shifts
+pub mod Full
 pub mod Compact
+pub mod OneMoreLaws
 pub mod Samples
+pub mod Numbered

@@ -1,10 +1,12 @@
 // Refusals, limits, index tables and the two kinds of atom number. specs/ has the rules of shift tables too, which crate shifts tests.
+// The answer of a call as the number that C gets: definitions and laws, in specs/. No code.
 ghost use mathlib.Core.Path.{_≡_};
 ghost use Rattle.tables.specs.Answers.{refusalNumber, numberOf, isRefusal};
 
 pub mod atoms;
 pub mod index;
 pub mod limits;
+pub mod sets;
 
 // Document 01's six refusals and those that document 02 adds, by their numbers.
 pub enum Refusal {

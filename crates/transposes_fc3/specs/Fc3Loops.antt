@@ -14,18 +14,18 @@ use lib.ListN.{length, getD, replicate}
 use lib.Ieee.{Float, nan}
 use Rattle.lists.specs.Tab.{tab, tabFrom, times, times-nest, times-idle, times-same}
 use Rattle.lists.specs.Elements.{pick, pick-pick, straight, pick-straight}
-use Rattle.lists.specs.Digits.{horner, room, rest, digits}
+use Rattle.lists.specs.Digits.{horner, timesPower, rest, digits}
 use Rattle.tables.specs.Shifts.{Shifts, Laws, p2sAt}
 use Rattle.tables.specs.Conditions.{indexAt}
 use Rattle.tables.specs.Compact.{ShiftTables, shiftsOf, done-compact, p2s-is}
 use Rattle.places.specs.Places.{Leg, size}
-use Rattle.places.specs.Permutations.{taken, Permutation}
+use Rattle.places.specs.Permutations.{permuteLegs, Permutation}
 use Rattle.places.specs.Moves.{order, stays, moved, transposed}
 use Rattle.orbits.specs.Counterparts.{Paired, visit, workedOver}
 use Rattle.orbits.specs.Transposed.{counterpart, blocksBy, paired}
 use Rattle.blocks.specs.Permuted.{permuted}
 use Rattle.orbits.specs.BlockPairs.{joinedPair, pair-is}
-use Rattle.orbits.specs.AtBlocks.{atoms-are, counterpart-at, stored-own}
+use Rattle.orbits.specs.AtBlockLaws.{atoms-are, counterpart-at, stored-own}
 use Rattle.orbits.specs.Blockwise.{inBlock, atomsAt}
 use Rattle.orbits.specs.Trading.{theOther, never, staysAt, Trades, moves}
 use Rattle.places.specs.Addresses.{storedBlock, block-below}
@@ -35,9 +35,9 @@ use Rattle.tables.specs.declared.Answer.the-variants.{Done}
 use Rattle.tables.specs.Answers.{isRefusal, after, is-done, refused-call, done-call}
 use Rattle.tables.specs.Limits.{limit3}
 use Rattle.transposes_fc3.specs.Fc3.{transposedBy, judgedTranspose, transposeCompactFc3}
-use Rattle.half_shifts.specs.HalfShift.{Sound, Trading, trading, block-in}
-use Rattle.half_shifts.specs.TrueTransposes.{swapped, legs3}
-use Rattle.half_shifts.specs.Moved.{stayIf, stay-if, stay-both, trades-if, either, moved-3}
+use Rattle.orbits.specs.HalfShift.{Sound, Trading, trading, block-in}
+use Rattle.orbits.specs.TrueTransposes.{swapped, legs3}
+use Rattle.orbits.specs.Moved.{stayIf, stay-if, stay-both, trades-if, either, moved-3}
 
 -- atoms of a block, and its number
 abbrev pub Atoms : ShiftTables → ℕ → ℕ → ℕ → Type 0
@@ -51,7 +51,7 @@ unfolding horner
 plain3 n p j k = refl
 
 pub in27 : inBlock 2 ≡ 27
-unfolding inBlock room
+unfolding inBlock timesPower
 in27 = refl
 
 -- the blocks that stay under a type, where half shifts do: those of a pair that a half shift exchanges; none where legs 1 and 2 trade
@@ -82,21 +82,21 @@ trades-0 : Trades 2 0 (order 0)
 unfolding order
 trades-0 = record { isOrder = (refl, omega arith); leg = lit< tt; first = refl; second = refl; twice = λ xs l. t xs l }
   where
-    t : (xs : List Leg) → length xs ≡ 3 → taken (1 ∷ 0 ∷ 2 ∷ []) (taken (1 ∷ 0 ∷ 2 ∷ []) xs) ≡ xs
+    t : (xs : List Leg) → length xs ≡ 3 → permuteLegs (1 ∷ 0 ∷ 2 ∷ []) (permuteLegs (1 ∷ 0 ∷ 2 ∷ []) xs) ≡ xs
     t xs l = pick-pick (0, 0) (1 ∷ 0 ∷ 2 ∷ []) (1 ∷ 0 ∷ 2 ∷ []) xs (omega arith) ∙ (unfold pick straight tab tabFrom in pick-straight (0, 0) 3 xs l)
 
 trades-1 : Trades 2 1 (order 1)
 unfolding order
 trades-1 = record { isOrder = (refl, omega arith); leg = lit< tt; first = refl; second = refl; twice = λ xs l. t xs l }
   where
-    t : (xs : List Leg) → length xs ≡ 3 → taken (2 ∷ 1 ∷ 0 ∷ []) (taken (2 ∷ 1 ∷ 0 ∷ []) xs) ≡ xs
+    t : (xs : List Leg) → length xs ≡ 3 → permuteLegs (2 ∷ 1 ∷ 0 ∷ []) (permuteLegs (2 ∷ 1 ∷ 0 ∷ []) xs) ≡ xs
     t xs l = pick-pick (0, 0) (2 ∷ 1 ∷ 0 ∷ []) (2 ∷ 1 ∷ 0 ∷ []) xs (omega arith) ∙ (unfold pick straight tab tabFrom in pick-straight (0, 0) 3 xs l)
 
 order-2 : Permutation 2 (order 2)
 unfolding order
 order-2 = (refl, omega arith)
 
-twice-2 : (xs : List Leg) → length xs ≡ 3 → taken (order 2) (taken (order 2) xs) ≡ xs
+twice-2 : (xs : List Leg) → length xs ≡ 3 → permuteLegs (order 2) (permuteLegs (order 2) xs) ≡ xs
 unfolding order
 twice-2 xs l = pick-pick (0, 0) (0 ∷ 2 ∷ 1 ∷ []) (0 ∷ 2 ∷ 1 ∷ []) xs (omega arith) ∙ (unfold pick straight tab tabFrom in pick-straight (0, 0) 3 xs l)
 
@@ -110,15 +110,15 @@ pairs-of h T L (suc (suc (suc t))) l = absurd (omega arith)
 
 -- ---- THE LOOPS LEAVE THE TRANSPOSED SET
 
-one-loop : (h : Bool) (T : ShiftTables) (t : ℕ) (xs : List Float) → allT h T t xs ≡ times (room (T .nSatom) 2 (T .nPatom)) (exchangeAt h T t) xs
-unfolding allT slabT rowT room
+one-loop : (h : Bool) (T : ShiftTables) (t : ℕ) (xs : List Float) → allT h T t xs ≡ times (timesPower (T .nSatom) 2 (T .nPatom)) (exchangeAt h T t) xs
+unfolding allT slabT rowT timesPower
 one-loop h T t xs =
     let n = T .nSatom in
     let f = exchangeAt h T t in
     sym (times-nest (T .nPatom * n) n f xs ∙ times-nest (T .nPatom) n (λ i. times n (λ k. f (i * n + k))) xs)
 
 by-type : (h : Bool) (T : ShiftTables) → Laws (shiftsOf T) → (t : ℕ) (old : List Float) → t < 3 → length old ≡ size (shiftsOf T) 2
-    → times (room (T .nSatom) 2 (T .nPatom)) (exchangeAt h T t) old ≡ cond h (transposed nan (shiftsOf T) t old) (moved nan (shiftsOf T) 2 (order t) old)
+    → times (timesPower (T .nSatom) 2 (T .nPatom)) (exchangeAt h T t) old ≡ cond h (transposed nan (shiftsOf T) t old) (moved nan (shiftsOf T) 2 (order t) old)
 unfolding exchangeAt stayOf transposed
 by-type h T L zero old l e = trades-if (shiftsOf T) L 2 0 (order 0) trades-0 h old e
 by-type h T L (suc zero) old l e = trades-if (shiftsOf T) L 2 1 (order 1) trades-1 h old e
@@ -185,13 +185,13 @@ module _ (T : ShiftTables) (Z : Sound T) (p j k : ℕ) (a : Atoms T p j k) where
   other-2 t r z f =
       f ∙ sym (stored-own S p (k ∷ j ∷ []) (a .2, (a .1, tt)) (Z .rules) (a .0)) ∙ sym (at-order (0 ∷ 2 ∷ 1 ∷ []) (p2sAt S p) (k ∷ j ∷ []) refl) ∙ ap (λ t. counterpart S 2 (order t) (at3 T p j k)) (sym z)
 
-pub at-in : (T : ShiftTables) (p j k : ℕ) → Atoms T p j k → at3 T p j k < room (T .nSatom) 2 (T .nPatom)
+pub at-in : (T : ShiftTables) (p j k : ℕ) → Atoms T p j k → at3 T p j k < timesPower (T .nSatom) 2 (T .nPatom)
 unfolding horner
 at-in T p j k a = block-below (T .nSatom) (T .nPatom) p (j ∷ k ∷ []) (a .0) (a .1, (a .2, tt))
 
 -- one visit by its two tests
-module _ (h : Bool) (T : ShiftTables) (Z : Sound T) (t n : ℕ) (ht : t < 3) (hn : n < room (T .nSatom) 2 (T .nPatom)) (xs : List Float) where
-  pub other-in : counterpart (shiftsOf T) 2 (order t) n < room (T .nSatom) 2 (T .nPatom)
+module _ (h : Bool) (T : ShiftTables) (Z : Sound T) (t n : ℕ) (ht : t < 3) (hn : n < timesPower (T .nSatom) 2 (T .nPatom)) (xs : List Float) where
+  pub other-in : counterpart (shiftsOf T) 2 (order t) n < timesPower (T .nSatom) 2 (T .nPatom)
   other-in = pairs-of h T (Z .rules) t ht .other-below n hn
 
   pub visit-met : counterpart (shiftsOf T) 2 (order t) n < n → exchangeAt h T t n xs ≡ xs
@@ -239,7 +239,7 @@ module _ (h : Bool) {lenSet : ℕ} (T : ShiftTables) (R : Trading 2 lenSet T) (t
       ∙ visit-takes h T (R .sound) t (at3 T p j k) ht (at-in T p j k a) xs (rw (← eo, ← own) l) s
 
 -- a visit of a block that does not stay is the same in both cases
-same-visit : (h : Bool) (T : ShiftTables) (Z : Sound T) (t n : ℕ) → t < 3 → n < room (T .nSatom) 2 (T .nPatom) → stayOf h T t n ≡ false → (xs : List Float) → exchangeAt false T t n xs ≡ exchangeAt h T t n xs
+same-visit : (h : Bool) (T : ShiftTables) (Z : Sound T) (t n : ℕ) → t < 3 → n < timesPower (T .nSatom) 2 (T .nPatom) → stayOf h T t n ≡ false → (xs : List Float) → exchangeAt false T t n xs ≡ exchangeAt h T t n xs
 same-visit h T Z t n ht hn s xs =
     ⊎-elim
     (λ (l : counterpart (shiftsOf T) 2 (order t) n < n). visit-met false T Z t n ht hn xs l ∙ sym (visit-met h T Z t n ht hn xs l))

@@ -1,22 +1,24 @@
 // The transposes of a compact set of third order. Block after block, each with its counterpart: the two change places, permuted, at the lower one of
 // them. Blocks that a half shift exchanges with their own pair stay where half_shifts_stay says so, as the Rust leaves them; the true transposes
 // move them too.
+pub mod exchanging;
+
 ghost use mathlib.Core.Path.{_≡_};
 ghost use mathlib.Core.Bool.{false, cond};
 ghost use Prim.Native.Nat.{_+_, _<_, _≤_};
 ghost use lib.ListN.{length};
-ghost use Rattle.tables.specs.Compact.{shiftTables, shiftsOf};
+ghost use Rattle.tables.specs.Compact.{ShiftTables, shiftTables, shiftsOf};
 ghost use Rattle.transposes_fc3.specs.Fc3.{transposedBy, transposeCompactFc3};
-ghost use Rattle.half_shifts.specs.HalfShift.{Trading, PairAt};
-ghost use Rattle.half_shifts.specs.TrueTransposes.{swapped, legs3, trueTransposeCompactFc3};
+ghost use Rattle.orbits.specs.HalfShift.{Trading, PairAt};
+ghost use Rattle.orbits.specs.TrueTransposes.{swapped, legs3, trueTransposeCompactFc3};
 ghost use Rattle.transposes_fc3.specs.Fc3Loops.{Atoms, at3, exchangeAt, rowT, slabT, allT};
-use blocks_fc3::exchange0;
-use blocks_fc3::exchange1;
-use blocks_fc3::exchange2;
-use half_shifts::stays;
+use crate::exchanging::exchange0;
+use crate::exchanging::exchange1;
+use crate::exchanging::exchange2;
 use lists::clear_bytes;
+use orbits::half_shifts::stays;
 use places::block3;
-use places::read_out3;
+use places::stored_block3;
 use shifts::judge_compact;
 use tables::Answer;
 use tables::atoms::PrimAtom;
@@ -40,11 +42,13 @@ fn visit0(
     j: SuperAtom,
     k: SuperAtom,
 )
-    requires { ⌜ PairAt 2 (length (now fc3)) (shiftTables (now p2s) (now s2pp) (now «nsym_list») (now perms) «n_satom» «n_patom» «num_trans») (p .0) (i .0) (j .0) × (k .0 < «n_satom») ⌝ }
-    ensures { λ _. ⌜ now (fc3 .exit) ≡ exchangeAt false (shiftTables (now (p2s .entry)) (now (s2pp .entry)) (now («nsym_list» .entry)) (now (perms .entry)) «n_satom» «n_patom» «num_trans») 0 (at3 (shiftTables (now (p2s .entry)) (now (s2pp .entry)) (now («nsym_list» .entry)) (now (perms .entry)) «n_satom» «n_patom» «num_trans») (p .0) (j .0) (k .0)) (now (fc3 .entry)) ⌝ }
+    ghost { ShiftTables }
+    requires { λ T. ⌜ shiftTables (now p2s) (now s2pp) (now «nsym_list») (now perms) «n_satom» «n_patom» «num_trans» ≡ T ⌝ }
+    requires { λ T. ⌜ PairAt 2 (length (now fc3)) T (p .0) (i .0) (j .0) × (k .0 < «n_satom») ⌝ }
+    ensures { λ T _. ⌜ now (fc3 .exit) ≡ exchangeAt false T 0 (at3 T (p .0) (j .0) (k .0)) (now (fc3 .entry)) ⌝ }
 {
     let n = block3(p, j, k, n_satom);
-    let o = read_out3(s2pp, nsym_list, perms, j, i, k, n_satom);
+    let o = stored_block3(s2pp, nsym_list, perms, j, i, k, n_satom);
     if n <= o {
         exchange0(fc3, n, o);
     }
@@ -65,13 +69,15 @@ fn visit1(
     j: SuperAtom,
     k: SuperAtom,
 )
-    requires { ⌜ Trading 2 (length (now fc3)) (shiftTables (now p2s) (now s2pp) (now «nsym_list») (now perms) «n_satom» «n_patom» «num_trans») ⌝ }
-    requires { ⌜ Atoms (shiftTables (now p2s) (now s2pp) (now «nsym_list») (now perms) «n_satom» «n_patom» «num_trans») (p .0) (j .0) (k .0) ⌝ }
-    ensures { λ _. ⌜ now (fc3 .exit) ≡ exchangeAt «half_shifts_stay» (shiftTables (now (p2s .entry)) (now (s2pp .entry)) (now («nsym_list» .entry)) (now (perms .entry)) «n_satom» «n_patom» «num_trans») 1 (at3 (shiftTables (now (p2s .entry)) (now (s2pp .entry)) (now («nsym_list» .entry)) (now (perms .entry)) «n_satom» «n_patom» «num_trans») (p .0) (j .0) (k .0)) (now (fc3 .entry)) ⌝ }
+    ghost { ShiftTables }
+    requires { λ T. ⌜ shiftTables (now p2s) (now s2pp) (now «nsym_list») (now perms) «n_satom» «n_patom» «num_trans» ≡ T ⌝ }
+    requires { λ T. ⌜ Trading 2 (length (now fc3)) T ⌝ }
+    requires { λ T. ⌜ Atoms T (p .0) (j .0) (k .0) ⌝ }
+    ensures { λ T _. ⌜ now (fc3 .exit) ≡ exchangeAt «half_shifts_stay» T 1 (at3 T (p .0) (j .0) (k .0)) (now (fc3 .entry)) ⌝ }
 {
     let n = block3(p, j, k, n_satom);
     let i = p2s_at(p2s, p);
-    let o = read_out3(s2pp, nsym_list, perms, k, j, i, n_satom);
+    let o = stored_block3(s2pp, nsym_list, perms, k, j, i, n_satom);
     if o < n {
         return;
     }
@@ -106,9 +112,11 @@ fn visit2(
     j: SuperAtom,
     k: SuperAtom,
 )
-    requires { ⌜ Trading 2 (length (now fc3)) (shiftTables (now p2s) (now s2pp) (now «nsym_list») (now perms) «n_satom» «n_patom» «num_trans») ⌝ }
-    requires { ⌜ Atoms (shiftTables (now p2s) (now s2pp) (now «nsym_list») (now perms) «n_satom» «n_patom» «num_trans») (p .0) (j .0) (k .0) × (j .0 ≤ k .0) ⌝ }
-    ensures { λ _. ⌜ now (fc3 .exit) ≡ exchangeAt false (shiftTables (now (p2s .entry)) (now (s2pp .entry)) (now («nsym_list» .entry)) (now (perms .entry)) «n_satom» «n_patom» «num_trans») 2 (at3 (shiftTables (now (p2s .entry)) (now (s2pp .entry)) (now («nsym_list» .entry)) (now (perms .entry)) «n_satom» «n_patom» «num_trans») (p .0) (j .0) (k .0)) (now (fc3 .entry)) ⌝ }
+    ghost { ShiftTables }
+    requires { λ T. ⌜ shiftTables (now p2s) (now s2pp) (now «nsym_list») (now perms) «n_satom» «n_patom» «num_trans» ≡ T ⌝ }
+    requires { λ T. ⌜ Trading 2 (length (now fc3)) T ⌝ }
+    requires { λ T. ⌜ Atoms T (p .0) (j .0) (k .0) × (j .0 ≤ k .0) ⌝ }
+    ensures { λ T _. ⌜ now (fc3 .exit) ≡ exchangeAt false T 2 (at3 T (p .0) (j .0) (k .0)) (now (fc3 .entry)) ⌝ }
 {
     let n = block3(p, j, k, n_satom);
     let o = block3(p, k, j, n_satom);
@@ -129,8 +137,10 @@ fn line0(
     i: SuperAtom,
     j: SuperAtom,
 )
-    requires { ⌜ PairAt 2 (length (now fc3)) (shiftTables (now p2s) (now s2pp) (now «nsym_list») (now perms) «n_satom» «n_patom» «num_trans») (p .0) (i .0) (j .0) ⌝ }
-    ensures { λ _. ⌜ now (fc3 .exit) ≡ rowT false (shiftTables (now (p2s .entry)) (now (s2pp .entry)) (now («nsym_list» .entry)) (now (perms .entry)) «n_satom» «n_patom» «num_trans») 0 (p .0) (j .0) (now (fc3 .entry)) ⌝ }
+    ghost { ShiftTables }
+    requires { λ T. ⌜ shiftTables (now p2s) (now s2pp) (now «nsym_list») (now perms) «n_satom» «n_patom» «num_trans» ≡ T ⌝ }
+    requires { λ T. ⌜ PairAt 2 (length (now fc3)) T (p .0) (i .0) (j .0) ⌝ }
+    ensures { λ T _. ⌜ now (fc3 .exit) ≡ rowT false T 0 (p .0) (j .0) (now (fc3 .entry)) ⌝ }
 {
     let mut k = 0;
     while k < n_satom {
@@ -166,9 +176,11 @@ fn row0(
     p: PrimAtom,
     j: SuperAtom,
 )
-    requires { ⌜ Trading 2 (length (now fc3)) (shiftTables (now p2s) (now s2pp) (now «nsym_list») (now perms) «n_satom» «n_patom» «num_trans») ⌝ }
-    requires { ⌜ (p .0 < «n_patom») × (j .0 < «n_satom») ⌝ }
-    ensures { λ _. ⌜ now (fc3 .exit) ≡ rowT «half_shifts_stay» (shiftTables (now (p2s .entry)) (now (s2pp .entry)) (now («nsym_list» .entry)) (now (perms .entry)) «n_satom» «n_patom» «num_trans») 0 (p .0) (j .0) (now (fc3 .entry)) ⌝ }
+    ghost { ShiftTables }
+    requires { λ T. ⌜ shiftTables (now p2s) (now s2pp) (now «nsym_list») (now perms) «n_satom» «n_patom» «num_trans» ≡ T ⌝ }
+    requires { λ T. ⌜ Trading 2 (length (now fc3)) T ⌝ }
+    requires { λ T. ⌜ (p .0 < «n_patom») × (j .0 < «n_satom») ⌝ }
+    ensures { λ T _. ⌜ now (fc3 .exit) ≡ rowT «half_shifts_stay» T 0 (p .0) (j .0) (now (fc3 .entry)) ⌝ }
 {
     if stays(
         p2s,
@@ -214,9 +226,11 @@ fn row1(
     p: PrimAtom,
     j: SuperAtom,
 )
-    requires { ⌜ Trading 2 (length (now fc3)) (shiftTables (now p2s) (now s2pp) (now «nsym_list») (now perms) «n_satom» «n_patom» «num_trans») ⌝ }
-    requires { ⌜ (p .0 < «n_patom») × (j .0 < «n_satom») ⌝ }
-    ensures { λ _. ⌜ now (fc3 .exit) ≡ rowT «half_shifts_stay» (shiftTables (now (p2s .entry)) (now (s2pp .entry)) (now («nsym_list» .entry)) (now (perms .entry)) «n_satom» «n_patom» «num_trans») 1 (p .0) (j .0) (now (fc3 .entry)) ⌝ }
+    ghost { ShiftTables }
+    requires { λ T. ⌜ shiftTables (now p2s) (now s2pp) (now «nsym_list») (now perms) «n_satom» «n_patom» «num_trans» ≡ T ⌝ }
+    requires { λ T. ⌜ Trading 2 (length (now fc3)) T ⌝ }
+    requires { λ T. ⌜ (p .0 < «n_patom») × (j .0 < «n_satom») ⌝ }
+    ensures { λ T _. ⌜ now (fc3 .exit) ≡ rowT «half_shifts_stay» T 1 (p .0) (j .0) (now (fc3 .entry)) ⌝ }
 {
     let mut k = 0;
     while k < n_satom {
@@ -251,9 +265,11 @@ fn row2(
     p: PrimAtom,
     j: SuperAtom,
 )
-    requires { ⌜ Trading 2 (length (now fc3)) (shiftTables (now p2s) (now s2pp) (now «nsym_list») (now perms) «n_satom» «n_patom» «num_trans») ⌝ }
-    requires { ⌜ (p .0 < «n_patom») × (j .0 < «n_satom») ⌝ }
-    ensures { λ _. ⌜ now (fc3 .exit) ≡ rowT false (shiftTables (now (p2s .entry)) (now (s2pp .entry)) (now («nsym_list» .entry)) (now (perms .entry)) «n_satom» «n_patom» «num_trans») 2 (p .0) (j .0) (now (fc3 .entry)) ⌝ }
+    ghost { ShiftTables }
+    requires { λ T. ⌜ shiftTables (now p2s) (now s2pp) (now «nsym_list») (now perms) «n_satom» «n_patom» «num_trans» ≡ T ⌝ }
+    requires { λ T. ⌜ Trading 2 (length (now fc3)) T ⌝ }
+    requires { λ T. ⌜ (p .0 < «n_patom») × (j .0 < «n_satom») ⌝ }
+    ensures { λ T _. ⌜ now (fc3 .exit) ≡ rowT false T 2 (p .0) (j .0) (now (fc3 .entry)) ⌝ }
 {
     let mut k = j.0;
     while k < n_satom {
@@ -289,9 +305,11 @@ fn row_last(
     p: PrimAtom,
     j: SuperAtom,
 )
-    requires { ⌜ Trading 2 (length (now fc3)) (shiftTables (now p2s) (now s2pp) (now «nsym_list») (now perms) «n_satom» «n_patom» «num_trans») ⌝ }
-    requires { ⌜ (p .0 < «n_patom») × (j .0 < «n_satom») × (t < 3) × (t ≡ 0 → ⊥) ⌝ }
-    ensures { λ _. ⌜ now (fc3 .exit) ≡ rowT «half_shifts_stay» (shiftTables (now (p2s .entry)) (now (s2pp .entry)) (now («nsym_list» .entry)) (now (perms .entry)) «n_satom» «n_patom» «num_trans») t (p .0) (j .0) (now (fc3 .entry)) ⌝ }
+    ghost { ShiftTables }
+    requires { λ T. ⌜ shiftTables (now p2s) (now s2pp) (now «nsym_list») (now perms) «n_satom» «n_patom» «num_trans» ≡ T ⌝ }
+    requires { λ T. ⌜ Trading 2 (length (now fc3)) T ⌝ }
+    requires { λ T. ⌜ (p .0 < «n_patom») × (j .0 < «n_satom») × (t < 3) × (t ≡ 0 → ⊥) ⌝ }
+    ensures { λ T _. ⌜ now (fc3 .exit) ≡ rowT «half_shifts_stay» T t (p .0) (j .0) (now (fc3 .entry)) ⌝ }
 {
     if t == 1 {
         row1(
@@ -338,9 +356,11 @@ fn row(
     p: PrimAtom,
     j: SuperAtom,
 )
-    requires { ⌜ Trading 2 (length (now fc3)) (shiftTables (now p2s) (now s2pp) (now «nsym_list») (now perms) «n_satom» «n_patom» «num_trans») ⌝ }
-    requires { ⌜ (p .0 < «n_patom») × (j .0 < «n_satom») × (t < 3) ⌝ }
-    ensures { λ _. ⌜ now (fc3 .exit) ≡ rowT «half_shifts_stay» (shiftTables (now (p2s .entry)) (now (s2pp .entry)) (now («nsym_list» .entry)) (now (perms .entry)) «n_satom» «n_patom» «num_trans») t (p .0) (j .0) (now (fc3 .entry)) ⌝ }
+    ghost { ShiftTables }
+    requires { λ T. ⌜ shiftTables (now p2s) (now s2pp) (now «nsym_list») (now perms) «n_satom» «n_patom» «num_trans» ≡ T ⌝ }
+    requires { λ T. ⌜ Trading 2 (length (now fc3)) T ⌝ }
+    requires { λ T. ⌜ (p .0 < «n_patom») × (j .0 < «n_satom») × (t < 3) ⌝ }
+    ensures { λ T _. ⌜ now (fc3 .exit) ≡ rowT «half_shifts_stay» T t (p .0) (j .0) (now (fc3 .entry)) ⌝ }
 {
     if t == 0 {
         row0(
@@ -388,9 +408,11 @@ fn slab(
     t: usize,
     p: PrimAtom,
 )
-    requires { ⌜ Trading 2 (length (now fc3)) (shiftTables (now p2s) (now s2pp) (now «nsym_list») (now perms) «n_satom» «n_patom» «num_trans») ⌝ }
-    requires { ⌜ (p .0 < «n_patom») × (t < 3) ⌝ }
-    ensures { λ _. ⌜ now (fc3 .exit) ≡ slabT «half_shifts_stay» (shiftTables (now (p2s .entry)) (now (s2pp .entry)) (now («nsym_list» .entry)) (now (perms .entry)) «n_satom» «n_patom» «num_trans») t (p .0) (now (fc3 .entry)) ⌝ }
+    ghost { ShiftTables }
+    requires { λ T. ⌜ shiftTables (now p2s) (now s2pp) (now «nsym_list») (now perms) «n_satom» «n_patom» «num_trans» ≡ T ⌝ }
+    requires { λ T. ⌜ Trading 2 (length (now fc3)) T ⌝ }
+    requires { λ T. ⌜ (p .0 < «n_patom») × (t < 3) ⌝ }
+    ensures { λ T _. ⌜ now (fc3 .exit) ≡ slabT «half_shifts_stay» T t (p .0) (now (fc3 .entry)) ⌝ }
 {
     let mut j = 0;
     while j < n_satom {
@@ -425,9 +447,11 @@ fn slabs(
     half_shifts_stay: bool,
     t: usize,
 )
-    requires { ⌜ Trading 2 (length (now fc3)) (shiftTables (now p2s) (now s2pp) (now «nsym_list») (now perms) «n_satom» «n_patom» «num_trans») ⌝ }
-    requires { ⌜ t < 3 ⌝ }
-    ensures { λ _. ⌜ now (fc3 .exit) ≡ allT «half_shifts_stay» (shiftTables (now (p2s .entry)) (now (s2pp .entry)) (now («nsym_list» .entry)) (now (perms .entry)) «n_satom» «n_patom» «num_trans») t (now (fc3 .entry)) ⌝ }
+    ghost { ShiftTables }
+    requires { λ T. ⌜ shiftTables (now p2s) (now s2pp) (now «nsym_list») (now perms) «n_satom» «n_patom» «num_trans» ≡ T ⌝ }
+    requires { λ T. ⌜ Trading 2 (length (now fc3)) T ⌝ }
+    requires { λ T. ⌜ t < 3 ⌝ }
+    ensures { λ T _. ⌜ now (fc3 .exit) ≡ allT «half_shifts_stay» T t (now (fc3 .entry)) ⌝ }
 {
     let mut p = 0;
     while p < n_patom {
@@ -461,8 +485,12 @@ fn transpose(
     half_shifts_stay: bool,
     t_type: i64,
 )
-    requires { ⌜ Trading 2 (length (now fc3)) (shiftTables (now p2s) (now s2pp) (now «nsym_list») (now perms) «n_satom» «n_patom» «num_trans») ⌝ }
-    ensures { λ _. ⌜ now (fc3 .exit) ≡ cond «half_shifts_stay» (transposedBy (shiftsOf (shiftTables (now (p2s .entry)) (now (s2pp .entry)) (now («nsym_list» .entry)) (now (perms .entry)) «n_satom» «n_patom» «num_trans»)) «t_type» (now (fc3 .entry))) (swapped (shiftsOf (shiftTables (now (p2s .entry)) (now (s2pp .entry)) (now («nsym_list» .entry)) (now (perms .entry)) «n_satom» «n_patom» «num_trans»)) 2 (legs3 «t_type») (now (fc3 .entry))) ⌝ }
+    ghost { ShiftTables }
+    requires { λ T. ⌜ shiftTables (now p2s) (now s2pp) (now «nsym_list») (now perms) «n_satom» «n_patom» «num_trans» ≡ T ⌝ }
+    requires { λ T. ⌜ Trading 2 (length (now fc3)) T ⌝ }
+    ensures { λ T _. ⌜
+        now (fc3 .exit)
+        ≡ cond «half_shifts_stay» (transposedBy (shiftsOf T) «t_type» (now (fc3 .entry))) (swapped (shiftsOf T) 2 (legs3 «t_type») (now (fc3 .entry))) ⌝ }
 {
     if t_type == 0 {
         slabs(
@@ -523,7 +551,9 @@ pub fn transpose_compact_fc3(
     num_trans: usize,
     t_type: i64,
 ) -> Answer
-    ensures { λ r. ⌜ (r, now (fc3 .exit), now (done .exit)) ≡ transposeCompactFc3 (now (fc3 .entry)) (shiftTables (now (p2s .entry)) (now (s2pp .entry)) (now («nsym_list» .entry)) (now (perms .entry)) «n_satom» «n_patom» «num_trans») (now (done .entry)) «t_type» ⌝ }
+    ensures { λ r. ⌜
+        (let T = shiftTables (now (p2s .entry)) (now (s2pp .entry)) (now («nsym_list» .entry)) (now (perms .entry)) «n_satom» «n_patom» «num_trans» in
+        (r, now (fc3 .exit), now (done .exit)) ≡ transposeCompactFc3 (now (fc3 .entry)) T (now (done .entry)) «t_type») ⌝ }
 {
     let a = judge_compact(
         LIMIT3,
@@ -571,7 +601,9 @@ pub fn true_transpose_compact_fc3(
     num_trans: usize,
     t_type: i64,
 ) -> Answer
-    ensures { λ r. ⌜ (r, now (fc3 .exit), now (done .exit)) ≡ trueTransposeCompactFc3 (now (fc3 .entry)) (shiftTables (now (p2s .entry)) (now (s2pp .entry)) (now («nsym_list» .entry)) (now (perms .entry)) «n_satom» «n_patom» «num_trans») (now (done .entry)) «t_type» ⌝ }
+    ensures { λ r. ⌜
+        (let T = shiftTables (now (p2s .entry)) (now (s2pp .entry)) (now («nsym_list» .entry)) (now (perms .entry)) «n_satom» «n_patom» «num_trans» in
+        (r, now (fc3 .exit), now (done .exit)) ≡ trueTransposeCompactFc3 (now (fc3 .entry)) T (now (done .entry)) «t_type») ⌝ }
 {
     let a = judge_compact(
         LIMIT3,

@@ -1,13 +1,17 @@
 // The transposes of a compact set of fourth order: legs 0 and 1 of every number change places. Blocks that a half shift exchanges with their own pair
 // stay where half_shifts_stay says so, as the Rust leaves them; the true transpose moves them too.
+pub mod exchanging;
+pub mod legs;
+pub mod swaps;
+
 ghost use mathlib.Core.Path.{_≡_};
 ghost use mathlib.Core.Bool.{cond};
 ghost use lib.ListN.{length};
-ghost use Rattle.tables.specs.Compact.{shiftTables, shiftsOf};
+ghost use Rattle.tables.specs.Compact.{ShiftTables, shiftTables, shiftsOf};
 ghost use Rattle.transposes_fc4.specs.Fc4.{transposedBy4, transposeCompactFc4};
-ghost use Rattle.half_shifts.specs.HalfShift.{Trading};
-ghost use Rattle.half_shifts.specs.TrueTransposes.{swapped, legs4, trueTransposeCompactFc4};
-use legs_fc4::exchange_legs;
+ghost use Rattle.orbits.specs.HalfShift.{Trading};
+ghost use Rattle.orbits.specs.TrueTransposes.{swapped, legs4, trueTransposeCompactFc4};
+use crate::legs::exchange_legs;
 use lists::clear_bytes;
 use shifts::judge_compact;
 use tables::Answer;
@@ -27,8 +31,13 @@ fn by_type(
     half_shifts_stay: bool,
     t_type: i64,
 )
-    requires { ⌜ Trading 3 (length (now fc4)) (shiftTables (now p2s) (now s2pp) (now «nsym_list») (now perms) «n_satom» «n_patom» «num_trans») ⌝ }
-    ensures { λ _. ⌜ now (fc4 .exit) ≡ cond «half_shifts_stay» (transposedBy4 (shiftsOf (shiftTables (now (p2s .entry)) (now (s2pp .entry)) (now («nsym_list» .entry)) (now (perms .entry)) «n_satom» «n_patom» «num_trans»)) «t_type» (now (fc4 .entry))) (swapped (shiftsOf (shiftTables (now (p2s .entry)) (now (s2pp .entry)) (now («nsym_list» .entry)) (now (perms .entry)) «n_satom» «n_patom» «num_trans»)) 3 (legs4 «t_type») (now (fc4 .entry))) ⌝ }
+    ghost { ShiftTables }
+    requires { λ T. ⌜ shiftTables (now p2s) (now s2pp) (now «nsym_list») (now perms) «n_satom» «n_patom» «num_trans» ≡ T ⌝ }
+    requires { λ T. ⌜ Trading 3 (length (now fc4)) T ⌝ }
+    ensures { λ T _. ⌜
+        now (fc4 .exit)
+        ≡ cond «half_shifts_stay» (transposedBy4 (shiftsOf T) «t_type» (now (fc4 .entry)))
+        (swapped (shiftsOf T) 3 (legs4 «t_type») (now (fc4 .entry))) ⌝ }
 {
     if t_type == 0 {
         exchange_legs(
@@ -60,7 +69,9 @@ pub fn transpose_compact_fc4(
     num_trans: usize,
     t_type: i64,
 ) -> Answer
-    ensures { λ r. ⌜ (r, now (fc4 .exit), now (done .exit)) ≡ transposeCompactFc4 (now (fc4 .entry)) (shiftTables (now (p2s .entry)) (now (s2pp .entry)) (now («nsym_list» .entry)) (now (perms .entry)) «n_satom» «n_patom» «num_trans») (now (done .entry)) «t_type» ⌝ }
+    ensures { λ r. ⌜
+        (let T = shiftTables (now (p2s .entry)) (now (s2pp .entry)) (now («nsym_list» .entry)) (now (perms .entry)) «n_satom» «n_patom» «num_trans» in
+        (r, now (fc4 .exit), now (done .exit)) ≡ transposeCompactFc4 (now (fc4 .entry)) T (now (done .entry)) «t_type») ⌝ }
 {
     let a = judge_compact(
         LIMIT4,
@@ -108,7 +119,9 @@ pub fn true_transpose_compact_fc4(
     num_trans: usize,
     t_type: i64,
 ) -> Answer
-    ensures { λ r. ⌜ (r, now (fc4 .exit), now (done .exit)) ≡ trueTransposeCompactFc4 (now (fc4 .entry)) (shiftTables (now (p2s .entry)) (now (s2pp .entry)) (now («nsym_list» .entry)) (now (perms .entry)) «n_satom» «n_patom» «num_trans») (now (done .entry)) «t_type» ⌝ }
+    ensures { λ r. ⌜
+        (let T = shiftTables (now (p2s .entry)) (now (s2pp .entry)) (now («nsym_list» .entry)) (now (perms .entry)) «n_satom» «n_patom» «num_trans» in
+        (r, now (fc4 .exit), now (done .exit)) ≡ trueTransposeCompactFc4 (now (fc4 .entry)) T (now (done .entry)) «t_type») ⌝ }
 {
     let a = judge_compact(
         LIMIT4,

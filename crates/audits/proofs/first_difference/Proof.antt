@@ -6,7 +6,7 @@ use lib.ListN.{length}
 use borrow.Author.Count.{below-none, below-more}
 use borrow.Author.Needs.{needs}
 use Rattle.audits.specs.Audit.{differAt}
-use Rattle.audits.specs.Search.{is-search}
+use Rattle.lists.specs.Lowest.{is-lowest}
 use Rattle.audits.proofs.first_difference.Statement.{statement}
 use Rattle.audits.proofs.first_difference.Tie as tie
 
@@ -23,7 +23,7 @@ returns : tie.Need-returns Inv-loop μ-loop
 returns c =
     let a = c .before .before .before .before .before .before .before .before .args in
     let l = c .before .before .before .before .before .loop in
-    is-search (length (a .a .now)) (differAt (a .a .now) (a .b .now)) (l .k)
+    is-lowest (length (a .a .now)) (differAt (a .a .now) (a .b .now)) (l .k)
     (record { within = l .inv .0; passes = λ h. sym (c .before .differ .ensures) ∙ c .if1 .taken; before = l .inv .1 })
 
 loop-again : tie.Need-loop-again Inv-loop μ-loop
@@ -35,7 +35,7 @@ returns-2 : tie.Need-returns-2 Inv-loop μ-loop
 returns-2 c =
     let a = c .before .before .before .before .args in
     let l = c .before .loop in
-    is-search (length (a .a .now)) (differAt (a .a .now) (a .b .now)) (l .k)
+    is-lowest (length (a .a .now)) (differAt (a .a .now) (a .b .now)) (l .k)
     (record { within = l .inv .0; passes = λ h. absurd (omega arith); before = l .inv .1 })
 
 mul-differ : tie.Need-mul-differ Inv-loop μ-loop

@@ -1,6 +1,6 @@
 use mathlib.Core.Path.{_∙_}
 use native.Mathlib.Omega.{arith}
-use Rattle.blocks.specs.Nine.{joined-block}
+use Rattle.blocks.specs.Block9.{joined-block}
 use borrow.Author.Needs.{needs}
 use Rattle.blocks.proofs.read27.Statement.{statement}
 use Rattle.blocks.proofs.read27.Tie as tie

@@ -1,6 +1,6 @@
 -- `capi_fc2::gf_perm_trans_symmetrize_compact_fc` meets its contract. Assumes nothing.
 use borrow.Author.Needs.{needs}
-use Rattle.capi_numbers.specs.Numbered.{by-number-with}
+use Rattle.tables.specs.Numbered.{by-number-with}
 use Rattle.capi_fc2.proofs.gf_perm_trans_symmetrize_compact_fc.Statement.{statement}
 use Rattle.capi_fc2.proofs.gf_perm_trans_symmetrize_compact_fc.Tie as tie
 

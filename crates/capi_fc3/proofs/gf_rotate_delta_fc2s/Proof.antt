@@ -1,6 +1,6 @@
 -- `capi_fc3::gf_rotate_delta_fc2s` meets its contract. Assumes nothing.
 use borrow.Author.Needs.{needs}
-use Rattle.capi_numbers.specs.Numbered.{by-number-with}
+use Rattle.tables.specs.Numbered.{by-number-with}
 use Rattle.capi_fc3.proofs.gf_rotate_delta_fc2s.Statement.{statement}
 use Rattle.capi_fc3.proofs.gf_rotate_delta_fc2s.Tie as tie
 

@@ -1,6 +1,6 @@
 -- `capi_fc3::gf_set_permutation_symmetry_fc3` meets its contract. Assumes nothing.
 use borrow.Author.Needs.{needs}
-use Rattle.capi_numbers.specs.Numbered.{by-number}
+use Rattle.tables.specs.Numbered.{by-number}
 use Rattle.capi_fc3.proofs.gf_set_permutation_symmetry_fc3.Statement.{statement}
 use Rattle.capi_fc3.proofs.gf_set_permutation_symmetry_fc3.Tie as tie
 

@@ -4,7 +4,7 @@ use mir.Syntax.{w64}
 use mir.ValLaws.{toZ-ofZ}
 use Rattle.tables.specs.Compact.{shiftTables}
 use Rattle.transposes_fc3.specs.Fc3.{transposeCompactFc3}
-use Rattle.capi_numbers.specs.Numbered.{by-number-at}
+use Rattle.tables.specs.Numbered.{by-number-at}
 use Rattle.capi_fc3.proofs.gf_transpose_compact_fc3.Statement.{statement}
 use Rattle.capi_fc3.proofs.gf_transpose_compact_fc3.Tie as tie
 

@@ -1,6 +1,6 @@
 -- `capi_fc4::gf_rotate_delta_fc3s` meets its contract. Assumes nothing.
 use borrow.Author.Needs.{needs}
-use Rattle.capi_numbers.specs.Numbered.{by-number-with}
+use Rattle.tables.specs.Numbered.{by-number-with}
 use Rattle.capi_fc4.proofs.gf_rotate_delta_fc3s.Statement.{statement}
 use Rattle.capi_fc4.proofs.gf_rotate_delta_fc3s.Tie as tie
 

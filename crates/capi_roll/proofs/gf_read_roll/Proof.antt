@@ -1,5 +1,5 @@
 -- `capi_roll::gf_read_roll` meets its contract. Assumes nothing.
-use Rattle.roll.specs.Holding.{is-framed}
+use Rattle.roll.specs.HoldingLaws.{is-framed}
 use Rattle.capi_roll.specs.Told.{read-within, read-told}
 use borrow.Author.Needs.{needs}
 use Rattle.capi_roll.proofs.gf_read_roll.Statement.{statement}

@@ -1,5 +1,5 @@
 -- `capi_roll::gf_read_roll_former` meets its contract. Assumes nothing.
-use Rattle.roll.specs.Holding.{former-framed}
+use Rattle.roll.specs.HoldingLaws.{former-framed}
 use Rattle.capi_roll.specs.Told.{read-within, read-told-former}
 use borrow.Author.Needs.{needs}
 use Rattle.capi_roll.proofs.gf_read_roll_former.Statement.{statement}

@@ -3,11 +3,11 @@ use borrow.Author.Needs.{needs}
 use Rattle.deltas.proofs.column.Statement.{statement}
 use Rattle.deltas.proofs.column.Tie as tie
 
-with-leg-requires : tie.Need-with-leg-requires
-with-leg-requires c κs = search needs
+index-of-requires : tie.Need-index-of-requires
+index-of-requires c κs = search needs
 
-with-leg-requires-2 : tie.Need-with-leg-requires-2
-with-leg-requires-2 c κs = search needs
+index-of-requires-2 : tie.Need-index-of-requires-2
+index-of-requires-2 c κs = search needs
 
 mul-t6 : tie.Need-mul-t6
 mul-t6 c = search needs
@@ -30,14 +30,14 @@ shared-slice-read-t14 c = search needs
 returns : tie.Need-returns
 returns c =
     let a = c .before .before .before .before .before .before .args in
-    is-column (a .inv-u .now) (a .total) (a .n) _ _ (c .before .before .before .before .with-leg .ensures) (c .before .before .before .with-leg2 .ensures)
+    is-column (a .inv-u .now) (a .total) (a .n) _ _ (c .before .before .before .before .index-of .ensures) (c .before .before .before .index-of2 .ensures)
 
 pub column-spec : {M : Type 1} → statement M
 column-spec =
     tie.close
     (tie.spec
-    with-leg-requires
-    with-leg-requires-2
+    index-of-requires
+    index-of-requires-2
     mul-t6
     shared-slice-read-t8
     mul-t9

@@ -1,16 +1,16 @@
 -- `distances::early_in` meets its contract. Assumes nothing.
-use Rattle.distances.proofs.Numbers.{never-early, never-only}
+use Rattle.distances.proofs.Numbers.{never-early, never-only, if-so, if-not}
 use borrow.Author.Needs.{needs}
 use Rattle.distances.proofs.early_in.Statement.{statement}
 use Rattle.distances.proofs.early_in.Tie as tie
 
 returns : tie.Need-returns
-returns c = (c .early-of .ensures, λ x h. c .before .if1 .taken)
+returns c = let e = c .early-of .ensures in (if-so _ _ (c .before .if1 .taken) (e .0), e .1, λ x h. c .before .if1 .taken)
 
 returns-2 : tie.Need-returns-2
 returns-2 c =
     let a = c .before .args in
-    (never-early (a .square) _ _ _ _ _ _, never-only (a .repeats))
+    (if-not (a .repeats) _ (c .if1 .left), never-early (a .square) _ _ _ _ _ _, never-only (a .repeats))
 
 array-read-early-of : tie.Need-array-read-early-of
 array-read-early-of c = search needs

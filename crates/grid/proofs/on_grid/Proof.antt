@@ -3,7 +3,7 @@ use mathlib.Core.Path.{sym, ap, _∙_, subst}
 use lib.Dec.{T}
 use lib.Ieee.{eq, binary64, mul, ofBits, neg}
 use borrow.Author.Needs.{needs}
-use Rattle.grid.specs.GridTest.{top, not-below, not-above, between}
+use Rattle.grid.specs.GridTestLaws.{top, not-below, not-above, between}
 use Rattle.grid.proofs.on_grid.Statement.{statement}
 use Rattle.grid.proofs.on_grid.Tie as tie
 

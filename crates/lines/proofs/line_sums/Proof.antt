@@ -1,5 +1,5 @@
 use Rattle.lines.specs.Lines.{lineSums, step-is, step-fits}
-use Rattle.lines.specs.Nine.{more}
+use Rattle.lines.specs.Sums3x3.{more}
 use Rattle.blocks.specs.Block.{block}
 use Rattle.lists.specs.Tab.{times, times-none, times-more}
 use mathlib.Core.Path.{_≡_, ap, _∙_}
@@ -18,13 +18,13 @@ abbrev μ-loop : tie.MeasureT-loop
 loop-holds : tie.Need-loop-holds Inv-loop μ-loop
 loop-holds c = (omega arith, times-none _ _)
 
-with-leg-requires : tie.Need-with-leg-requires Inv-loop μ-loop
-with-leg-requires c κs = omega (arith, c .before .before .before .pre .within (c .before .loop .k) (c .loop-test .taken))
+index-of-requires : tie.Need-index-of-requires Inv-loop μ-loop
+index-of-requires c κs = omega (arith, c .before .before .before .pre .within (c .before .loop .k) (c .loop-test .taken))
 
 read9-requires : tie.Need-read9-requires Inv-loop μ-loop
 read9-requires c κs =
     let t = c .before in
-    step-fits (t .before .before .before .pre) (t .before .loop .k) (t .loop-test .taken) (c .with-leg .ensures)
+    step-fits (t .before .before .before .pre) (t .before .loop .k) (t .loop-test .taken) (c .index-of .ensures)
 
 more-requires : tie.Need-more-requires Inv-loop μ-loop
 more-requires c κs = search needs
@@ -41,7 +41,7 @@ loop-again c =
     let t = w .before in
     let l = t .before .loop in
     let a = t .before .before .before .args in
-    let e = step-is (t .before .before .before .pre) (l .k) (t .loop-test .taken) (w .with-leg .ensures) in
+    let e = step-is (t .before .before .before .pre) (l .k) (t .loop-test .taken) (w .index-of .ensures) in
     (omega arith, times-more (l .k) _ _ (l .inv .1) (c .more .ensures ∙ ap (more (l .sums)) (c .before .read9 .ensures ∙ ap (λ b. block 9 b (a .fc .now)) e)))
 
 returns : tie.Need-returns Inv-loop μ-loop
@@ -58,7 +58,7 @@ line-sums-spec =
     Inv-loop
     μ-loop
     loop-holds
-    with-leg-requires
+    index-of-requires
     read9-requires
     more-requires
     add-k

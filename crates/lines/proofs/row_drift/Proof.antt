@@ -17,8 +17,8 @@ abbrev μ-loop : tie.MeasureT-loop
 loop-holds : tie.Need-loop-holds Inv-loop μ-loop
 loop-holds c = (omega arith, refl, times-none _ _)
 
-with-leg-requires : tie.Need-with-leg-requires Inv-loop μ-loop
-with-leg-requires c κs =
+index-of-requires : tie.Need-index-of-requires Inv-loop μ-loop
+index-of-requires c κs =
     let s = c .before .before .before .before in
     row-start (s .pre) (c .before .before .loop .i) (c .before .loop-test .taken)
 
@@ -27,7 +27,7 @@ line-drift-requires c κs =
     let t = c .before in
     let l = t .before .before .loop in
     let s = t .before .before .before .before in
-    let e = c .with-leg .ensures in
+    let e = c .index-of .ensures in
     rw (l .inv .1) (run-line (s .pre) (l .i) (s .args .n) _ (t .before .loop-test .taken) (omega arith))
 
 add-i : tie.Need-add-i Inv-loop μ-loop
@@ -41,7 +41,7 @@ loop-again c =
     let w = c .before .before in
     let g = w .before in
     let l = g .before .before .before .loop in
-    let e : g .with-leg .result ≡ l .i * g .before .before .before .before .before .args .n = omega (arith, g .with-leg .ensures) in
+    let e : g .index-of .result ≡ l .i * g .before .before .before .before .before .args .n = omega (arith, g .index-of .ensures) in
     (omega arith, w .line-drift .kept .0 ∙ l .inv .1, times-more (l .i) _ _ (l .inv .2) (rw e at (w .line-drift .ensures)))
 
 same-length : tie.Need-same-length Inv-loop μ-loop
@@ -61,7 +61,7 @@ row-drift-spec =
     Inv-loop
     μ-loop
     loop-holds
-    with-leg-requires
+    index-of-requires
     line-drift-requires
     add-i
     loop-less

@@ -17,15 +17,15 @@ abbrev μ-loop : tie.MeasureT-loop
 loop-holds : tie.Need-loop-holds Inv-loop μ-loop
 loop-holds c = (omega arith, refl, times-none _ _)
 
-with-leg-requires : tie.Need-with-leg-requires Inv-loop μ-loop
-with-leg-requires c κs = omega (arith, c .before .before .before .pre .within (c .before .loop .k) (c .loop-test .taken))
+index-of-requires : tie.Need-index-of-requires Inv-loop μ-loop
+index-of-requires c κs = omega (arith, c .before .before .before .pre .within (c .before .loop .k) (c .loop-test .taken))
 
 read9-requires : tie.Need-read9-requires Inv-loop μ-loop
 read9-requires c κs =
     let w = c .before in
     let t = w .before in
     let l = t .before .loop in
-    rw (l .inv .1) (step-fits (t .before .before .before .pre) (l .k) (t .loop-test .taken) (w .with-leg .ensures))
+    rw (l .inv .1) (step-fits (t .before .before .before .pre) (l .k) (t .loop-test .taken) (w .index-of .ensures))
 
 less-requires : tie.Need-less-requires Inv-loop μ-loop
 less-requires c κs = search needs
@@ -35,7 +35,7 @@ write9-requires c κs =
     let w = c .before .before .before .before in
     let t = w .before in
     let l = t .before .loop in
-    rw (l .inv .1) (step-fits (t .before .before .before .pre) (l .k) (t .loop-test .taken) (w .with-leg .ensures))
+    rw (l .inv .1) (step-fits (t .before .before .before .pre) (l .k) (t .loop-test .taken) (w .index-of .ensures))
 
 add-k : tie.Need-add-k Inv-loop μ-loop
 add-k c = search needs
@@ -50,7 +50,7 @@ loop-again c =
     let g = w .before .before .before .before .before in
     let t = g .before in
     let l = t .before .loop in
-    let e = step-is (t .before .before .before .pre) (l .k) (t .loop-test .taken) (g .with-leg .ensures) in
+    let e = step-is (t .before .before .before .pre) (l .k) (t .loop-test .taken) (g .index-of .ensures) in
     (omega arith, w .write9 .kept .0 ∙ l .inv .1, times-more (l .k) _ _ (l .inv .2) (rw (w .before .less .ensures, w .before .before .before .read9 .ensures, e) at (w .write9 .ensures)))
 
 same-length : tie.Need-same-length Inv-loop μ-loop
@@ -70,7 +70,7 @@ take-drift-spec =
     Inv-loop
     μ-loop
     loop-holds
-    with-leg-requires
+    index-of-requires
     read9-requires
     less-requires
     write9-requires

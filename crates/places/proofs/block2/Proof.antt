@@ -5,9 +5,9 @@ use borrow.Author.Needs.{needs}
 use Rattle.places.proofs.block2.Statement.{statement}
 use Rattle.places.proofs.block2.Tie as tie
 
-with-leg-requires : tie.Need-with-leg-requires
+index-of-requires : tie.Need-index-of-requires
 unfolding horner
-with-leg-requires c κs =
+index-of-requires c κs =
     let s = c in
     let h2 = grown 1024 (s .args .p .0) (s .args .n-satom) (s .args .j .0) (s .pre .1) (s .pre .2) (s .pre .0) in
     omega (arith, h2)
@@ -17,4 +17,4 @@ unfolding horner
 returns c = search needs
 
 pub block2-spec : {M : Type 1} → statement M
-block2-spec = tie.close (tie.spec with-leg-requires returns)
+block2-spec = tie.close (tie.spec index-of-requires returns)

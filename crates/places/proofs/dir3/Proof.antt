@@ -7,13 +7,13 @@ use Rattle.places.proofs.dir3.Tie as tie
 dir2-requires : tie.Need-dir2-requires
 dir2-requires c κs = search needs
 
-with-leg-requires : tie.Need-with-leg-requires
+index-of-requires : tie.Need-index-of-requires
 unfolding horner
-with-leg-requires c κs = omega arith
+index-of-requires c κs = omega arith
 
 returns : tie.Need-returns
 unfolding horner
 returns c = cc
 
 pub dir3-spec : {M : Type 1} → statement M
-dir3-spec = tie.close (tie.spec dir2-requires with-leg-requires returns)
+dir3-spec = tie.close (tie.spec dir2-requires index-of-requires returns)

@@ -6,8 +6,8 @@ use Rattle.positions.specs.Positions.{at-entry}
 use Rattle.positions.proofs.entry.Statement.{statement}
 use Rattle.positions.proofs.entry.Tie as tie
 
-with-leg-requires : tie.Need-with-leg-requires
-with-leg-requires c κs = search needs
+index-of-requires : tie.Need-index-of-requires
+index-of-requires c κs = search needs
 
 element-copy-out-result : tie.Need-element-copy-out-result
 element-copy-out-result c = search needs
@@ -15,12 +15,12 @@ element-copy-out-result c = search needs
 returns : tie.Need-returns
 returns c =
     let a = c .before .before in
-    ap (λ i. getD (a .args .t .now) i 0) (c .before .with-leg .ensures) ∙ at-entry (a .args .t .now) (a .pre .0) (a .args .s) (a .args .k) (a .pre .1) (a .pre .2)
+    ap (λ i. getD (a .args .t .now) i 0) (c .before .index-of .ensures) ∙ at-entry (a .args .t .now) (a .pre .0) (a .args .s) (a .args .k) (a .pre .1) (a .pre .2)
 
 pub entry-spec : {M : Type 1} → statement M
 entry-spec =
     tie.close
     (tie.spec
-    with-leg-requires
+    index-of-requires
     element-copy-out-result
     returns)

@@ -7,7 +7,7 @@ use lib.Dec.{eqb}
 use lib.ListN.{length, getD}
 use borrow.Author.Needs.{needs}
 use Rattle.lists.specs.Tab.{times, times-none, times-more}
-use Rattle.replays.specs.Tally.{differing, more}
+use Rattle.replays.specs.Tally.{differing, increased}
 use Rattle.replays.proofs.different.Statement.{statement}
 use Rattle.replays.proofs.different.Tie as tie
 
@@ -49,7 +49,7 @@ loop-again c =
     let l = c .before .before .before .before .before .loop in
     let a = c .before .before .before .before .before .before .before .before .args in
     let one = c .before .differs .ensures ∙ ap (λ (w : ℕ). cond (eqb (getD (a .got .now) (l .i) 0) w) 0 1) (c .before .before .word-of .ensures) in
-    (omega arith, times-more (l .i) _ _ (l .inv .1) (c .plus .ensures ∙ ap (more (l .d)) one))
+    (omega arith, times-more (l .i) _ _ (l .inv .1) (c .plus .ensures ∙ ap (increased (l .d)) one))
 
 returns : tie.Need-returns Inv-loop μ-loop
 returns c =

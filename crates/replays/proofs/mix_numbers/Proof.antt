@@ -5,7 +5,7 @@ use native.Mathlib.Omega.{arith}
 use lib.ListN.{length}
 use borrow.Author.Needs.{needs}
 use Rattle.lists.specs.Tab.{times, times-none, times-more}
-use Rattle.replays.specs.Tally.{mixedNumber}
+use Rattle.replays.specs.Words.{mixedNumber}
 use Rattle.replays.proofs.mix_numbers.Statement.{statement}
 use Rattle.replays.proofs.mix_numbers.Tie as tie
 

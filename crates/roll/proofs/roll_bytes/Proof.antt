@@ -1,6 +1,6 @@
 use mathlib.Core.Path.{sym}
 use lib.Seq.{length-take-le}
-use Rattle.roll.specs.Holding.{bytes-past, bytes-there}
+use Rattle.roll.specs.HoldingLaws.{bytes-past, bytes-there}
 use borrow.Author.Needs.{needs}
 use Rattle.roll.proofs.roll_bytes.Statement.{statement}
 use Rattle.roll.proofs.roll_bytes.Tie as tie

@@ -3,8 +3,9 @@ use Prim.Native.Nat.{_-_, _≤_}
 use native.Mathlib.Omega.{arith}
 use lib.ListN.{length, getD-replicate}
 use lib.Ieee.{nan}
-use Rattle.rotations.specs.Rotation.{plusZero, sums}
-use Rattle.rotations.specs.Laws.{sums-none, sums-more, rotated-by}
+use Rattle.lists.specs.Floats.{plusZero}
+use Rattle.rotations.specs.Rotation.{sums}
+use Rattle.rotations.specs.Laws.{sums-none, sums-more}
 use borrow.Author.Needs.{needs}
 use Rattle.rotations.proofs.rotated27.Statement.{statement}
 use Rattle.rotations.proofs.rotated27.Tie as tie
@@ -52,7 +53,7 @@ returns c =
     let l = c .before .loop in
     let a = c .before .before .args in
     let i : l .q ≡ 27 = omega arith in
-    λ m e. rotated-by m 3 (a .t2) e (l .inv .1 ∙ ap (λ k. sums 27 k 27 0 (a .c .now) (a .t2)) i)
+    l .inv .1 ∙ ap (λ k. sums 27 k 27 0 (a .c .now) (a .t2)) i
 
 pub rotated27-spec : {M : Type 1} → statement M
 rotated27-spec =

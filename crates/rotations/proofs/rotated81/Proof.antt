@@ -3,7 +3,7 @@ use Prim.Native.Nat.{_-_, _*_, _≤_}
 use native.Mathlib.Omega.{arith}
 use lib.ListN.{length}
 use borrow.Author.Count.{below-none}
-use Rattle.rotations.specs.Laws.{Filled, fill-part, filled-sums, sized, sums-width, rotated-by}
+use Rattle.rotations.specs.Laws.{Filled, fill-part, filled-sums, sized, sums-width}
 use borrow.Author.Needs.{needs}
 use Rattle.rotations.proofs.rotated81.Statement.{statement}
 use Rattle.rotations.proofs.rotated81.Tie as tie
@@ -70,10 +70,9 @@ returns c =
     let l = c .before .before .before .before .before .before .before .loop in
     let a = c .before .before .before .before .before .before .before .before .args in
     let i : l .h ≡ 4 = omega arith in
-    λ m e. rotated-by m 4 (a .t2) e
-    (filled-sums 81 (a .c .now) (a .t2) _ (c .before .write9 .kept .0 ∙ l .inv .1)
+    filled-sums 81 (a .c .now) (a .t2) _ (c .before .write9 .kept .0 ∙ l .inv .1)
     (fill-part 81 9 8 72 (a .c .now) (a .t2) (l .r) refl (omega (arith, l .inv .1)) (sums-width 9 81 72 (a .c .now) (a .t2) (search needs) (c .before .before .before .sums9 .ensures)) (c .before .write9 .ensures)
-    (λ k h. l .inv .2 k (omega arith))))
+    (λ k h. l .inv .2 k (omega arith)))
 
 pub rotated81-spec : {M : Type 1} → statement M
 rotated81-spec =

@@ -6,10 +6,10 @@ use lib.ListN.{length}
 use borrow.Author.Needs.{needs}
 use Rattle.lists.specs.Tab.{times, times-none, times-more}
 use Rattle.blocks.specs.Block.{putBlock}
-use Rattle.lines.specs.Nine.{zeros}
+use Rattle.lines.specs.Sums3x3.{zeros}
 use Rattle.lines.specs.Lines.{lineSums, row-start, run-line}
-use Rattle.row_sums.specs.RowSums.{flat}
-use Rattle.row_sums.specs.Rows.{rowAt, rows-make}
+use Rattle.row_sums.specs.RowSums.{flatSums}
+use Rattle.row_sums.specs.RowLaws.{rowAt, rows-make}
 use Rattle.row_sums.proofs.sum_rows.Statement.{statement}
 use Rattle.row_sums.proofs.sum_rows.Tie as tie
 
@@ -22,15 +22,15 @@ abbrev μ-loop : tie.MeasureT-loop
 loop-holds : tie.Need-loop-holds Inv-loop μ-loop
 loop-holds c = (omega arith, refl, times-none _ _)
 
-with-leg-requires : tie.Need-with-leg-requires Inv-loop μ-loop
-with-leg-requires c κs = let s = c .before .before .before .before in row-start (s .pre .0) (c .before .loop .i) (c .loop-test .taken)
+index-of-requires : tie.Need-index-of-requires Inv-loop μ-loop
+index-of-requires c κs = let s = c .before .before .before .before in row-start (s .pre .0) (c .before .loop .i) (c .loop-test .taken)
 
 line-sums-requires : tie.Need-line-sums-requires Inv-loop μ-loop
 line-sums-requires c κs =
     let t = c .before in
     let s = t .before .before .before .before in
     let l = t .before .loop in
-    let e = c .with-leg .ensures in
+    let e = c .index-of .ensures in
     run-line (s .pre .0) (l .i) (s .args .n) _ (t .loop-test .taken) (omega arith)
 
 flat-requires : tie.Need-flat-requires Inv-loop μ-loop
@@ -60,8 +60,8 @@ loop-again c =
     let t = g .before in
     let l = t .before .loop in
     let a = t .before .before .before .before .args in
-    let e : g .with-leg .result ≡ l .i * a .n = omega (arith, g .with-leg .ensures) in
-    let v = w .before .flat .ensures ∙ ap flat (p .line-sums .ensures ∙ ap (λ b. lineSums b 1 (a .n) (a .fc .now) zeros) e) in
+    let e : g .index-of .result ≡ l .i * a .n = omega (arith, g .index-of .ensures) in
+    let v = w .before .flat .ensures ∙ ap flatSums (p .line-sums .ensures ∙ ap (λ b. lineSums b 1 (a .n) (a .fc .now) zeros) e) in
     (omega arith, w .write9 .kept .0 ∙ l .inv .1, times-more (l .i) _ _ (l .inv .2) (w .write9 .ensures ∙ ap (λ v. putBlock 9 (l .i) v (l .sums)) v))
 
 same-length : tie.Need-same-length Inv-loop μ-loop
@@ -78,4 +78,4 @@ returns c =
 pub sum-rows-spec : {M : Type 1} → statement M
 sum-rows-spec =
     tie.close
-    (tie.spec Inv-loop μ-loop loop-holds with-leg-requires line-sums-requires flat-requires write9-requires add-i loop-less loop-again same-length returns)
+    (tie.spec Inv-loop μ-loop loop-holds index-of-requires line-sums-requires flat-requires write9-requires add-i loop-less loop-again same-length returns)

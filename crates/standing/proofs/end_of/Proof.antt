@@ -2,17 +2,17 @@
 use mathlib.Core.Path.{_≡_, ap, _∙_}
 use Prim.Native.Nat.{ℕ, _-_, _≤_, _<_}
 use native.Mathlib.Omega.{arith}
-use Rattle.roll.specs.Reading.{start}
-use Rattle.roll.specs.Starts.{start-first, next-start}
+use Rattle.roll.specs.Reading.{recordStart}
+use Rattle.roll.specs.StartLaws.{start-first, next-start}
 use Rattle.standing.specs.Walk.{recordOf, inside}
 use Rattle.standing.specs.Chains.{carried}
-use Rattle.standing.specs.Ends.{carried-none, carried-more}
+use Rattle.standing.specs.EndLaws.{carried-none, carried-more}
 use borrow.Author.Needs.{needs}
 use Rattle.standing.proofs.end_of.Statement.{statement}
 use Rattle.standing.proofs.end_of.Tie as tie
 
 abbrev Inv-loop : tie.InvT-loop
-Inv-loop b n x y₀ p₀ i₀ y p i = (i ≤ n) × (p ≡ start b i) × (y ≡ carried (recordOf b) i x) × (y < 4294967296)
+Inv-loop b n x y₀ p₀ i₀ y p i = (i ≤ n) × (p ≡ recordStart b i) × (y ≡ carried (recordOf b) i x) × (y < 4294967296)
 
 abbrev μ-loop : tie.MeasureT-loop
 μ-loop b n x y₀ p₀ i₀ y p i = n - i

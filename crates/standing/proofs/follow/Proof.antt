@@ -1,7 +1,7 @@
 -- `standing::follow` meets its contract. Assumes nothing.
 use native.Mathlib.Omega.{arith}
 use borrow.Author.Tests.{not-true, not-false}
-use Rattle.standing.specs.Ends.{says-unknown, says-retired, says-current}
+use Rattle.standing.specs.EndLaws.{says-unknown, says-retired, says-current}
 use borrow.Author.Needs.{needs}
 use Rattle.standing.proofs.follow.Statement.{statement}
 use Rattle.standing.proofs.follow.Tie as tie

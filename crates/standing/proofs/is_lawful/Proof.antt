@@ -4,16 +4,16 @@ use mathlib.Core.Bool.{true}
 use Prim.Native.Nat.{ℕ, _-_, _≤_, _<_}
 use native.Mathlib.Omega.{arith}
 use borrow.Author.Count.{below-none, below-more}
-use Rattle.roll.specs.Reading.{start}
-use Rattle.roll.specs.Starts.{start-first, next-start, one-failed, all-passed, told-no, told-yes}
+use Rattle.roll.specs.Reading.{recordStart}
+use Rattle.roll.specs.StartLaws.{start-first, next-start, one-failed, all-passed, told-no, told-yes}
 use Rattle.standing.specs.Register.{allowed}
-use Rattle.standing.specs.Walk.{recordOf, after, lawfulTo, inside}
+use Rattle.standing.specs.Walk.{recordOf, registerAfter, lawfulTo, inside}
 use borrow.Author.Needs.{needs}
 use Rattle.standing.proofs.is_lawful.Statement.{statement}
 use Rattle.standing.proofs.is_lawful.Tie as tie
 
 abbrev Inv-loop : tie.InvT-loop
-Inv-loop b n p₀ i₀ p i = (i ≤ n) × (p ≡ start b i) × ((k : ℕ) → k < i → allowed (after (recordOf b) k) (recordOf b k) ≡ true)
+Inv-loop b n p₀ i₀ p i = (i ≤ n) × (p ≡ recordStart b i) × ((k : ℕ) → k < i → allowed (registerAfter (recordOf b) k) (recordOf b k) ≡ true)
 
 abbrev μ-loop : tie.MeasureT-loop
 μ-loop b n p₀ i₀ p i = n - i
@@ -33,7 +33,7 @@ unfolding lawfulTo
 returns c =
     let b = c .before .before .before .before .before .args .b .now in
     let l = c .before .before .before .loop in
-    one-failed (c .before .before .before .before .before .args .n) (λ k. allowed (after (recordOf b) k) (recordOf b k)) (l .i) (c .before .before .loop-test .taken) (told-no (c .before .is-allowed .ensures) (c .if1 .taken))
+    one-failed (c .before .before .before .before .before .args .n) (λ k. allowed (registerAfter (recordOf b) k) (recordOf b k)) (l .i) (c .before .before .loop-test .taken) (told-no (c .before .is-allowed .ensures) (c .if1 .taken))
 
 record-end-requires : tie.Need-record-end-requires Inv-loop μ-loop
 record-end-requires c κs =
@@ -47,7 +47,7 @@ loop-again c =
     let l = c .before .before .before .before .loop in (
       omega arith,
       next-start b (l .i) (l .p) (c .record-end .result) (l .inv .1) (c .record-end .ensures),
-      below-more (λ k. allowed (after (recordOf b) k) (recordOf b k) ≡ true) (l .i) (l .inv .2) (told-yes (c .before .before .is-allowed .ensures) (c .before .if1 .left)),
+      below-more (λ k. allowed (registerAfter (recordOf b) k) (recordOf b k) ≡ true) (l .i) (l .inv .2) (told-yes (c .before .before .is-allowed .ensures) (c .before .if1 .left)),
     )
 
 returns-2 : tie.Need-returns-2 Inv-loop μ-loop
@@ -55,7 +55,7 @@ unfolding lawfulTo
 returns-2 c =
     let b = c .before .before .before .args .b .now in
     let l = c .before .loop in
-    all-passed (c .before .before .before .args .n) (λ k. allowed (after (recordOf b) k) (recordOf b k)) (λ k h. l .inv .2 k (omega arith))
+    all-passed (c .before .before .before .args .n) (λ k. allowed (registerAfter (recordOf b) k) (recordOf b k)) (λ k h. l .inv .2 k (omega arith))
 
 add-i : tie.Need-add-i Inv-loop μ-loop
 add-i c = search needs

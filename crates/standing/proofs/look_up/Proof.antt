@@ -3,15 +3,15 @@ use mathlib.Core.Path.{_≡_, ap, _∙_, subst}
 use mathlib.Core.Bool.{Bool, _||_}
 use Prim.Native.Nat.{ℕ, _-_, _≤_}
 use native.Mathlib.Omega.{arith}
-use Rattle.roll.specs.Reading.{start}
-use Rattle.roll.specs.Starts.{start-first, next-start}
-use Rattle.standing.specs.Walk.{Notes, recordOf, after, notes-none, notes-more, inside}
+use Rattle.roll.specs.Reading.{recordStart}
+use Rattle.roll.specs.StartLaws.{start-first, next-start}
+use Rattle.standing.specs.Walk.{Notes, recordOf, registerAfter, notes-none, notes-more, inside}
 use borrow.Author.Needs.{needs}
 use Rattle.standing.proofs.look_up.Statement.{statement}
 use Rattle.standing.proofs.look_up.Tie as tie
 
 abbrev Inv-loop : tie.InvT-loop
-Inv-loop b n x delivered₀ retired₀ by₀ p₀ i₀ delivered retired by p i = (i ≤ n) × (p ≡ start b i) × Notes (after (recordOf b) i) x delivered retired by
+Inv-loop b n x delivered₀ retired₀ by₀ p₀ i₀ delivered retired by p i = (i ≤ n) × (p ≡ recordStart b i) × Notes (registerAfter (recordOf b) i) x delivered retired by
 
 abbrev μ-loop : tie.MeasureT-loop
 μ-loop b n x delivered₀ retired₀ by₀ p₀ i₀ delivered retired by p i = n - i
@@ -66,7 +66,7 @@ returns c =
     let s = c .before .before .before in
     let l = c .before .loop in
     let e : l .i ≡ s .args .n = omega arith in
-    subst (λ (m : ℕ). Notes (after (recordOf (s .args .b .now)) m) (s .args .x) (l .delivered) (l .retired) (l .by)) e (l .inv .2)
+    subst (λ (m : ℕ). Notes (registerAfter (recordOf (s .args .b .now)) m) (s .args .x) (l .delivered) (l .retired) (l .by)) e (l .inv .2)
 
 either-requires : tie.Need-either-requires Inv-loop μ-loop
 either-requires c κs = search needs

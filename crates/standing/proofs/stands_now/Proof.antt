@@ -3,8 +3,8 @@ use mathlib.Core.Path.{ap, _∙_}
 use mathlib.Core.List.{List}
 use Prim.Native.Nat.{ℕ}
 use native.Mathlib.Omega.{arith}
-use Rattle.roll.specs.Starts.{told-no, told-yes}
-use Rattle.roll.specs.Holding.{at-least-eight, count-is}
+use Rattle.roll.specs.StartLaws.{told-no, told-yes}
+use Rattle.roll.specs.HoldingLaws.{at-least-eight, count-is}
 use Rattle.standing.specs.Register.{standsNow}
 use Rattle.standing.specs.Walk.{no-roll, no-law, by-rules}
 use borrow.Author.Needs.{needs}

@@ -1,6 +1,6 @@
 use mathlib.Core.Path.{sym, _∙_}
 use Rattle.tables.specs.Compact.{shiftTables}
-use Rattle.half_shifts.specs.HalfShift.{rep-read}
+use Rattle.orbits.specs.HalfShift.{rep-read}
 use Rattle.transposes_fc3.specs.Fc3Loops.{row-stays, row-moves}
 use borrow.Author.Needs.{needs}
 use Rattle.transposes_fc3.proofs.row0.Statement.{statement}

@@ -5,8 +5,8 @@ use mir.ValLaws.{toZ-ofZ}
 use borrow.Author.Needs.{needs}
 use Rattle.tables.specs.Compact.{shiftTables, shiftsOf}
 use Rattle.tables.specs.Limits.{limit3}
-use Rattle.half_shifts.specs.TrueTransposes.{swapped, legs3, trueTransposeCompactFc3}
-use Rattle.half_shifts.specs.Moved.{true-refused, true-ready, true-done}
+use Rattle.orbits.specs.TrueTransposes.{swapped, legs3, trueTransposeCompactFc3}
+use Rattle.orbits.specs.Moved.{true-refused, true-ready, true-done}
 use Rattle.transposes_fc3.proofs.true_transpose_compact_fc3.Statement.{statement}
 use Rattle.transposes_fc3.proofs.true_transpose_compact_fc3.Tie as tie
 

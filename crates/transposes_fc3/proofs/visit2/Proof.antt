@@ -3,7 +3,7 @@ use mathlib.Core.Bool.{false}
 use mathlib.Core.Path.{refl, _∙_}
 use lib.Dec.{lit<}
 use Rattle.tables.specs.Compact.{shiftTables}
-use Rattle.half_shifts.specs.HalfShift.{prim-small}
+use Rattle.orbits.specs.HalfShift.{prim-small}
 use Rattle.transposes_fc3.specs.Fc3Loops.{at3, plain3, none-stays, other-2, rising, found-in, found-now}
 use borrow.Author.Needs.{needs}
 use Rattle.transposes_fc3.proofs.visit2.Statement.{statement}

@@ -6,7 +6,7 @@ use mir.Syntax.{w64}
 use mir.Val.{toZ, ofZ}
 use mir.ValLaws.{toZ-ofZ}
 use Rattle.tables.specs.Compact.{shiftTables, shiftsOf}
-use Rattle.transposes_fc4.specs.Fc4Loops.{by-zero, by-other}
+use Rattle.transposes_fc4.specs.Fc4LoopLaws.{by-zero, by-other}
 use borrow.Author.Needs.{needs}
 use Rattle.transposes_fc4.proofs.by_type.Statement.{statement}
 use Rattle.transposes_fc4.proofs.by_type.Tie as tie

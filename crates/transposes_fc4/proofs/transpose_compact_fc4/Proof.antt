@@ -3,7 +3,7 @@ use mir.Syntax.{w64}
 use mir.ValLaws.{toZ-ofZ}
 use Rattle.tables.specs.Compact.{shiftTables, shiftsOf}
 use Rattle.transposes_fc4.specs.Fc4.{transposedBy4}
-use Rattle.transposes_fc4.specs.Fc4Loops.{transpose-refused, transpose-ready, transpose-done}
+use Rattle.transposes_fc4.specs.Fc4LoopLaws.{transpose-refused, transpose-ready, transpose-done}
 use borrow.Author.Needs.{needs}
 use Rattle.transposes_fc4.proofs.transpose_compact_fc4.Statement.{statement}
 use Rattle.transposes_fc4.proofs.transpose_compact_fc4.Tie as tie

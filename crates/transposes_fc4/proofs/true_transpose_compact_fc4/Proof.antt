@@ -4,8 +4,8 @@ use mir.Syntax.{w64}
 use mir.ValLaws.{toZ-ofZ}
 use Rattle.tables.specs.Compact.{shiftTables, shiftsOf}
 use Rattle.tables.specs.Limits.{limit4}
-use Rattle.half_shifts.specs.TrueTransposes.{swapped, legs4, trueTransposeCompactFc4}
-use Rattle.half_shifts.specs.Moved.{true-refused, true-ready, true-done}
+use Rattle.orbits.specs.TrueTransposes.{swapped, legs4, trueTransposeCompactFc4}
+use Rattle.orbits.specs.Moved.{true-refused, true-ready, true-done}
 use borrow.Author.Needs.{needs}
 use Rattle.transposes_fc4.proofs.true_transpose_compact_fc4.Statement.{statement}
 use Rattle.transposes_fc4.proofs.true_transpose_compact_fc4.Tie as tie

@@ -18,14 +18,14 @@ read-requires c κs =
     let h = order-below (another (a .width) (a .bs .now) (a .t .now) (a .fc .now) (a .b) (a .k)) (s .pre .2) e in
     readable (s .pre .0) _ (s .args .k) h (s .pre .1)
 
-with-leg-requires : tie.Need-with-leg-requires
-with-leg-requires c κs = let s = c .before .before .before in let h = in-here (s .pre .0) (s .args .k) (s .pre .1) in omega arith
+index-of-requires : tie.Need-index-of-requires
+index-of-requires c κs = let s = c .before .before .before in let h = in-here (s .pre .0) (s .args .k) (s .pre .1) in omega arith
 
 returns : tie.Need-returns
 unfolding differenceIn
 returns c =
     let s = c .before .before .before .before .before .before .before in
-    rw (c .before .before .before .with-leg .ensures, c .before .own .ensures, c .read .ensures, c .before .before .first-order .ensures) refl
+    rw (c .before .before .before .index-of .ensures, c .before .own .ensures, c .read .ensures, c .before .before .first-order .ensures) refl
 
 pub difference-spec : {M : Type 1} → statement M
-difference-spec = tie.close (tie.spec with-leg-requires first-order-requires own-requires read-requires returns)
+difference-spec = tie.close (tie.spec index-of-requires first-order-requires own-requires read-requires returns)

@@ -6,7 +6,7 @@ use lib.ListN.{length}
 use borrow.Author.Count.{below-none, below-more}
 use borrow.Author.Needs.{needs}
 use Rattle.audits.specs.Audit.{differ}
-use Rattle.audits.specs.Search.{is-search}
+use Rattle.lists.specs.Lowest.{is-lowest}
 use Rattle.audits.specs.Kernel.{another, readable, in-here}
 use Rattle.audits.proofs.kernel.first_order.Statement.{statement}
 use Rattle.audits.proofs.kernel.first_order.Tie as tie
@@ -34,7 +34,7 @@ returns : tie.Need-returns Inv-loop μ-loop
 unfolding another
 returns c =
     let l = c .before .before .before .before .before .loop in
-    is-search (length (c .before .before .before .before .before .before .before .before .before .args .bs .now)) _ (l .i)
+    is-lowest (length (c .before .before .before .before .before .before .before .before .before .args .bs .now)) _ (l .i)
     (record { within = l .inv .0; passes = λ h. sym (c .before .differ .ensures ∙ ap₂ differ (c .before .before .before .own .ensures) (c .before .before .read .ensures)) ∙ c .if1 .taken; before = l .inv .1 })
 
 loop-again : tie.Need-loop-again Inv-loop μ-loop
@@ -46,7 +46,7 @@ loop-again c =
 returns-2 : tie.Need-returns-2 Inv-loop μ-loop
 returns-2 c =
     let l = c .before .loop in
-    is-search (length (c .before .before .before .before .before .args .bs .now)) _ (l .i) (record { within = l .inv .0; passes = λ h. absurd (omega arith); before = l .inv .1 })
+    is-lowest (length (c .before .before .before .before .before .args .bs .now)) _ (l .i) (record { within = l .inv .0; passes = λ h. absurd (omega arith); before = l .inv .1 })
 
 differ-requires : tie.Need-differ-requires Inv-loop μ-loop
 differ-requires c κs = search needs

@@ -3,13 +3,13 @@ use native.Mathlib.Omega.{arith}
 use mathlib.Core.Path.{_≡_, subst}
 use lib.ListN.{length}
 use borrow.Author.Needs.{needs}
-use Rattle.audits.specs.Search.{First, is-search}
+use Rattle.lists.specs.Lowest.{Lowest, is-lowest}
 use Rattle.audits.specs.Kernel.{another, positionTo, first-none, one-more}
 use Rattle.audits.proofs.kernel.first_position.Statement.{statement}
 use Rattle.audits.proofs.kernel.first_position.Tie as tie
 
 abbrev Inv-loop : tie.InvT-loop
-Inv-loop fc bs t width b until₀ i₀ until i = (i ≤ length bs) × First width (positionTo width bs t fc b i) until
+Inv-loop fc bs t width b until₀ i₀ until i = (i ≤ length bs) × Lowest width (positionTo width bs t fc b i) until
 
 abbrev μ-loop : tie.MeasureT-loop
 μ-loop fc bs t width b until₀ i₀ until i = length bs - i
@@ -31,7 +31,7 @@ returns c =
     let l = c .before .loop in
     let a = c .before .before .before .before .before .args in
     let e : l .i ≡ length (a .bs .now) = omega arith in
-    is-search (a .width) _ (l .until) (subst (λ (n : ℕ). First (a .width) (positionTo (a .width) (a .bs .now) (a .t .now) (a .fc .now) (a .b) n) (l .until)) e (l .inv .1))
+    is-lowest (a .width) _ (l .until) (subst (λ (n : ℕ). Lowest (a .width) (positionTo (a .width) (a .bs .now) (a .t .now) (a .fc .now) (a .b) n) (l .until)) e (l .inv .1))
 
 add-i : tie.Need-add-i Inv-loop μ-loop
 add-i c = search needs

@@ -5,7 +5,7 @@ use mathlib.Core.Bool.{false}
 use borrow.Author.Count.{below-none, below-more}
 use borrow.Author.Needs.{needs}
 use Rattle.audits.specs.Audit.{differ}
-use Rattle.audits.specs.Search.{is-search}
+use Rattle.lists.specs.Lowest.{is-lowest}
 use Rattle.audits.specs.Kernel.{another, readable, in-here}
 use Rattle.audits.proofs.kernel.first_unlike.Statement.{statement}
 use Rattle.audits.proofs.kernel.first_unlike.Tie as tie
@@ -33,7 +33,7 @@ returns : tie.Need-returns Inv-loop μ-loop
 unfolding another
 returns c =
     let l = c .before .before .before .before .before .loop in
-    is-search (c .before .before .before .before .before .before .before .before .before .args .until) _ (l .k)
+    is-lowest (c .before .before .before .before .before .before .before .before .before .args .until) _ (l .k)
     (record { within = l .inv .0; passes = λ h. sym (c .before .differ .ensures ∙ ap₂ differ (c .before .before .before .own .ensures) (c .before .before .read .ensures)) ∙ c .if1 .taken; before = l .inv .1 })
 
 loop-again : tie.Need-loop-again Inv-loop μ-loop
@@ -45,7 +45,7 @@ loop-again c =
 returns-2 : tie.Need-returns-2 Inv-loop μ-loop
 returns-2 c =
     let l = c .before .loop in
-    is-search (c .before .before .before .before .before .args .until) _ (l .k) (record { within = l .inv .0; passes = λ h. absurd (omega arith); before = l .inv .1 })
+    is-lowest (c .before .before .before .before .before .args .until) _ (l .k) (record { within = l .inv .0; passes = λ h. absurd (omega arith); before = l .inv .1 })
 
 differ-requires : tie.Need-differ-requires Inv-loop μ-loop
 differ-requires c κs = search needs

@@ -7,11 +7,11 @@ use borrow.Author.Needs.{needs}
 use Rattle.audits.proofs.kernel.own.Statement.{statement}
 use Rattle.audits.proofs.kernel.own.Tie as tie
 
-with-leg-requires : tie.Need-with-leg-requires
-with-leg-requires c κs = let h = c .before .pre in omega arith
+index-of-requires : tie.Need-index-of-requires
+index-of-requires c κs = let h = c .before .pre in omega arith
 
 returns : tie.Need-returns
-returns c = let s = c .before .before .before in ap (λ q. getD (s .args .fc .now) q nan) (c .before .with-leg .ensures)
+returns c = let s = c .before .before .before in ap (λ q. getD (s .args .fc .now) q nan) (c .before .index-of .ensures)
 
 mul-result : tie.Need-mul-result
 mul-result c = search needs
@@ -20,4 +20,4 @@ shared-slice-read-result : tie.Need-shared-slice-read-result
 shared-slice-read-result c = search needs
 
 pub own-spec : {M : Type 1} → statement M
-own-spec = tie.close (tie.spec with-leg-requires mul-result shared-slice-read-result returns)
+own-spec = tie.close (tie.spec index-of-requires mul-result shared-slice-read-result returns)

@@ -8,8 +8,8 @@ use borrow.Author.Needs.{needs}
 use Rattle.lists.specs.Tab.{times, times-none, times-more}
 use Rattle.tables.specs.Conditions.{indexAt, read}
 use Rattle.rotations.specs.Rotation.{coefficients, rotated}
-use Rattle.slabs.specs.Slab.{move}
-use Rattle.slabs.specs.SlabLaws.{inside-atom, inside-block, inside-small}
+use Rattle.distribute.specs.Slab.{move}
+use Rattle.blocks.specs.Inside.{inside-atom, inside-block, inside-small}
 use Rattle.distribute.proofs.fc3.fill_row.Statement.{statement}
 use Rattle.distribute.proofs.fc3.fill_row.Tie as tie
 
@@ -28,16 +28,16 @@ loop-holds c = (omega arith, refl, λ m e. times-none _ _)
 entry-requires : tie.Need-entry-requires Inv-loop μ-loop
 entry-requires c κs = read (c .before .before .before .pre .0) (c .before .loop .i) (omega arith) .0
 
-with-leg-requires : tie.Need-with-leg-requires Inv-loop μ-loop
-with-leg-requires c κs =
+index-of-requires : tie.Need-index-of-requires Inv-loop μ-loop
+index-of-requires c κs =
     let l = c .before .before .loop in
     let s = c .before .before .before .before in
     let a = s .args in
     let k = inside-small (a .num-atom) 27 0 _ _ (omega arith) (omega arith) (inside-atom (a .num-atom) 27 0 (a .target) _ (l .i) (omega arith) (s .pre .1 .0)) in
     omega arith
 
-with-leg-requires-2 : tie.Need-with-leg-requires-2 Inv-loop μ-loop
-with-leg-requires-2 c κs =
+index-of-requires-2 : tie.Need-index-of-requires-2 Inv-loop μ-loop
+index-of-requires-2 c κs =
     let e = c .before in
     let l = e .before .before .loop in
     let s = e .before .before .before .before in
@@ -55,7 +55,7 @@ fill-block-requires c κs =
     let a = s .args in
     let i = read (s .pre .0) (l .i) (omega arith) .1 in
     let g : e .entry .result < a .num-atom = omega (arith, e .entry .ensures) in
-    rw (c .before .before .with-leg .ensures, c .before .with-leg2 .ensures, l .inv .1) (
+    rw (c .before .before .index-of .ensures, c .before .index-of2 .ensures, l .inv .1) (
       inside-block (a .num-atom) 27 (a .target * a .num-atom + l .i) _ (inside-atom (a .num-atom) 27 0 (a .target) _ (l .i) (omega arith) (s .pre .1 .0)),
       inside-block (a .num-atom) 27 (a .source * a .num-atom + e .entry .result) _ (inside-atom (a .num-atom) 27 0 (a .source) _ (e .entry .result) g (s .pre .1 .1)),
     )
@@ -76,7 +76,7 @@ loop-again c =
     let a = s .args in
     let r : (m : List Float) → a .c .now ≡ coefficients m 3 27
     → w .fill-block .last .0 ≡ move (a .atom-mapping .now) (a .num-atom) 27 (rotated m 3) 0 (a .target * a .num-atom + l .i) (a .source * a .num-atom + indexAt (a .atom-mapping .now) (l .i)) (l .fc3) = λ m q.
-    w .fill-block .ensures m q ∙ rw (w .before .before .before .with-leg .ensures, w .before .before .with-leg2 .ensures, e .entry .ensures) in
+    w .fill-block .ensures m q ∙ rw (w .before .before .before .index-of .ensures, w .before .before .index-of2 .ensures, e .entry .ensures) in
     (omega arith, w .fill-block .kept .0 ∙ l .inv .1, λ m q. times-more (l .i) _ _ (l .inv .2 m q) (r m q))
 
 same-length : tie.Need-same-length Inv-loop μ-loop
@@ -97,8 +97,8 @@ fill-row-spec =
     μ-loop
     loop-holds
     entry-requires
-    with-leg-requires
-    with-leg-requires-2
+    index-of-requires
+    index-of-requires-2
     fill-block-requires
     add-i
     loop-less

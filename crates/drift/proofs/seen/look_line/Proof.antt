@@ -2,7 +2,7 @@ use Prim.Native.Nat.{_+_, _*_, _-_, _≤_}
 use native.Mathlib.Omega.{arith}
 use mathlib.Core.Path.{_≡_, _∙_}
 use Rattle.lists.specs.Tab.{times, times-none, times-more}
-use Rattle.lines.specs.Nine.{sumIn}
+use Rattle.lines.specs.Sums3x3.{sumIn}
 use Rattle.drift.specs.Loops.{look, lookLine}
 use borrow.Author.Needs.{needs}
 use Rattle.drift.proofs.seen.look_line.Statement.{statement}
@@ -17,26 +17,26 @@ abbrev μ-loop : tie.MeasureT-loop
 loop-holds : tie.Need-loop-holds Inv-loop μ-loop
 loop-holds c = (omega arith, times-none _ _)
 
-legs-before-requires : tie.Need-legs-before-requires Inv-loop μ-loop
-legs-before-requires c κs = search needs
+row-of-requires : tie.Need-row-of-requires Inv-loop μ-loop
+row-of-requires c κs = search needs
 
-last-leg-requires : tie.Need-last-leg-requires Inv-loop μ-loop
-last-leg-requires c κs = search needs
+column-of-requires : tie.Need-column-of-requires Inv-loop μ-loop
+column-of-requires c κs = search needs
 
 mul-x : tie.Need-mul-x Inv-loop μ-loop
-mul-x c = let e = c .before .legs-before .ensures in omega arith
+mul-x c = let e = c .before .row-of .ensures in omega arith
 
 mul-x-2 : tie.Need-mul-x-2 Inv-loop μ-loop
-mul-x-2 c = let e = c .last-leg .ensures in omega arith
+mul-x-2 c = let e = c .column-of .ensures in omega arith
 
 index-1-x : tie.Need-index-1-x Inv-loop μ-loop
-index-1-x c = let e = c .before .legs-before .ensures in omega arith
+index-1-x c = let e = c .before .row-of .ensures in omega arith
 
 index-2-x : tie.Need-index-2-x Inv-loop μ-loop
-index-2-x c = let e = c .last-leg .ensures in omega arith
+index-2-x c = let e = c .column-of .ensures in omega arith
 
-with-leg-requires : tie.Need-with-leg-requires Inv-loop μ-loop
-with-leg-requires c κs = omega (arith, c .before .before .before .before .before .pre)
+index-of-requires : tie.Need-index-of-requires Inv-loop μ-loop
+index-of-requires c κs = omega (arith, c .before .before .before .before .before .pre)
 
 look-requires : tie.Need-look-requires Inv-loop μ-loop
 look-requires c κs = search needs
@@ -51,7 +51,7 @@ loop-again : tie.Need-loop-again Inv-loop μ-loop
 loop-again c =
     let w = c .before .before .before in
     let l = w .before .before .before .loop in
-    (omega arith, times-more (l .p) _ _ (l .inv .1) (rw (c .before .with-leg .ensures, w .last-leg .ensures, w .before .legs-before .ensures) at (c .look .ensures)))
+    (omega arith, times-more (l .p) _ _ (l .inv .1) (rw (c .before .index-of .ensures, w .column-of .ensures, w .before .row-of .ensures) at (c .look .ensures)))
 
 returns : tie.Need-returns Inv-loop μ-loop
 unfolding lookLine
@@ -67,13 +67,13 @@ look-line-spec =
     Inv-loop
     μ-loop
     loop-holds
-    legs-before-requires
-    last-leg-requires
+    row-of-requires
+    column-of-requires
     mul-x
     mul-x-2
     index-1-x
     index-2-x
-    with-leg-requires
+    index-of-requires
     look-requires
     add-p
     loop-less

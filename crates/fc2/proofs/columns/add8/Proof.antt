@@ -6,7 +6,7 @@ use mathlib.Core.List.{[]}
 use Rattle.lists.specs.Tab.{fill-more, is-tab}
 use borrow.Author.Count.{below-none}
 use Rattle.blocks.specs.Block.{block}
-use Rattle.lines.specs.Nine.{more}
+use Rattle.lines.specs.Sums3x3.{more}
 use Rattle.fc2.specs.FullLoops.{added8}
 use borrow.Author.Needs.{needs}
 use Rattle.fc2.proofs.columns.add8.Statement.{statement}

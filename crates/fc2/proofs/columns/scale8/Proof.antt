@@ -5,7 +5,7 @@ use lib.ListN.{length, getD}
 use mathlib.Core.List.{[]}
 use Rattle.lists.specs.Tab.{fill-more, is-tab}
 use borrow.Author.Count.{below-none}
-use Rattle.lines.specs.Nine.{scaled}
+use Rattle.lines.specs.Sums3x3.{scaled}
 use Rattle.fc2.specs.FullLoops.{scaled8}
 use borrow.Author.Needs.{needs}
 use Rattle.fc2.proofs.columns.scale8.Statement.{statement}

@@ -1,11 +1,11 @@
-use Rattle.fc2.specs.FullWork.{sized, call-refused, call-done}
+use Rattle.fc2.specs.FullWorkLaws.{sized, call-refused, call-done}
 use mathlib.Core.Path.{sym, ap, _∙_}
 use borrow.Author.Needs.{needs}
 use Rattle.fc2.proofs.full.perm_trans_symmetrize_fc.Statement.{statement}
 use Rattle.fc2.proofs.full.perm_trans_symmetrize_fc.Tie as tie
 
-judge-full-requires : tie.Need-judge-full-requires
-judge-full-requires c κs = search needs
+judge-levels-requires : tie.Need-judge-levels-requires
+judge-levels-requires c κs = search needs
 
 is-refusal-requires : tie.Need-is-refusal-requires
 is-refusal-requires c κs = search needs
@@ -14,13 +14,13 @@ returns : tie.Need-returns
 returns c =
     let j = c .before .before in
     let s = j .before .before in
-    call-refused (j .judge-full .result) (s .args .fc .now) (s .args .n-satom) (s .args .level) (j .judge-full .ensures) (sym (c .before .is-refusal .ensures) ∙ c .if1 .taken)
+    call-refused (j .judge-levels .result) (s .args .fc .now) (s .args .n-satom) (s .args .level) (j .judge-levels .ensures) (sym (c .before .is-refusal .ensures) ∙ c .if1 .taken)
 
 symmetrize-requires : tie.Need-symmetrize-requires
 symmetrize-requires c κs =
     let j = c .before .before .before in
     let s = j .before .before in
-    sized (j .judge-full .result) (s .args .fc .now) (s .args .n-satom) (s .args .level) (j .judge-full .ensures) (sym (c .before .before .is-refusal .ensures) ∙ c .before .if1 .left)
+    sized (j .judge-levels .result) (s .args .fc .now) (s .args .n-satom) (s .args .level) (j .judge-levels .ensures) (sym (c .before .before .is-refusal .ensures) ∙ c .before .if1 .left)
 
 same-length : tie.Need-same-length
 same-length c = search needs
@@ -31,13 +31,13 @@ returns-2 c =
     let j = w .before .before .before .before in
     let s = j .before .before in
     ap (λ l. (_, l)) (w .symmetrize .ensures)
-    ∙ call-done (j .judge-full .result) (s .args .fc .now) (s .args .n-satom) (s .args .level) (j .judge-full .ensures) (sym (w .before .before .before .is-refusal .ensures) ∙ w .before .before .if1 .left)
+    ∙ call-done (j .judge-levels .result) (s .args .fc .now) (s .args .n-satom) (s .args .level) (j .judge-levels .ensures) (sym (w .before .before .before .is-refusal .ensures) ∙ w .before .before .if1 .left)
 
 pub perm-trans-symmetrize-fc-spec : {M : Type 1} → statement M
 perm-trans-symmetrize-fc-spec =
     tie.close
     (tie.spec
-    judge-full-requires
+    judge-levels-requires
     is-refusal-requires
     returns
     symmetrize-requires

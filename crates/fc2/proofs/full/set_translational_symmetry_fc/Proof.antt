@@ -4,7 +4,7 @@ use mathlib.Core.Path.{_≡_, refl, ap, _∙_}
 use lib.ListN.{length}
 use Rattle.lists.specs.Tab.{times, times-none, times-more}
 use Rattle.blocks.specs.Block.{putBlock}
-use Rattle.lines.specs.Nine.{balance}
+use Rattle.lines.specs.Sums3x3.{balance}
 use Rattle.lines.specs.Lines.{others, row-of, own-fits, balanceAt, balances}
 use Rattle.fc2.specs.FullLaws.{full-is}
 use Rattle.fc2.specs.FullLoops.{diagonals}

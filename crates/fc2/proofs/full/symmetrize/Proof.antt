@@ -1,8 +1,8 @@
 use lib.Ieee.{inFloat}
 use lib.Dec.{le→leb}
-use Rattle.fc2.specs.FullWork.{work-makes}
+use Rattle.fc2.specs.FullWorkLaws.{work-makes}
 use Rattle.fc2.specs.FullLoops.{swept, diagonals, worked}
-use Rattle.lines.specs.Nine.{inverse}
+use Rattle.lines.specs.Sums3x3.{inverse}
 use Rattle.lists.specs.Tab.{times, times-none, times-more}
 use mathlib.Core.Path.{_≡_, refl, ap, _∙_}
 use lib.ListN.{length}

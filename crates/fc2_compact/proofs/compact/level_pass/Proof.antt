@@ -1,6 +1,6 @@
 use mathlib.Core.Path.{_∙_}
 use Rattle.fc2_compact.specs.Compact.{leveled}
-use Rattle.fc2_passes.specs.Code.{ready-same}
+use Rattle.fc2_compact.specs.Code.{ready-same}
 use borrow.Author.Needs.{needs}
 use Rattle.fc2_compact.proofs.compact.level_pass.Statement.{statement}
 use Rattle.fc2_compact.proofs.compact.level_pass.Tie as tie

@@ -5,7 +5,7 @@ use lib.ListN.{length}
 use Rattle.lists.specs.Tab.{times, times-none, times-more}
 use Rattle.tables.specs.Compact.{shiftTables, shiftsOf}
 use Rattle.fc2_compact.specs.Compact.{leveled}
-use Rattle.fc2_passes.specs.Code.{ready-same}
+use Rattle.fc2_compact.specs.Code.{ready-same}
 use borrow.Author.Needs.{needs}
 use Rattle.fc2_compact.proofs.compact.levels.Statement.{statement}
 use Rattle.fc2_compact.proofs.compact.levels.Tie as tie

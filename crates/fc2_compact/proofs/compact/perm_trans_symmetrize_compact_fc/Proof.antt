@@ -1,5 +1,5 @@
 use mathlib.Core.Path.{sym, _∙_}
-use Rattle.fc2_compact.specs.CompactCalls.{ready-levels, symmetrize-refused, symmetrize-done}
+use Rattle.fc2_compact.specs.CompactCallLaws.{ready-levels, symmetrize-refused, symmetrize-done}
 use borrow.Author.Needs.{needs}
 use Rattle.fc2_compact.proofs.compact.perm_trans_symmetrize_compact_fc.Statement.{statement}
 use Rattle.fc2_compact.proofs.compact.perm_trans_symmetrize_compact_fc.Tie as tie

@@ -1,5 +1,5 @@
 use mathlib.Core.Path.{sym, _∙_}
-use Rattle.fc2_compact.specs.CompactCalls.{ready-when, index-refused, index-done}
+use Rattle.fc2_compact.specs.CompactCallLaws.{ready-when, index-refused, index-done}
 use borrow.Author.Needs.{needs}
 use Rattle.fc2_compact.proofs.compact.set_index_permutation_symmetry_compact_fc.Statement.{
   statement,

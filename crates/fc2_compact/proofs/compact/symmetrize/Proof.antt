@@ -1,5 +1,5 @@
-use Rattle.fc2_compact.specs.Compact.{symmetrized}
-use Rattle.fc2_passes.specs.Code.{ready-same}
+use Rattle.fc2_compact.specs.Compact.{symmetrizedCompact}
+use Rattle.fc2_compact.specs.Code.{ready-same}
 use borrow.Author.Needs.{needs}
 use Rattle.fc2_compact.proofs.compact.symmetrize.Statement.{statement}
 use Rattle.fc2_compact.proofs.compact.symmetrize.Tie as tie
@@ -14,7 +14,7 @@ same-length : tie.Need-same-length
 same-length c = search needs
 
 returns : tie.Need-returns
-unfolding symmetrized
+unfolding symmetrizedCompact
 returns c = rw (c .before .before .site-pass .ensures, c .before .before .before .before .before .before .levels .ensures)
 
 pub symmetrize-spec : {M : Type 1} → statement M

@@ -1,8 +1,8 @@
 use mathlib.Core.Path.{sym, _∙_}
 use Rattle.tables.specs.Limits.{limit2}
-use Rattle.half_shifts.specs.TrueTransposes.{trueTransposeCompactFc2}
-use Rattle.half_shifts.specs.Moved.{true-refused, true-done}
-use Rattle.fc2_compact.specs.CompactCalls.{ready-when}
+use Rattle.orbits.specs.TrueTransposes.{trueTransposeCompactFc2}
+use Rattle.orbits.specs.Moved.{true-refused, true-done}
+use Rattle.fc2_compact.specs.CompactCallLaws.{ready-when}
 use borrow.Author.Needs.{needs}
 use Rattle.fc2_compact.proofs.compact.true_transpose_compact_fc2.Statement.{statement}
 use Rattle.fc2_compact.proofs.compact.true_transpose_compact_fc2.Tie as tie

@@ -19,32 +19,32 @@ block3-requires-2 : tie.Need-block3-requires-2
 block3-requires-2 c κs = search needs
 
 -- src/compact.rt:52:9
-read-out3-requires : tie.Need-read-out3-requires
-read-out3-requires c κs =
+stored-block3-requires : tie.Need-stored-block3-requires
+stored-block3-requires c κs =
     let g = c .before .before in
     let s = g .before .before .before in
     let v : g .p2s-at .result .0 < s .args .n-satom = rw (g .p2s-at .ensures) (p2s-read _ _ _ _ (s .pre .0) (s .args .p .0) (s .args .j .0) (s .args .k .0) (s .pre .1) .1) in
     (read-tables _ _ _ _ (s .pre .0), s .pre .1 .1, v, s .pre .1 .2)
 
 -- src/compact.rt:53:9
-read-out3-requires-2 : tie.Need-read-out3-requires-2
-read-out3-requires-2 c κs =
+stored-block3-requires-2 : tie.Need-stored-block3-requires-2
+stored-block3-requires-2 c κs =
     let g = c .before .before .before in
     let s = g .before .before .before in
     let v : g .p2s-at .result .0 < s .args .n-satom = rw (g .p2s-at .ensures) (p2s-read _ _ _ _ (s .pre .0) (s .args .p .0) (s .args .j .0) (s .args .k .0) (s .pre .1) .1) in
     (read-tables _ _ _ _ (s .pre .0), s .pre .1 .1, s .pre .1 .2, v)
 
 -- src/compact.rt:54:9
-read-out3-requires-3 : tie.Need-read-out3-requires-3
-read-out3-requires-3 c κs =
+stored-block3-requires-3 : tie.Need-stored-block3-requires-3
+stored-block3-requires-3 c κs =
     let g = c .before .before .before .before in
     let s = g .before .before .before in
     let v : g .p2s-at .result .0 < s .args .n-satom = rw (g .p2s-at .ensures) (p2s-read _ _ _ _ (s .pre .0) (s .args .p .0) (s .args .j .0) (s .args .k .0) (s .pre .1) .1) in
     (read-tables _ _ _ _ (s .pre .0), s .pre .1 .2, v, s .pre .1 .1)
 
 -- src/compact.rt:55:9
-read-out3-requires-4 : tie.Need-read-out3-requires-4
-read-out3-requires-4 c κs =
+stored-block3-requires-4 : tie.Need-stored-block3-requires-4
+stored-block3-requires-4 c κs =
     let g = c .before .before .before .before .before in
     let s = g .before .before .before in
     let v : g .p2s-at .result .0 < s .args .n-satom = rw (g .p2s-at .ensures) (p2s-read _ _ _ _ (s .pre .0) (s .args .p .0) (s .args .j .0) (s .args .k .0) (s .pre .1) .1) in
@@ -62,8 +62,8 @@ mark-requires c κs =
     let g = k1 .before in
     let s = g .before .before .before in
     let a = s .args in
-    let f : Found _ _ _ _ (s .pre .0) (a .p .0) (a .j .0) (a .k .0) (s .pre .1) (g .p2s-at .result .0) (k1 .block3 .result) (k2 .block32 .result) (o1 .read-out3 .result) (o2 .read-out32 .result) (o3 .read-out33 .result) (o4 .read-out34 .result) =
-    record { rep = g .p2s-at .ensures; ijk = k1 .block3 .ensures; ikj = k2 .block32 .ensures; jik = o1 .read-out3 .ensures; jki = o2 .read-out32 .ensures; kij = o3 .read-out33 .ensures; kji = o4 .read-out34 .ensures } in
+    let f : Found _ _ _ _ (s .pre .0) (a .p .0) (a .j .0) (a .k .0) (s .pre .1) (g .p2s-at .result .0) (k1 .block3 .result) (k2 .block32 .result) (o1 .stored-block3 .result) (o2 .stored-block32 .result) (o3 .stored-block33 .result) (o4 .stored-block34 .result) =
+    record { rep = g .p2s-at .ensures; ijk = k1 .block3 .ensures; ikj = k2 .block32 .ensures; jik = o1 .stored-block3 .ensures; jki = o2 .stored-block32 .ensures; kij = o3 .stored-block33 .ensures; kji = o4 .stored-block34 .ensures } in
     rw (s .pre .0 .work-length)
     (marks-in _ _ _ _ (s .pre .0) (a .p .0) (a .j .0) (a .k .0) (s .pre .1) _ _ _ _ _ _ _ f)
 
@@ -79,8 +79,8 @@ work-group-requires c κs =
     let g = k1 .before in
     let s = g .before .before .before in
     let a = s .args in
-    let f : Found _ _ _ _ (s .pre .0) (a .p .0) (a .j .0) (a .k .0) (s .pre .1) (g .p2s-at .result .0) (k1 .block3 .result) (k2 .block32 .result) (o1 .read-out3 .result) (o2 .read-out32 .result) (o3 .read-out33 .result) (o4 .read-out34 .result) =
-    record { rep = g .p2s-at .ensures; ijk = k1 .block3 .ensures; ikj = k2 .block32 .ensures; jik = o1 .read-out3 .ensures; jki = o2 .read-out32 .ensures; kij = o3 .read-out33 .ensures; kji = o4 .read-out34 .ensures } in
+    let f : Found _ _ _ _ (s .pre .0) (a .p .0) (a .j .0) (a .k .0) (s .pre .1) (g .p2s-at .result .0) (k1 .block3 .result) (k2 .block32 .result) (o1 .stored-block3 .result) (o2 .stored-block32 .result) (o3 .stored-block33 .result) (o4 .stored-block34 .result) =
+    record { rep = g .p2s-at .ensures; ijk = k1 .block3 .ensures; ikj = k2 .block32 .ensures; jik = o1 .stored-block3 .ensures; jki = o2 .stored-block32 .ensures; kij = o3 .stored-block33 .ensures; kji = o4 .stored-block34 .ensures } in
     all-in _ _ _ _ (s .pre .0) (a .p .0) (a .j .0) (a .k .0) (s .pre .1) _ _ _ _ _ _ _ f
 
 -- src/compact.rt:31:1
@@ -105,8 +105,8 @@ returns c =
     let g = k1 .before in
     let s = g .before .before .before in
     let a = s .args in
-    let f : Found _ _ _ _ (s .pre .0) (a .p .0) (a .j .0) (a .k .0) (s .pre .1) (g .p2s-at .result .0) (k1 .block3 .result) (k2 .block32 .result) (o1 .read-out3 .result) (o2 .read-out32 .result) (o3 .read-out33 .result) (o4 .read-out34 .result) =
-    record { rep = g .p2s-at .ensures; ijk = k1 .block3 .ensures; ikj = k2 .block32 .ensures; jik = o1 .read-out3 .ensures; jki = o2 .read-out32 .ensures; kij = o3 .read-out33 .ensures; kji = o4 .read-out34 .ensures } in
+    let f : Found _ _ _ _ (s .pre .0) (a .p .0) (a .j .0) (a .k .0) (s .pre .1) (g .p2s-at .result .0) (k1 .block3 .result) (k2 .block32 .result) (o1 .stored-block3 .result) (o2 .stored-block32 .result) (o3 .stored-block33 .result) (o4 .stored-block34 .result) =
+    record { rep = g .p2s-at .ensures; ijk = k1 .block3 .ensures; ikj = k2 .block32 .ensures; jik = o1 .stored-block3 .ensures; jki = o2 .stored-block32 .ensures; kij = o3 .stored-block33 .ensures; kji = o4 .stored-block34 .ensures } in
     took _ _ _ _ (s .pre .0) (a .p .0) (a .j .0) (a .k .0) (s .pre .1) _ _ _ _ _ _ _ f (a .fc3 .now) (a .done .now) (w .work-group .ensures) (m .mark .ensures)
 
 pub take-spec : {M : Type 1} → statement M
@@ -116,10 +116,10 @@ take-spec =
     p2s-at-requires
     block3-requires
     block3-requires-2
-    read-out3-requires
-    read-out3-requires-2
-    read-out3-requires-3
-    read-out3-requires-4
+    stored-block3-requires
+    stored-block3-requires-2
+    stored-block3-requires-3
+    stored-block3-requires-4
     mark-requires
     work-group-requires
     same-length

@@ -1,11 +1,12 @@
 use mathlib.Core.Path.{sym, _∙_}
 use borrow.Author.Needs.{needs}
+use lib.Dec.{lit≤}
 use Rattle.fc3.specs.FullLoops.{full-refused, full-ready, full-done}
 use Rattle.fc3.proofs.full.set_permutation_symmetry_fc3.Statement.{statement}
 use Rattle.fc3.proofs.full.set_permutation_symmetry_fc3.Tie as tie
 
 judge-full-requires : tie.Need-judge-full-requires
-judge-full-requires c κs = search needs
+judge-full-requires c κs = (lit≤ tt, lit≤ tt)
 
 is-refusal-requires : tie.Need-is-refusal-requires
 is-refusal-requires c κs = search needs

@@ -4,7 +4,7 @@ use native.Mathlib.Omega.{arith}
 use mathlib.Core.Path.{_≡_, refl, _∙_}
 use lib.ListN.{length}
 use Rattle.lists.specs.Tab.{times, times-none, times-more}
-use Rattle.places.specs.Whole.{whole}
+use Rattle.places.specs.WholeLaws.{fullShifts}
 use Rattle.orbits.specs.GroupLoop.{State}
 use Rattle.fc4.specs.Loops.{visitAt}
 use borrow.Author.Needs.{needs}
@@ -13,7 +13,7 @@ use Rattle.fc4.proofs.full.full_blocks.Tie as tie
 
 abbrev Inv-loop : tie.InvT-loop
 Inv-loop fc4₀ done₀ num-atom t b₀ fc4 done b =
-    (b ≤ length done₀) × (length fc4 ≡ length fc4₀) × (length done ≡ length done₀) × (_≡_ {A = State} (fc4, done) (times b (visitAt (whole num-atom)) (fc4₀, done₀)))
+    (b ≤ length done₀) × (length fc4 ≡ length fc4₀) × (length done ≡ length done₀) × (_≡_ {A = State} (fc4, done) (times b (visitAt (fullShifts num-atom)) (fc4₀, done₀)))
 
 abbrev μ-loop : tie.MeasureT-loop
 μ-loop fc4₀ done₀ num-atom t b₀ fc4 done b = length done₀ - b

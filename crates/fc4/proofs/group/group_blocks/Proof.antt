@@ -7,40 +7,40 @@ use borrow.Author.Needs.{needs}
 use Rattle.fc4.proofs.group.group_blocks.Statement.{statement}
 use Rattle.fc4.proofs.group.group_blocks.Tie as tie
 
-last-leg-requires : tie.Need-last-leg-requires
-last-leg-requires c κs =
+column-of-requires : tie.Need-column-of-requires
+column-of-requires c κs =
     let a = c in
     satoms-pos _ (a .pre .0) (a .args .b) (a .pre .1)
 
-legs-before-requires : tie.Need-legs-before-requires
-legs-before-requires c κs =
+row-of-requires : tie.Need-row-of-requires
+row-of-requires c κs =
     let a = c .before in
     satoms-pos _ (a .pre .0) (a .args .b) (a .pre .1)
 
-last-leg-requires-2 : tie.Need-last-leg-requires-2
-last-leg-requires-2 c κs =
+column-of-requires-2 : tie.Need-column-of-requires-2
+column-of-requires-2 c κs =
     let a = c .before .before in
     satoms-pos _ (a .pre .0) (a .args .b) (a .pre .1)
 
-legs-before-requires-2 : tie.Need-legs-before-requires-2
-legs-before-requires-2 c κs =
+row-of-requires-2 : tie.Need-row-of-requires-2
+row-of-requires-2 c κs =
     let a = c .before .before .before in
     satoms-pos _ (a .pre .0) (a .args .b) (a .pre .1)
 
-last-leg-requires-3 : tie.Need-last-leg-requires-3
-last-leg-requires-3 c κs =
+column-of-requires-3 : tie.Need-column-of-requires-3
+column-of-requires-3 c κs =
     let a = c .before .before .before .before in
     satoms-pos _ (a .pre .0) (a .args .b) (a .pre .1)
 
-legs-before-requires-3 : tie.Need-legs-before-requires-3
-legs-before-requires-3 c κs =
+row-of-requires-3 : tie.Need-row-of-requires-3
+row-of-requires-3 c κs =
     let a = c .before .before .before .before .before in
     satoms-pos _ (a .pre .0) (a .args .b) (a .pre .1)
 
 p2s-at-requires : tie.Need-p2s-at-requires
 p2s-at-requires c κs =
     let a = c .before .before .before .before .before .before in
-    let (ep, ej, ek) = legs-are (a .args .b) (a .args .n-satom) (c .before .before .before .before .legs-before .ensures) (c .before .before .before .last-leg2 .ensures) (c .before .before .legs-before2 .ensures) (c .before .last-leg3 .ensures) (c .legs-before3 .ensures) in
+    let (ep, ej, ek) = legs-are (a .args .b) (a .args .n-satom) (c .before .before .before .before .row-of .ensures) (c .before .before .before .column-of2 .ensures) (c .before .before .row-of2 .ensures) (c .before .column-of3 .ensures) (c .row-of3 .ensures) in
     rw ep (p2s-read _ (a .pre .0) (a .args .b) (a .pre .1) .0)
 
 six-from-requires : tie.Need-six-from-requires
@@ -49,8 +49,8 @@ six-from-requires c κs =
     let F = a .pre .0 in
     let h = a .pre .1 in
     let o = others-below _ F (a .args .b) h in
-    let (ep, ej, ek) = legs-are (a .args .b) (a .args .n-satom) (c .before .before .before .before .before .legs-before .ensures) (c .before .before .before .before .last-leg2 .ensures) (c .before .before .before .legs-before2 .ensures) (c .before .before .last-leg3 .ensures) (c .before .legs-before3 .ensures) in
-    let el : c .before .before .before .before .before .before .last-leg .result < a .args .n-satom = rw (c .before .before .before .before .before .before .last-leg .ensures) (o .2) in
+    let (ep, ej, ek) = legs-are (a .args .b) (a .args .n-satom) (c .before .before .before .before .before .row-of .ensures) (c .before .before .before .before .column-of2 .ensures) (c .before .before .before .row-of2 .ensures) (c .before .before .column-of3 .ensures) (c .before .row-of3 .ensures) in
+    let el : c .before .before .before .before .before .before .column-of .result < a .args .n-satom = rw (c .before .before .before .before .before .before .column-of .ensures) (o .2) in
     let i : c .p2s-at .result .0 < a .args .n-satom = rw (c .p2s-at .ensures, ep) (p2s-read _ F (a .args .b) h .1) in
     (read-tables _ F (a .args .b) h, i, rw ej (o .0), rw ek (o .1), el)
 
@@ -60,8 +60,8 @@ six-from-requires-2 c κs =
     let F = a .pre .0 in
     let h = a .pre .1 in
     let o = others-below _ F (a .args .b) h in
-    let (ep, ej, ek) = legs-are (a .args .b) (a .args .n-satom) (c .before .before .before .before .before .before .legs-before .ensures) (c .before .before .before .before .before .last-leg2 .ensures) (c .before .before .before .before .legs-before2 .ensures) (c .before .before .before .last-leg3 .ensures) (c .before .before .legs-before3 .ensures) in
-    let el : c .before .before .before .before .before .before .before .last-leg .result < a .args .n-satom = rw (c .before .before .before .before .before .before .before .last-leg .ensures) (o .2) in
+    let (ep, ej, ek) = legs-are (a .args .b) (a .args .n-satom) (c .before .before .before .before .before .before .row-of .ensures) (c .before .before .before .before .before .column-of2 .ensures) (c .before .before .before .before .row-of2 .ensures) (c .before .before .before .column-of3 .ensures) (c .before .before .row-of3 .ensures) in
+    let el : c .before .before .before .before .before .before .before .column-of .result < a .args .n-satom = rw (c .before .before .before .before .before .before .before .column-of .ensures) (o .2) in
     let i : c .before .p2s-at .result .0 < a .args .n-satom = rw (c .before .p2s-at .ensures, ep) (p2s-read _ F (a .args .b) h .1) in
     (read-tables _ F (a .args .b) h, rw ej (o .0), i, rw ek (o .1), el)
 
@@ -71,8 +71,8 @@ six-from-requires-3 c κs =
     let F = a .pre .0 in
     let h = a .pre .1 in
     let o = others-below _ F (a .args .b) h in
-    let (ep, ej, ek) = legs-are (a .args .b) (a .args .n-satom) (c .before .before .before .before .before .before .before .legs-before .ensures) (c .before .before .before .before .before .before .last-leg2 .ensures) (c .before .before .before .before .before .legs-before2 .ensures) (c .before .before .before .before .last-leg3 .ensures) (c .before .before .before .legs-before3 .ensures) in
-    let el : c .before .before .before .before .before .before .before .before .last-leg .result < a .args .n-satom = rw (c .before .before .before .before .before .before .before .before .last-leg .ensures) (o .2) in
+    let (ep, ej, ek) = legs-are (a .args .b) (a .args .n-satom) (c .before .before .before .before .before .before .before .row-of .ensures) (c .before .before .before .before .before .before .column-of2 .ensures) (c .before .before .before .before .before .row-of2 .ensures) (c .before .before .before .before .column-of3 .ensures) (c .before .before .before .row-of3 .ensures) in
+    let el : c .before .before .before .before .before .before .before .before .column-of .result < a .args .n-satom = rw (c .before .before .before .before .before .before .before .before .column-of .ensures) (o .2) in
     let i : c .before .before .p2s-at .result .0 < a .args .n-satom = rw (c .before .before .p2s-at .ensures, ep) (p2s-read _ F (a .args .b) h .1) in
     (read-tables _ F (a .args .b) h, rw ek (o .1), i, rw ej (o .0), el)
 
@@ -82,8 +82,8 @@ six-from-requires-4 c κs =
     let F = a .pre .0 in
     let h = a .pre .1 in
     let o = others-below _ F (a .args .b) h in
-    let (ep, ej, ek) = legs-are (a .args .b) (a .args .n-satom) (c .before .before .before .before .before .before .before .before .legs-before .ensures) (c .before .before .before .before .before .before .before .last-leg2 .ensures) (c .before .before .before .before .before .before .legs-before2 .ensures) (c .before .before .before .before .before .last-leg3 .ensures) (c .before .before .before .before .legs-before3 .ensures) in
-    let el : c .before .before .before .before .before .before .before .before .before .last-leg .result < a .args .n-satom = rw (c .before .before .before .before .before .before .before .before .before .last-leg .ensures) (o .2) in
+    let (ep, ej, ek) = legs-are (a .args .b) (a .args .n-satom) (c .before .before .before .before .before .before .before .before .row-of .ensures) (c .before .before .before .before .before .before .before .column-of2 .ensures) (c .before .before .before .before .before .before .row-of2 .ensures) (c .before .before .before .before .before .column-of3 .ensures) (c .before .before .before .before .row-of3 .ensures) in
+    let el : c .before .before .before .before .before .before .before .before .before .column-of .result < a .args .n-satom = rw (c .before .before .before .before .before .before .before .before .before .column-of .ensures) (o .2) in
     let i : c .before .before .before .p2s-at .result .0 < a .args .n-satom = rw (c .before .before .before .p2s-at .ensures, ep) (p2s-read _ F (a .args .b) h .1) in
     (read-tables _ F (a .args .b) h, el, i, rw ej (o .0), rw ek (o .1))
 
@@ -95,23 +95,23 @@ returns c =
     let s = c .before .before .before .before .before .before .before .before .before .before .before .before in
     let a = s .args in
     let f = storedIn (a .n-satom) (a .s2pp .now) (a .nsym-list .now) (a .perms .now) in
-    let (ep, ej, ek) = legs-are (s .args .b) (s .args .n-satom) (c .before .before .before .before .before .before .before .before .before .before .legs-before .ensures) (c .before .before .before .before .before .before .before .before .before .last-leg2 .ensures) (c .before .before .before .before .before .before .before .before .legs-before2 .ensures) (c .before .before .before .before .before .before .before .last-leg3 .ensures) (c .before .before .before .before .before .before .legs-before3 .ensures) in
+    let (ep, ej, ek) = legs-are (s .args .b) (s .args .n-satom) (c .before .before .before .before .before .before .before .before .before .before .row-of .ensures) (c .before .before .before .before .before .before .before .before .before .column-of2 .ensures) (c .before .before .before .before .before .before .before .before .row-of2 .ensures) (c .before .before .before .before .before .before .before .column-of3 .ensures) (c .before .before .before .before .before .before .row-of3 .ensures) in
     let i = c .before .before .before .before .before .p2s-at .result .0 in
     let ei : i ≡ indexAt (a .p2s .now) _ = c .before .before .before .before .before .p2s-at .ensures ∙ ap (indexAt (a .p2s .now)) ep in
     joined-are f _ _ _ _ (c .joined .ensures) (c .before .before .before .before .six-from .ensures) (c .before .before .before .six-from2 .ensures) (c .before .before .six-from3 .ensures) (c .before .six-from4 .ensures)
-    ∙ same-atoms f refl ej ek (c .before .before .before .before .before .before .before .before .before .before .before .last-leg .ensures)
+    ∙ same-atoms f refl ej ek (c .before .before .before .before .before .before .before .before .before .before .before .column-of .ensures)
     ∙ found-are _ (s .pre .0) (s .args .b) (s .pre .1) i ei
 
 pub group-blocks-spec : {M : Type 1} → statement M
 group-blocks-spec =
     tie.close
     (tie.spec
-    last-leg-requires
-    legs-before-requires
-    last-leg-requires-2
-    legs-before-requires-2
-    last-leg-requires-3
-    legs-before-requires-3
+    column-of-requires
+    row-of-requires
+    column-of-requires-2
+    row-of-requires-2
+    column-of-requires-3
+    row-of-requires-3
     p2s-at-requires
     six-from-requires
     six-from-requires-2

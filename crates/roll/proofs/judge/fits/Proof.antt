@@ -1,6 +1,6 @@
 -- `roll::judge::fits` meets its contract. Assumes nothing.
 use native.Mathlib.Omega.{arith}
-use Rattle.roll.specs.Starts.{head-cut, label-cut, not-cut}
+use Rattle.roll.specs.StartLaws.{head-cut, label-cut, not-cut}
 use borrow.Author.Needs.{needs}
 use Rattle.roll.proofs.judge.fits.Statement.{statement}
 use Rattle.roll.proofs.judge.fits.Tie as tie

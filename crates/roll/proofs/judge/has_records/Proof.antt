@@ -4,8 +4,8 @@ use native.Mathlib.Omega.{arith}
 use borrow.Author.Tests.{not-false}
 use Rattle.lists.specs.Tests.{every}
 use Rattle.roll.specs.Reading.{follow, listedOnce}
-use Rattle.roll.specs.Starts.{told-no, told-yes, follow-ends}
-use Rattle.roll.specs.Holding.{no-and, yes-and}
+use Rattle.roll.specs.StartLaws.{told-no, told-yes, follow-ends}
+use Rattle.roll.specs.HoldingLaws.{no-and, yes-and}
 use Rattle.roll.proofs.judge.has_records.Statement.{statement}
 use Rattle.roll.proofs.judge.has_records.Tie as tie
 

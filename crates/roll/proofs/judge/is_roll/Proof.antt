@@ -2,7 +2,7 @@
 use mathlib.Core.Path.{sym}
 use native.Mathlib.Omega.{arith}
 use lib.Seq.{length-take-le}
-use Rattle.roll.specs.Holding.{held-past, held-by}
+use Rattle.roll.specs.HoldingLaws.{held-past, held-by}
 use borrow.Author.Needs.{needs}
 use Rattle.roll.proofs.judge.is_roll.Statement.{statement}
 use Rattle.roll.proofs.judge.is_roll.Tie as tie

@@ -2,7 +2,7 @@
 use mathlib.Core.Path.{sym}
 use native.Mathlib.Omega.{arith}
 use lib.Seq.{length-take-le}
-use Rattle.roll.specs.Holding.{former-past, former-held}
+use Rattle.roll.specs.HoldingLaws.{former-past, former-held}
 use borrow.Author.Needs.{needs}
 use Rattle.roll.proofs.judge.is_roll_former.Statement.{statement}
 use Rattle.roll.proofs.judge.is_roll_former.Tie as tie

@@ -1,6 +1,6 @@
 -- `roll::judge::is_sized` meets its contract. Assumes nothing.
 use native.Mathlib.Omega.{arith}
-use Rattle.roll.specs.Holding.{sized-says, not-sized, sized-by, count-is, trailer-is}
+use Rattle.roll.specs.HoldingLaws.{sized-says, not-sized, sized-by, count-is, trailer-is}
 use borrow.Author.Needs.{needs}
 use Rattle.roll.proofs.judge.is_sized.Statement.{statement}
 use Rattle.roll.proofs.judge.is_sized.Tie as tie

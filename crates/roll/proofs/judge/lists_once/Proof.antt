@@ -5,9 +5,9 @@ use Prim.Native.Nat.{ℕ, _+_, _-_, _≤_, _<_}
 use native.Mathlib.Omega.{arith}
 use borrow.Author.Count.{below-none, below-more}
 use lib.ListN.{getD, set}
-use Rattle.roll.specs.Reading.{start, listedOnce}
+use Rattle.roll.specs.Reading.{recordStart, listedOnce}
 use Rattle.roll.specs.Roll.{Marked}
-use Rattle.roll.specs.Starts.{Open, all-open, one-shut, is-shut, is-open, listed-is, not-listed, all-passed, one-failed}
+use Rattle.roll.specs.StartLaws.{Open, all-open, one-shut, is-shut, is-open, listed-is, not-listed, all-passed, one-failed}
 use borrow.Author.Needs.{needs}
 use Rattle.roll.proofs.judge.lists_once.Statement.{statement}
 use Rattle.roll.proofs.judge.lists_once.Tie as tie
@@ -31,7 +31,7 @@ returns c =
     let t = s .args .t in
     let i = c .before .before .before .before .loop .i in
     let e = listed-is b t i _ _ (s .pre .1) (c .before .before .listed-at .ensures) (c .before .four .ensures .0) in
-    let g = ap (start b) (sym (s .pre .0)) ∙ s .pre .2 .ends in
+    let g = ap (recordStart b) (sym (s .pre .0)) ∙ s .pre .2 .ends in
     one-failed (s .args .n) (listedOnce b) i (c .before .before .before .loop-test .taken) (not-listed b t i g (subst (λ x. t ≤ x) e (c .if1 .taken)))
 
 returns-2 : tie.Need-returns-2 Inv-loop μ-loop

@@ -7,15 +7,15 @@ use native.Mathlib.Omega.{arith}
 use borrow.Author.Count.{below-none, below-more}
 use lib.Dec.{eqb, leb}
 use lib.ListN.{set}
-use Rattle.roll.specs.Reading.{start, sizeAt, ruledAt}
+use Rattle.roll.specs.Reading.{recordStart, sizeAt, ruledAt}
 use Rattle.roll.specs.Roll.{Marked}
-use Rattle.roll.specs.Starts.{told-no, told-yes, start-first, next-start, fit-says, not-fitting, following, none-marked, one-marked}
+use Rattle.roll.specs.StartLaws.{told-no, told-yes, start-first, next-start, fit-says, not-fitting, following, none-marked, one-marked}
 use borrow.Author.Needs.{needs}
 use Rattle.roll.proofs.judge.mark_starts.Statement.{statement}
 use Rattle.roll.proofs.judge.mark_starts.Tie as tie
 
 abbrev Inv-loop : tie.InvT-loop
-Inv-loop b n t marks₀ at₀ i₀ marks at i = (i ≤ n) × (at ≡ start b i) × (at ≤ t) × Marked b i marks × ((k : ℕ) → k < i → ruledAt b (start b k) ≡ true)
+Inv-loop b n t marks₀ at₀ i₀ marks at i = (i ≤ n) × (at ≡ recordStart b i) × (at ≤ t) × Marked b i marks × ((k : ℕ) → k < i → ruledAt b (recordStart b k) ≡ true)
 
 abbrev μ-loop : tie.MeasureT-loop
 μ-loop b n t marks₀ at₀ i₀ marks at i = n - i
@@ -55,12 +55,12 @@ loop-again c =
     let l = c .before .before .before .before .loop in
     let f = fit-says b (l .at) (a .t) (told-yes (c .before .before .fits2 .ensures) (c .before .if1 .left)) in
     let z = c .record-end .ensures in
-    let s : start b (l .i) < 65536 = omega (arith, l .inv .1) in (
+    let s : recordStart b (l .i) < 65536 = omega (arith, l .inv .1) in (
       omega arith,
       next-start b (l .i) (l .at) (c .record-end .result) (l .inv .1) z,
       omega (arith, z, f .1),
       subst (λ x. Marked b (l .i + 1) (set (l .marks) x 1)) (sym (l .inv .1)) (one-marked b (l .i) (l .marks) s (l .inv .3)),
-      below-more (λ k. ruledAt b (start b k) ≡ true) (l .i) (l .inv .4) (subst (λ x. ruledAt b x ≡ true) (l .inv .1) (f .2)),
+      below-more (λ k. ruledAt b (recordStart b k) ≡ true) (l .i) (l .inv .4) (subst (λ x. ruledAt b x ≡ true) (l .inv .1) (f .2)),
     )
 
 returns-2 : tie.Need-returns-2 Inv-loop μ-loop
@@ -69,7 +69,7 @@ returns-2 c =
     let b = a .b .now in
     let l = c .before .loop in
     let i : l .i ≡ a .n = omega arith in (
-      ap (λ x. eqb x (a .t)) (l .inv .1 ∙ ap (start b) i) ∙ following b (a .n) (a .t) (λ k h. l .inv .4 k (omega arith)),
+      ap (λ x. eqb x (a .t)) (l .inv .1 ∙ ap (recordStart b) i) ∙ following b (a .n) (a .t) (λ k h. l .inv .4 k (omega arith)),
       λ q. subst (λ n. Marked b n (l .marks)) i (l .inv .3),
     )
 

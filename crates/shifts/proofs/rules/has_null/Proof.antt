@@ -5,7 +5,7 @@ use Prim.Native.Nat.{ℕ, _≤_, _<_, _-_}
 use native.Mathlib.Omega.{arith}
 use borrow.Author.Count.{below-none, below-more}
 use borrow.Author.Needs.{needs}
-use Rattle.shift_rows.specs.Rows.{rowsOf}
+use Rattle.shifts.specs.Rows.{rowsOf}
 use Rattle.tables.specs.Shifts.{isNull, hasNull}
 use Rattle.tables.proofs.Loops.{one-passed, all-failed}
 use Rattle.shifts.proofs.rules.has_null.Statement.{statement}

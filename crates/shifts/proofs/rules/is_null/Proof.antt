@@ -7,7 +7,7 @@ use lib.Dec.{eqb}
 use borrow.Author.Tests.{not-true, not-false}
 use borrow.Author.Count.{below-none, below-more}
 use borrow.Author.Needs.{needs}
-use Rattle.shift_rows.specs.Rows.{rowsOf, row-is, row-read}
+use Rattle.shifts.specs.Rows.{rowsOf, row-is, row-read}
 use Rattle.tables.specs.Shifts.{row, isNull}
 use Rattle.tables.proofs.Loops.{all-passed, one-failed}
 use Rattle.shifts.proofs.rules.is_null.Statement.{statement}

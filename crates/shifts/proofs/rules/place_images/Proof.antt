@@ -8,10 +8,10 @@ use borrow.Author.Tests.{eqb-true, eq-eqb, not-true, not-false}
 use borrow.Author.Needs.{needs}
 use Rattle.lists.specs.Tests.{not-both}
 use Rattle.tables.specs.Conditions.{indexAt, read}
-use Rattle.shift_rows.specs.Rows.{image}
+use Rattle.shifts.specs.Rows.{image}
 use Rattle.shifts.specs.Placing.{Placing}
 use Rattle.shifts.proofs.Placing.{none-placing, placing-more, placing-twice}
-use Rattle.shift_rows.proofs.Generators.{image-below, image-read}
+use Rattle.shifts.proofs.Generators.{image-below, image-read}
 use Rattle.shifts.proofs.rules.place_images.Statement.{statement}
 use Rattle.shifts.proofs.rules.place_images.Tie as tie
 

@@ -1,1 +1,0 @@
-// Results about the audits; see specs/.

@@ -1,2 +1,0 @@
-pub mod Fc2
-pub mod Fc2Laws

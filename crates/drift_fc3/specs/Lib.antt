@@ -1,4 +1,0 @@
-pub mod Report
-pub mod Lines
-pub mod Laws
-pub mod Values

@@ -1,2 +1,0 @@
-pub mod Mean
-pub mod Later

@@ -1,3 +1,0 @@
-pub mod Mean24
-pub mod Mean
-pub mod Spread

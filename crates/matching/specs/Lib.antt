@@ -1,0 +1,16 @@
+pub mod Matching
+pub mod Slots
+pub mod Search
+pub mod CellsOutcomeLaws
+pub mod Bijection
+pub mod Named
+pub mod Sheets
+pub mod Counts
+pub mod Groups
+pub mod Chains
+pub mod StepLaws
+pub mod Rest
+pub mod FindPermutation
+pub mod FindingOutcomeLaws
+pub mod Laws
+pub mod Sheet

@@ -1,1 +1,0 @@
-// Slots that hold some of the positions, and groups that rule a whole match out, are in specs/. There is no code here.

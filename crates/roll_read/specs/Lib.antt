@@ -1,4 +1,0 @@
-pub mod Calls
-pub mod Steps
-pub mod Laws
-pub mod Samples

@@ -1,4 +1,0 @@
-pub mod Visits
-pub mod Halves
-pub mod BySheets
-pub mod Steps

@@ -1,3 +1,0 @@
-pub mod Slab
-pub mod SlabLaws
-pub mod Meaning

@@ -1,2 +1,0 @@
-pub mod Swaps
-pub mod Guard
