@@ -3,6 +3,7 @@
 #include "progress.h"
 
 #include <errno.h>
+#include <fcntl.h>
 #include <math.h>
 #include <stdarg.h>
 #include <stdio.h>
@@ -23,6 +24,13 @@ void fail(const char *name, const char *what)
     fflush(stdout);
     fprintf(stderr, "%s: %s: %s\n", program, name, what);
     exit(1);
+}
+
+void fill_standard_streams(void)
+{
+    for (int fd = 0; fd <= 2; fd++)
+        if (fcntl(fd, F_GETFD) < 0 && open("/dev/null", fd == 0 ? O_WRONLY : O_RDONLY) != fd)
+            exit(1);
 }
 
 void *room(size_t count, size_t size)

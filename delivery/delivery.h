@@ -25,6 +25,10 @@ extern const char *program;
 /* a message, and the end, with status 1 */
 void fail(const char *name, const char *what);
 
+/* Where standard input, output or error is closed, a file that is opened would take its number, and what is said would be written into that
+   file. /dev/null takes the place instead, so that reading or writing there fails. The first call of a program. */
+void fill_standard_streams(void);
+
 /* count elements of the size, zeros */
 void *room(size_t count, size_t size);
 

@@ -1,52 +1,70 @@
 /*
- * The dispatch desk's roll: lists one, begins one, appends to one, retires a set everywhere, brings an older one over.
- *   roll list FILE
- *   roll list FILE SET
- *   roll new FILE
- *   roll append FILE delivery SET [LABEL]
- *   roll append FILE replacement SET EARLIER [LABEL]
- *   roll append FILE retirement SET [LABEL]
- *   roll retire FILE SET
- *   roll renew OLD NEW
- * A roll is replaced as a whole: the new bytes are written to a file beside it, which then takes its name, so that nobody ever finds
- * half a roll. A file that is not a roll is named and left alone. Two desks that append at the same time wait for each other.
- * With a set number the list says which set stands now for it. The button shows what it would append, and asks first. An older roll,
- * whose trailer lists the starts in another order than rising, is read by `renew` alone: its records are appended anew to the new file
- * NEW, and OLD stays as it is.
- * Exit status: 0 done, 7, 8, 9 and 11 as the library refuses, 1 everything else.
+ * The dispatch desk's roll: lists one, begins one, appends to one, retires a set everywhere, brings an older one over. `roll help` says how,
+ * and docs/GUIDE.md has the clerk's page. The Python package has the same command, with the same words (bindings/python/src/gullyfork/_desk.py).
+ *
+ * No record is written that another one does not allow (gf_stands_now refuses such a roll whole) unless the clerk says --anyway; a file that is
+ * not a roll is named and left alone; how a roll is replaced is alone.c's. The button shows what it would append, and asks first. An older
+ * roll, whose trailer lists the starts in another order than rising, is read by `renew` alone.
  */
+#include "alone.h"
 #include "gullyfork.h"
 
 #include <errno.h>
 #include <fcntl.h>
 #include <inttypes.h>
-#include <stdio.h>
+#include <signal.h>
 #include <stdlib.h>
 #include <string.h>
-#include <sys/file.h>
-#include <sys/stat.h>
 #include <unistd.h>
 
 #define MOST 65536 /* bytes of a roll */
+#define RECORDS 1000
+#define WRONG_USAGE 2
+#define NOT_AGREED 3
 
 static const char *const kinds[] = {"", "delivery", "replacement", "retirement"};
 
-static void fail(const char *name, const char *what)
+/* ---- what the command says */
+
+static void say(FILE *out)
 {
-    fprintf(stderr, "roll: %s: %s\n", name, what);
-    exit(1);
+    fputs("usage: roll list FILE [SET]\n"
+          "       roll new FILE\n"
+          "       roll append [--anyway] FILE delivery SET [LABEL]\n"
+          "       roll append [--anyway] FILE replacement SET EARLIER [LABEL]\n"
+          "       roll append [--anyway] FILE retirement SET [LABEL]\n"
+          "       roll retire [--yes] FILE SET\n"
+          "       roll renew [--anyway] OLD NEW\n"
+          "       roll help\n", out);
 }
 
 static int usage(void)
 {
-    fputs("usage: roll list FILE [SET]\n"
-          "       roll new FILE\n"
-          "       roll append FILE delivery SET [LABEL]\n"
-          "       roll append FILE replacement SET EARLIER [LABEL]\n"
-          "       roll append FILE retirement SET [LABEL]\n"
-          "       roll retire FILE SET\n"
-          "       roll renew OLD NEW\n", stderr);
-    return 1;
+    say(stderr);
+    return WRONG_USAGE;
+}
+
+/* what was printed has arrived */
+static int told(int status)
+{
+    if (fflush(stdout) != 0 || ferror(stdout))
+        fail("standard output", strerror(errno));
+    return status;
+}
+
+static int help(void)
+{
+    say(stdout);
+    puts("list    the records, or which set stands now for SET\n"
+         "new     an empty roll, in a file that is not there yet\n"
+         "append  a record at the end; --anyway: even one that the others do not allow, after which no standing can be told\n"
+         "retire  SET and every set linked to it by replacements; --yes: without asking\n"
+         "renew   the records of an older roll, in a file that is not there yet\n"
+         "A word that begins with - is an option; after -- none is.\n"
+         "status  0 done, or a set to use; 70 the set is unknown; 71 retired; 1 a file cannot be read or written;\n"
+         "        2 wrong usage; 3 not agreed to; 7 not a roll, or a label above 255 bytes; 8 the roll is full;\n"
+         "        9 a record that the others do not allow; 11 the set to retire was never delivered.");
+    return told(0);
 }
 
 static int not_a_roll(const char *path, const uint8_t *bytes, size_t n)
@@ -56,21 +74,135 @@ static int not_a_roll(const char *path, const uint8_t *bytes, size_t n)
                 " roll renew %s NEW brings its records over to a new file\n", path, path);
     else
         fprintf(stderr, "roll: %s: not a roll (refusal 7); left as it is\n", path);
-    return 7;
-}
-
-static int not_lawful(const char *path)
-{
-    fprintf(stderr, "roll: %s: the records do not agree (refusal 9): one delivers a set that was delivered before, replaces or retires a"
-            " set that was not, or replaces one a second time\n", path);
-    return 9;
+    return GF_NOT_A_ROLL;
 }
 
 static int full(const char *path)
 {
     fprintf(stderr, "roll: %s: full (refusal 8): a roll has at most 1,000 records and 65,536 bytes; left as it is\n", path);
-    return 8;
+    return GF_NO_ROOM;
 }
+
+/* ---- records */
+
+struct record {
+    size_t kind, set, earlier, label, length;
+};
+
+/* how many bytes the character of UTF-8 at s has; 0 where there is none, or one that would move a terminal's cursor */
+static size_t shown(const uint8_t *s, size_t n)
+{
+    static const uint32_t least[] = {0, 0, 0xa0, 0x800, 0x10000}; /* from 0x80 to 0x9f stand controls */
+    if (s[0] < 0x80)
+        return s[0] >= 32 && s[0] != 127;
+    size_t k = s[0] >= 0xf0 ? 4 : s[0] >= 0xe0 ? 3 : 2;
+    if (s[0] < 0xc2 || s[0] > 0xf4 || k > n)
+        return 0;
+    uint32_t c = s[0] & (0xffu >> (k + 1));
+    for (size_t i = 1; i < k; i++) {
+        if ((s[i] & 0xc0) != 0x80)
+            return 0;
+        c = c << 6 | (s[i] & 0x3f);
+    }
+    return c >= least[k] && c <= 0x10ffff && (c < 0xd800 || c > 0xdfff) ? k : 0;
+}
+
+static void print_label(FILE *out, const uint8_t *label, size_t n)
+{
+    fputc('"', out);
+    for (size_t i = 0, k; i < n; i += k ? k : 1) {
+        k = shown(label + i, n - i);
+        if (k == 0)
+            fprintf(out, "\\x%02x", label[i]);
+        else if (label[i] == '"' || label[i] == '\\')
+            fprintf(out, "\\%c", label[i]);
+        else
+            fwrite(label + i, 1, k, out);
+    }
+    fputc('"', out);
+}
+
+/* replacement 8 of 7 "MgO" */
+static void print_record(FILE *out, const uint8_t *bytes, const struct record *r)
+{
+    fprintf(out, "%s %zu", kinds[r->kind], r->set);
+    if (r->kind == 2)
+        fprintf(out, " of %zu", r->earlier);
+    if (r->length > 0)
+        fputc(' ', out), print_label(out, bytes + r->label, r->length);
+}
+
+/* all records of the first n bytes; GF_ROLL_END, or GF_NOT_A_ROLL */
+static uint8_t read_records(const uint8_t *bytes, size_t n, struct record records[RECORDS], size_t *count)
+{
+    size_t at = 0, s[6];
+    uint8_t answer;
+    *count = 0;
+    while ((answer = gf_read_roll(bytes, MOST + 1, n, at, s, 6)) == GF_DONE) {
+        records[(*count)++] = (struct record){s[0], s[1], s[2], s[3], s[4]};
+        at = s[5];
+    }
+    return answer;
+}
+
+static int delivered_before(const struct record *records, size_t k, size_t set)
+{
+    while (k-- > 0)
+        if (records[k].kind != 3 && records[k].set == set)
+            return 1;
+    return 0;
+}
+
+static int replaced_before(const struct record *records, size_t k, size_t set)
+{
+    while (k-- > 0)
+        if (records[k].kind == 2 && records[k].earlier == set)
+            return 1;
+    return 0;
+}
+
+/* says what the records before record k do not allow of it; 0 if they allow it */
+static int blame(const uint8_t *bytes, const struct record *records, size_t k)
+{
+    const struct record *r = &records[k];
+    const char *does, *which;
+    size_t set = r->kind == 2 ? r->earlier : r->set;
+    if (r->kind != 1 && !delivered_before(records, k, set))
+        does = "names", which = "no earlier record delivers";
+    else if (r->kind == 2 && replaced_before(records, k, set))
+        does = "replaces", which = "was replaced before";
+    else if (r->kind != 3 && delivered_before(records, k, r->set))
+        does = "delivers", which = "was delivered before", set = r->set;
+    else
+        return 0;
+    print_record(stderr, bytes, r);
+    fprintf(stderr, ", line %zu of the list, %s set %zu, which %s", k + 1, does, set, which);
+    return 1;
+}
+
+/* names the first record that the others do not allow; that there is one is the library's verdict */
+static int not_lawful(const char *path, const uint8_t *bytes, size_t n, const char *so)
+{
+    static struct record records[RECORDS];
+    size_t count, k = 0;
+    read_records(bytes, n, records, &count);
+    fprintf(stderr, "roll: %s: ", path);
+    while (k < count && !blame(bytes, records, k))
+        k++;
+    fprintf(stderr, " (refusal 9)%s\n", so);
+    return GF_NOT_LAWFUL;
+}
+
+static int lawful(const uint8_t *bytes, size_t n)
+{
+    size_t use[1];
+    return gf_stands_now(bytes, MOST + 1, n, 1, use, 1) != GF_NOT_LAWFUL;
+}
+
+#define NOTHING_WRITTEN ": nothing was written; with --anyway it is, and no standing can be told from then on"
+#define NO_STANDING ": no standing can be told"
+
+/* ---- reading */
 
 /* all bytes of the file, at most one more than a roll has */
 static size_t read_bytes(int fd, const char *path, uint8_t *bytes)
@@ -78,13 +210,11 @@ static size_t read_bytes(int fd, const char *path, uint8_t *bytes)
     size_t n = 0;
     while (n < MOST + 1) {
         ssize_t k = read(fd, bytes + n, MOST + 1 - n);
-        if (k < 0 && errno == EINTR)
-            continue;
-        if (k < 0)
+        if (k < 0 && errno != EINTR)
             fail(path, strerror(errno));
         if (k == 0)
             break;
-        n += (size_t)k;
+        n += k > 0 ? (size_t)k : 0;
     }
     return n;
 }
@@ -99,48 +229,17 @@ static size_t read_file(const char *path, uint8_t *bytes)
     return n;
 }
 
-/* ---- listing */
-
-static int told(void)
-{
-    if (fflush(stdout) != 0)
-        fail("the list", strerror(errno));
-    return 0;
-}
-
-static void print_label(const uint8_t *label, size_t n)
-{
-    putchar('"');
-    for (size_t i = 0; i < n; i++) {
-        if (label[i] == '"' || label[i] == '\\')
-            printf("\\%c", label[i]);
-        else if (label[i] < 32 || label[i] == 127)
-            printf("\\x%02x", label[i]);
-        else
-            putchar(label[i]);
-    }
-    putchar('"');
-}
-
 static int list(const char *path)
 {
     static uint8_t bytes[MOST + 1];
-    size_t n = read_file(path, bytes), at = 0, records = 0, slots[6];
-    uint8_t answer;
-    while ((answer = gf_read_roll(bytes, sizeof bytes, n, at, slots, 6)) == GF_DONE) {
-        printf("%s %zu", kinds[slots[0]], slots[1]);
-        if (slots[0] == 2)
-            printf(" of %zu", slots[2]);
-        if (slots[4] > 0)
-            putchar(' '), print_label(bytes + slots[3], slots[4]);
-        putchar('\n');
-        records++;
-        at = slots[5];
-    }
-    if (answer != GF_ROLL_END)
+    static struct record records[RECORDS];
+    size_t n = read_file(path, bytes), count;
+    if (read_records(bytes, n, records, &count) != GF_ROLL_END)
         return not_a_roll(path, bytes, n);
-    printf("%zu record%s, %zu bytes\n", records, records == 1 ? "" : "s", n);
-    return told();
+    for (size_t k = 0; k < count; k++)
+        print_record(stdout, bytes, &records[k]), putchar('\n');
+    printf("%zu record%s, %zu bytes\n", count, count == 1 ? "" : "s", n);
+    return told(0);
 }
 
 /* "41: replaced, use 57" */
@@ -152,7 +251,7 @@ static int ask(const char *path, uint32_t set)
     if (answer == GF_NOT_A_ROLL)
         return not_a_roll(path, bytes, n);
     if (answer == GF_NOT_LAWFUL)
-        return not_lawful(path);
+        return not_lawful(path, bytes, n, NO_STANDING);
     printf("%" PRIu32 ": ", set);
     if (answer == GF_SET_UNKNOWN)
         puts("unknown");
@@ -162,65 +261,22 @@ static int ask(const char *path, uint32_t set)
         puts("current");
     else
         printf("replaced, use %zu\n", use_set[0]);
-    return told();
+    return told(answer);
 }
 
 /* ---- writing */
 
-/* a file beside the path with these bytes, on the disk; its name is left in `name` */
-static void write_beside(const char *path, mode_t mode, const uint8_t *bytes, size_t n, char *name, size_t size)
+static int new(const char *path)
 {
-    if (snprintf(name, size, "%s.XXXXXX", path) >= (int)size)
-        fail(path, "the name is too long");
-    int fd = mkstemp(name);
-    if (fd < 0)
-        fail(path, strerror(errno));
-    size_t done = 0;
-    while (done < n) {
-        ssize_t k = write(fd, bytes + done, n - done);
-        if (k < 0 && errno == EINTR)
-            continue;
-        if (k <= 0)
-            break;
-        done += (size_t)k;
-    }
-    if (done < n || fchmod(fd, mode) != 0 || fsync(fd) != 0 || close(fd) != 0) {
-        int why = errno;
-        unlink(name);
-        fail(path, strerror(why));
-    }
-}
-
-/* the new roll takes the place of the old one */
-static void put_in_place(const char *path, mode_t mode, const uint8_t *bytes, size_t n)
-{
-    static char name[4096];
-    write_beside(path, mode, bytes, n, name, sizeof name);
-    if (rename(name, path) != 0) {
-        int why = errno;
-        unlink(name);
-        fail(path, strerror(why));
-    }
-}
-
-/* a new file with these bytes; none where there is such a file already */
-static int begin(const char *path, const uint8_t *bytes, size_t n)
-{
-    char name[4096];
-    mode_t mask = umask(0);
-    umask(mask);
-    write_beside(path, 0666 & ~mask, bytes, n, name, sizeof name);
-    int linked = link(name, path), why = errno; /* fails where there is such a file */
-    unlink(name);
-    if (linked != 0)
-        fail(path, strerror(why));
+    static const uint8_t empty[8];
+    begin(path, empty, sizeof empty);
     return 0;
 }
 
 /* the records of an older roll, read by the former rule and appended anew; the new roll has as many bytes as the older one */
-static int renew(const char *path, const char *new_path)
+static int renew(const char *path, const char *new_path, int anyway)
 {
-    static uint8_t bytes[MOST + 1], new_bytes[MOST]; /* eight zero bytes are an empty roll */
+    static uint8_t bytes[MOST + 1], new_bytes[MOST + 1]; /* eight zero bytes are an empty roll */
     size_t n = read_file(path, bytes), at = 0, slots[6], count[1] = {8};
     uint8_t answer;
     while ((answer = gf_read_roll_former(bytes, sizeof bytes, n, at, slots, 6)) == GF_DONE) {
@@ -231,44 +287,32 @@ static int renew(const char *path, const char *new_path)
     }
     if (answer != GF_ROLL_END)
         return not_a_roll(path, bytes, n);
-    return begin(new_path, new_bytes, count[0]);
+    if (!anyway && !lawful(new_bytes, count[0]))
+        return not_lawful(path, new_bytes, count[0], NOTHING_WRITTEN);
+    begin(new_path, new_bytes, count[0]);
+    return 0;
 }
 
-/* opens the file and waits until no other desk appends to it; a desk that did has put another file in its place */
-static int open_alone(const char *path, struct stat *is)
-{
-    for (;;) {
-        struct stat now;
-        int fd = open(path, O_RDONLY);
-        if (fd < 0 || flock(fd, LOCK_EX) != 0 || fstat(fd, is) != 0 || stat(path, &now) != 0)
-            fail(path, strerror(errno));
-        if (now.st_ino == is->st_ino && now.st_dev == is->st_dev)
-            return fd;
-        close(fd);
-    }
-}
-
-static int append(const char *named, uint8_t kind, uint32_t set, uint32_t earlier, const char *label)
+static int append(const char *named, const struct record *r, const char *label, int anyway)
 {
     static uint8_t bytes[MOST + 1];
-    static char path[4096];
-    struct stat is;
-    if (!realpath(named, path)) /* where a link points to */
-        fail(named, strerror(errno));
-    int fd = open_alone(path, &is);
-    size_t n = read_bytes(fd, named, bytes), count[1];
+    static struct alone file;
+    hold(&file, named);
+    size_t n = read_bytes(file.fd, named, bytes), count[1];
     if (!gf_is_roll(bytes, sizeof bytes, n))
         return not_a_roll(named, bytes, n);
-    uint8_t answer = gf_append_roll(bytes, sizeof bytes, n, kind, set, earlier, (const uint8_t *)label, strlen(label), count, 1);
-    if (answer == GF_NOT_A_ROLL)
-        fprintf(stderr, "roll: %s: the record breaks the rules (refusal 7): set numbers start at 1, a replacement names an earlier set,"
-                " a label has at most 255 bytes; left as it is\n", named);
-    else if (answer == GF_NO_ROOM)
-        full(named);
-    if (answer != GF_DONE)
+    uint8_t answer = gf_append_roll(bytes, sizeof bytes, n, (uint8_t)r->kind, (uint32_t)r->set, (uint32_t)r->earlier, (const uint8_t *)label,
+                                    strlen(label), count, 1);
+    if (answer == GF_NO_ROOM)
+        return full(named);
+    if (answer != GF_DONE) {
+        fprintf(stderr, "roll: %s: a label has at most 255 bytes (refusal 7); left as it is\n", named);
         return answer;
-    put_in_place(path, is.st_mode & 07777, bytes, count[0]);
-    close(fd);
+    }
+    if (!anyway && !lawful(bytes, count[0]))
+        return not_lawful(named, bytes, count[0], NOTHING_WRITTEN);
+    replace(&file, bytes, count[0]);
+    release(&file);
     return 0;
 }
 
@@ -281,7 +325,7 @@ static int press(const char *named, uint8_t *bytes, size_t n, uint32_t set, size
     if (answer == GF_NOT_A_ROLL)
         return not_a_roll(named, bytes, n);
     if (answer == GF_NOT_LAWFUL)
-        return not_lawful(named);
+        return not_lawful(named, bytes, n, NO_STANDING);
     if (answer == GF_NO_ROOM)
         return full(named);
     if (answer == GF_UNKNOWN_SET)
@@ -289,50 +333,96 @@ static int press(const char *named, uint8_t *bytes, size_t n, uint32_t set, size
     return answer;
 }
 
-/* shows the retirements that stand at the end of the new roll, and asks */
-static int agreed(const char *named, const uint8_t *bytes, size_t n, size_t more)
+/* the retirements that stand at the end of the new roll */
+static void show(const char *named, const uint8_t *bytes, size_t n, size_t more)
 {
-    size_t at = 0, slots[6], records = 0, old = 0;
-    while (gf_read_roll(bytes, MOST + 1, n, at, slots, 6) == GF_DONE)
-        records++, at = slots[5];
+    static struct record records[RECORDS];
+    size_t count;
+    read_records(bytes, n, records, &count);
     printf("%s: %zu retirement%s to append:", named, more, more == 1 ? "" : "s");
-    for (at = 0; gf_read_roll(bytes, MOST + 1, n, at, slots, 6) == GF_DONE; at = slots[5])
-        if (old++ >= records - more)
-            printf(" %zu", slots[1]);
-    printf("\nappend? [y/N] ");
+    for (size_t k = count - more; k < count; k++)
+        printf(" %zu", records[k].set);
+    putchar('\n');
+}
+
+static int agreed(void)
+{
+    fputs("append? [y/N] ", stdout);
     fflush(stdout);
     int first = getchar();
+    if (first != 'y' && first != 'Y')
+        puts("left as it is");
     return first == 'y' || first == 'Y';
 }
 
-/* nobody waits for the answer: the file is taken alone after it, and has to be the one that was shown */
-static int retire(const char *named, uint32_t set)
+static int retire(const char *named, uint32_t set, int yes)
 {
     static uint8_t seen[MOST + 1], now[MOST + 1], bytes[MOST + 1];
-    static char path[4096];
-    struct stat is;
-    size_t n = read_file(named, seen), count[1];
+    static struct alone file;
+    hold(&file, named);
+    size_t n = read_bytes(file.fd, named, seen), count[1];
     memcpy(bytes, seen, sizeof bytes);
     int answer = press(named, bytes, n, set, count);
     if (answer != GF_DONE)
         return answer;
     if (count[0] == n) {
         printf("%s: every set linked to %" PRIu32 " has its retirement; nothing to append\n", named, set);
-        return told();
+        return told(0);
     }
-    if (!agreed(named, bytes, count[0], (count[0] - n) / 14)) {
-        puts("left as it is");
-        return 1;
+    show(named, bytes, count[0], (count[0] - n) / 14);
+    if (!yes) {
+        release(&file); /* nobody waits for the answer; after it the roll has to be the one that was shown */
+        if (!agreed())
+            return told(NOT_AGREED);
+        hold(&file, named);
+        if (read_bytes(file.fd, named, now) != n || memcmp(now, seen, n) != 0) {
+            fprintf(stderr, "roll: %s: changed meanwhile; left as it is\n", named);
+            return NOT_AGREED;
+        }
     }
-    if (!realpath(named, path))
-        fail(named, strerror(errno));
-    int fd = open_alone(path, &is);
-    if (read_bytes(fd, named, now) != n || memcmp(now, seen, n) != 0)
-        fail(named, "changed meanwhile; left as it is");
-    put_in_place(path, is.st_mode & 07777, bytes, count[0]);
-    close(fd);
+    replace(&file, bytes, count[0]);
+    release(&file);
     puts("appended");
-    return 0;
+    return told(0);
+}
+
+/* ---- the words of the command */
+
+#define MOST_WORDS 6
+
+struct request {
+    int help, anyway, yes;
+    int count; /* of words; the first one is the command */
+    const char *words[MOST_WORDS];
+};
+
+/* options and words; 0 where there are words or options too many */
+static int sort_words(int argc, char **argv, struct request *q)
+{
+    int ended = 0;
+    for (int k = 1; k < argc; k++) {
+        const char *word = argv[k];
+        int option = !ended && word[0] == '-' && word[1] != '\0';
+        if (!option && q->count < MOST_WORDS)
+            q->words[q->count++] = word;
+        else if (option && strcmp(word, "--") == 0)
+            ended = 1;
+        else if (option && strcmp(word, "--help") == 0)
+            q->help = 1;
+        else if (option && strcmp(word, "--anyway") == 0)
+            q->anyway = 1;
+        else if (option && strcmp(word, "--yes") == 0)
+            q->yes = 1;
+        else
+            return 0;
+    }
+    return 1;
+}
+
+/* whether this command was asked for, with so many words after it */
+static int asked(const struct request *q, const char *command, int least, int most)
+{
+    return q->count > least && q->count <= most + 1 && strcmp(q->words[0], command) == 0;
 }
 
 static uint32_t number(const char *word)
@@ -340,31 +430,52 @@ static uint32_t number(const char *word)
     char *end;
     errno = 0;
     unsigned long long n = strtoull(word, &end, 10);
-    if (*word < '0' || *word > '9' || *end != '\0' || errno != 0 || n > UINT32_MAX)
-        fail(word, "not a set number (1 to 4,294,967,295)");
+    if (*word < '0' || *word > '9' || *end != '\0' || errno != 0 || n == 0 || n > UINT32_MAX) {
+        fprintf(stderr, "roll: %s: not a set number (1 to 4,294,967,295)\n", word);
+        exit(WRONG_USAGE);
+    }
     return (uint32_t)n;
+}
+
+static int append_words(const struct request *q)
+{
+    struct record r = {1, 0, 0, 0, 0};
+    while (r.kind <= 3 && strcmp(q->words[2], kinds[r.kind]) != 0)
+        r.kind++;
+    int label = r.kind == 2 ? 5 : 4;
+    if (r.kind > 3 || q->count < label || q->count > label + 1)
+        return usage();
+    r.set = number(q->words[3]);
+    if (r.kind == 2)
+        r.earlier = number(q->words[4]);
+    return append(q->words[1], &r, q->count > label ? q->words[label] : "", q->anyway);
 }
 
 int main(int argc, char **argv)
 {
-    if (argc == 3 && strcmp(argv[1], "list") == 0)
-        return list(argv[2]);
-    if (argc == 4 && strcmp(argv[1], "list") == 0)
-        return ask(argv[2], number(argv[3]));
-    if (argc == 4 && strcmp(argv[1], "retire") == 0)
-        return retire(argv[2], number(argv[3]));
-    static const uint8_t empty[8];
-    if (argc == 3 && strcmp(argv[1], "new") == 0)
-        return begin(argv[2], empty, sizeof empty);
-    if (argc == 4 && strcmp(argv[1], "renew") == 0)
-        return renew(argv[2], argv[3]);
-    if (argc < 5 || strcmp(argv[1], "append") != 0)
+    struct request q = {0};
+    fill_standard_streams();
+    program = "roll";
+    signal(SIGXFSZ, SIG_IGN); /* a file that may grow no further is an error in words */
+    if (!sort_words(argc, argv, &q))
         return usage();
-    uint8_t kind = 1;
-    while (kind <= 3 && strcmp(argv[3], kinds[kind]) != 0)
-        kind++;
-    int label = kind == 2 ? 6 : 5;
-    if (kind > 3 || argc < label || argc > label + 1)
+    if (q.help || asked(&q, "help", 0, 0))
+        return help();
+    if (asked(&q, "append", 3, 5) && !q.yes)
+        return append_words(&q);
+    if (asked(&q, "renew", 2, 2) && !q.yes)
+        return renew(q.words[1], q.words[2], q.anyway);
+    if (q.anyway)
         return usage();
-    return append(argv[2], kind, number(argv[4]), kind == 2 ? number(argv[5]) : 0, argc > label ? argv[label] : "");
+    if (asked(&q, "retire", 2, 2))
+        return retire(q.words[1], number(q.words[2]), q.yes);
+    if (q.yes)
+        return usage();
+    if (asked(&q, "list", 1, 1))
+        return list(q.words[1]);
+    if (asked(&q, "list", 2, 2))
+        return ask(q.words[1], number(q.words[2]));
+    if (asked(&q, "new", 1, 1))
+        return new(q.words[1]);
+    return usage();
 }

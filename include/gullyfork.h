@@ -2,7 +2,7 @@
  * Gullyfork: force constants of second, third and fourth order, the matching of atoms, and the roll that lists what was delivered.
  *
  * Link with -lgullyfork after `make install`, or with target/staticlib/libcapi.a, which bindings/library writes (x86-64 Linux). C99 or
- * later, and C++.
+ * later, and C++. gullyfork_tables.h has the same calls with less to pass, and says which argument a refusal is about.
  *
  * SLICES
  *   A slice is two arguments: a pointer, and the number of elements that it points to. The pointer is aligned for its type and never
@@ -15,7 +15,8 @@
  *   every place; in a compact set the first atom is one of the primitive cell (its number there).
  *
  * ANSWERS
- *   Every call but gf_nint, gf_round and gf_sqrt takes every input and answers with a number. 0 says that its work is done. The six
+ *   Every call but gf_nint, gf_round and gf_sqrt takes every input and answers with a number. 0 says that its work is done. Refusals have
+ *   the numbers 1 to 63, answers other than 0 those from 64 on: GF_REFUSED(answer) tells them apart, of later versions too. The six
  *   refusals, 1 to 6, are tried in the order of their numbers: all counts before any length, all lengths before any entry, and so on;
  *   the first that applies is answered. The calls on a roll have four more: 7 is looked at before all others, then 9, 11 and 8; and
  *   gf_replace_block_fc2 has 10, after 3. A refused call has written nothing: every slice is as it was. gf_is_roll and
@@ -24,6 +25,11 @@
  *   for n_patom, num_trans and num_first; level 1,000; the length of atom_list, num_rot, num_disp and num_site_sym 1,024. So more than
  *   1,024 operations (num_rot, num_site_sym) in one call are refused as more atoms are. 0 is within every limit; but the shift tables
  *   need a null shift, so a compact call with all counts 0 answers 6, not 0.
+ *
+ * THREADS AND STACK
+ *   The library has no state, allocates nothing and keeps no pointer, so any number of threads may call it at the same time, on slices that
+ *   overlap only where all of them only read. A call takes at most 66 kB of stack, but gf_find_permutation 427 kB at 1,024 positions:
+ *   docs/GUIDE.md has each call's, measured.
  *
  * WORK SLICES
  *   done, atom_list_reverse and rot_delta are memory to work in. What they hold has no influence on the result; a call that ends well
@@ -77,7 +83,7 @@ extern "C" {
 #endif
 
 /* The version of this header; gf_version gives that of the library. */
-#define GF_VERSION "1.1.0"
+#define GF_VERSION "2.0.0"
 
 /* What a call answers: each answer's name, number and words. gf_words gives the words of a number. */
 #define GF_ANSWERS(ANSWER) \
@@ -108,6 +114,9 @@ extern "C" {
 #define GF_ANSWER_NUMBER(name, number, words) name = number,
 enum gf_answer { GF_ANSWERS(GF_ANSWER_NUMBER) };
 #undef GF_ANSWER_NUMBER
+
+/* Whether an answer is a refusal, so that the call has written nothing. */
+#define GF_REFUSED(answer) ((answer) >= 1 && (answer) <= 63)
 
 /* Which sums a drift report names. */
 enum gf_along {
@@ -153,7 +162,11 @@ uint8_t gf_check_shift_tables(
  * Which position each rotated position comes from. All slots of rot_atom are set to -1; then, for i rising, the lowest free slot j
  * whose rot_pos j is near pos i takes i: slot j holds the number of the position that rotated position j comes from. Near: the
  * difference d of the coordinates, each less its own rounding where the cell repeats along that axis and whole where it does not, is
- * shorter than symprec; component k of its length is row k of the lattice times d. NaN is never near.
+ * shorter than symprec; component k of its length is row k of the lattice times d. NaN is never near. To the last bit, each operation
+ * rounded to the nearest double, l being the lattice:
+ *     d[k] = pos[3 * i + k] - rot_pos[3 * j + k]; where the cell repeats along axis k, then d[k] = d[k] - gf_round(d[k])
+ *     c[k] = ((0.0 + l[3 * k] * d[0]) + l[3 * k + 1] * d[1]) + l[3 * k + 2] * d[2]
+ *     near if gf_sqrt(((0.0 + c[0] * c[0]) + c[1] * c[1]) + c[2] * c[2]) < symprec
  * So the basis vectors stand in the COLUMNS of lattice. For a = (3, 0, 0), b = (1, 2, 0), c = (0, 0, 4) it is
  *     {3, 1, 0,  0, 2, 0,  0, 0, 4}
  * and d = (0, 0.5, 0) has the length of b / 2, the root of 1.25. With the vectors in the rows, {3, 0, 0,  1, 2, 0,  0, 0, 4}, it would
@@ -186,7 +199,7 @@ uint8_t gf_compute_permutation(
  * slots it is that one. Near is as above; a NaN distance is not near.
  * GF_DONE: the slots are a bijection of near pairs, the marks zeros. GF_NO_MATCH: none exists; the slots are all -1, and marks has 1 for
  * each member of a group of positions that has fewer near slots than members, 0 for the rest. Where several bijections or groups exist
- * any may come back. A chain takes up to num_pos calls, each a step deeper in the stack: up to 405 kB at 1,024 positions.
+ * any may come back. A chain takes up to num_pos calls, each a step deeper in the stack: up to 427 kB at 1,024 positions.
  *   rot_atom  num_pos      only written
  *   marks     num_pos      only written
  *   lattice   9            row after row, the basis vectors in the columns
@@ -269,7 +282,8 @@ uint8_t gf_true_transpose_compact_fc2(
 
 /*
  * How far the rows and the columns of a full set are from adding up to zero: of each atom and pair of directions the row sum over
- * the second atom, and the column sum over the first.
+ * the second atom, and the column sum over the first. Each sum starts from 0.0 and adds the numbers one by one, the atom that is summed
+ * over rising: value and place depend on that order to the last bit.
  *   GF_DRIFT_STILL      all sums are zero; value 0.0, place GF_ROWS, 0, 0, 0
  *   GF_DRIFT_WORST      value: the largest absolute value of a sum; place: the first sum that has it
  *   GF_DRIFT_NO_NUMBER  a sum is NaN; value NaN, place: the first such sum
@@ -286,8 +300,8 @@ uint8_t gf_drift_report(
     size_t n_satom);
 
 /*
- * The same of the full set that a compact set reads out to, which is not written: the row sum of an atom adds its read-out entries
- * over the second atom, the column sum over the first.
+ * The same of the full set that a compact set reads out to, which is not written: the row sum of an atom of the supercell adds its
+ * read-out entries over the second atom, the column sum over the first, from 0.0, the atom of the supercell rising.
  *   fc     n_patom x n_satom x 9
  *   value  1, only written
  *   place  4: GF_ROWS or GF_COLUMNS, the atom and the two directions, only written
@@ -305,8 +319,8 @@ uint8_t gf_drift_report_compact_fc2(
 
 /*
  * How far the sums over each leg of a full set of third order are from zero, by the rule of gf_drift_report: the sum over one of the
- * three atoms, the other two and the directions fixed. The sums over the last leg come first, then those over the middle one and the
- * first; then by atoms, then by directions. A still report has leg 2 and zeros.
+ * three atoms, the other two and the directions fixed, from 0.0, the atom that is summed over rising. The sums over the last leg come
+ * first, then those over the middle one and the first; then by atoms, then by directions. A still report has leg 2 and zeros.
  *   fc     num_atom x num_atom x num_atom x 27
  *   value  1, only written
  *   place  6: the leg that is summed over (0, 1 or 2), the atoms of the two other legs, the three directions, only written
@@ -655,7 +669,8 @@ uint8_t gf_same_set(
  * GF_ALIKE: they do. GF_UNLIKE: place[0] is the first place, in the order of the set, at which some permutation reads another number,
  * place[1] the first permutation that does there, and numbers has the number at the place and that other one. Permutations count from
  * 0 in the order 01, 10; at third order 012, 021, 102, 120, 201, 210; at fourth order from 0123 to 3210 likewise: the digits name the
- * pairs in their new order. Other answers leave the slots.
+ * pairs in their new order. So where the number of the pairs p, q, r stands, permutation 3, which is 120, reads the number of q, r, p, and
+ * permutation 4, which is 201, that of r, p, q. Other answers leave the slots.
  *   fc       n_patom x n_satom x 9
  *   place    2
  *   numbers  2
@@ -749,7 +764,10 @@ uint8_t gf_audit_fc4(
 /* Whether the first count bytes of the lent slice are there and are a roll. Never refused. */
 bool gf_is_roll(const uint8_t *lent, size_t lent_len, size_t count);
 
-/* The same by the former rule: the trailer lists every start just once, in any order. Every roll is one by this rule too. */
+/*
+ * The same by the former rule: the trailer lists every start just once, in any order. Every roll is one by this rule too. It takes 66 kB of
+ * stack, for a table with a mark for each byte.
+ */
 bool gf_is_roll_former(const uint8_t *lent, size_t lent_len, size_t count);
 
 /*
@@ -769,8 +787,8 @@ bool gf_is_roll_former(const uint8_t *lent, size_t lent_len, size_t count);
 uint8_t gf_read_roll(const uint8_t *lent, size_t lent_len, size_t count, size_t at, size_t *slots, size_t slots_len);
 
 /*
- * The same by the former rule, for older rolls. Such a roll comes over record by record: what is read here is appended to an empty roll
- * (gf_append_roll), and the new roll has as many bytes as the older one.
+ * The same by the former rule, for older rolls; 66 kB of stack. Such a roll comes over record by record: what is read here is appended to an
+ * empty roll (gf_append_roll), and the new roll has as many bytes as the older one.
  */
 uint8_t gf_read_roll_former(const uint8_t *lent, size_t lent_len, size_t count, size_t at, size_t *slots, size_t slots_len);
 

@@ -17,10 +17,12 @@ class Binary(Distribution):
 
 
 class AnyPython(bdist_wheel):
-    """The library is no extension module: any Python 3 loads it."""
+    """The library is no extension module: any Python 3 loads it, on a Linux whose C library is not older than the library asks for."""
 
     def get_tag(self):
-        return "py3", "none", super().get_tag()[2]
+        with open(os.path.join(PACKAGE, "libgullyfork.so"), "rb") as f:
+            needed = re.findall(rb"\0GLIBC_(\d+)\.(\d+)", f.read())
+        return "py3", "none", "manylinux_%d_%d_x86_64" % max((int(major), int(minor)) for major, minor in needed)
 
 
 def version():

@@ -10,8 +10,8 @@ fn main() {
     println!("cargo:rerun-if-changed={}", library.display());
     let Ok(found) = fs::canonicalize(&library) else {
         eprintln!("The static library {} is missing.", library.display());
-        eprintln!("Run bindings/library of the repository, which proves the library and writes it to target/staticlib,");
-        eprintln!("or set GULLYFORK_STATICLIB to the folder that has libcapi.a.");
+        eprintln!("Run bindings/library of the repository, which proves the library and writes it to target/staticlib and needs the Rattle kit,");
+        eprintln!("or set GULLYFORK_STATICLIB to the folder that has libcapi.a; a release has it as lib/libgullyfork.a (docs/CLIENT.md).");
         process::exit(1);
     };
     println!("cargo:rustc-link-search=native={}", found.parent().unwrap().display());

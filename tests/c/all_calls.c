@@ -835,8 +835,122 @@ static void audits_fourth_order(void) {
     CHECK(gf_audit_compact_fc4(S(set4), S(beyond), S(three_s2pp), S(three_nsym), S(three_perms), S(place), S(numbers), 3, 1, 3) == GF_INDEX_OUT_OF_RANGE);
 }
 
+/* ---- to the last bit, as the header states the operations ---- */
+
+/* numbers of many sizes, so that sums in another order have other last bits */
+static double uneven(uint64_t *state) {
+    *state = *state * UINT64_C(6364136223846793005) + UINT64_C(1442695040888963407);
+    return ldexp((double)(*state >> 12) - 2251799813685248.0, -52 + (int)(*state >> 8 & 15));
+}
+
+/* the distance at which two positions are just not near */
+static double stated_distance(const double *l, const uint8_t *periodic, const double *pos, const double *rot_pos) {
+    double d[3], c[3];
+    for (size_t k = 0; k < 3; k++) {
+        d[k] = pos[k] - rot_pos[k];
+        d[k] = periodic[k] ? d[k] - gf_round(d[k]) : d[k];
+    }
+    for (size_t k = 0; k < 3; k++) {
+        c[k] = ((0.0 + l[3 * k] * d[0]) + l[3 * k + 1] * d[1]) + l[3 * k + 2] * d[2];
+    }
+    return gf_sqrt(((0.0 + c[0] * c[0]) + c[1] * c[1]) + c[2] * c[2]);
+}
+
+static void stated_distances(void) {
+    uint64_t state = 1;
+    for (size_t round = 0; round < 200; round++) {
+        double lattice[9], pos[3], rot_pos[3];
+        uint8_t periodic[3], mark[1];
+        int64_t slot[1];
+        size_t pair[2];
+        for (size_t k = 0; k < 9; k++) {
+            lattice[k] = uneven(&state);
+        }
+        for (size_t k = 0; k < 3; k++) {
+            pos[k] = uneven(&state), rot_pos[k] = uneven(&state), periodic[k] = round >> k & 1;
+        }
+        double d = stated_distance(lattice, periodic, pos, rot_pos), above = nextafter(d, INFINITY);
+        CHECK(gf_compute_permutation(S(slot), S(lattice), d, S(periodic), S(pos), S(rot_pos), S(pair), 1) == GF_NOT_MATCHED);
+        CHECK(gf_compute_permutation(S(slot), S(lattice), above, S(periodic), S(pos), S(rot_pos), S(pair), 1) == GF_DONE);
+        CHECK(gf_find_permutation(S(slot), S(mark), S(lattice), d, S(periodic), S(pos), S(rot_pos), 1) == GF_NO_MATCH);
+        CHECK(gf_find_permutation(S(slot), S(mark), S(lattice), above, S(periodic), S(pos), S(rot_pos), 1) == GF_DONE);
+    }
+}
+
+/* the worst of sums of n numbers from 0.0, rising, `step` apart; the sums begin at the places of `starts` and are looked at in that order */
+static double stated_worst(const double *fc, const size_t *starts, const size_t *steps, size_t sums, size_t n, size_t *first) {
+    double worst = 0.0;
+    for (size_t r = 0; r < sums; r++) {
+        double sum = 0.0;
+        for (size_t i = 0; i < n; i++) {
+            sum += fc[starts[r] + i * steps[r]];
+        }
+        if (fabs(sum) > worst) {
+            worst = fabs(sum), *first = r;
+        }
+    }
+    return worst;
+}
+
+static void stated_drifts(void) {
+    enum { n = 5, lines = 2 * n * 9, legs = 3 * n * n * 27 };
+    static double fc[n * n * 9], fc3[n * n * n * 27], compact[27], full[81];
+    static size_t starts[legs], steps[legs];
+    double value[1];
+    size_t place[4], at[6], first = 0;
+    uint64_t state = 7;
+    for (size_t round = 0; round < 50; round++) {
+        for (size_t k = 0; k < n * n * 9; k++) {
+            fc[k] = uneven(&state);
+        }
+        for (size_t r = 0; r < lines; r++) { /* rows, then columns; atom, then directions */
+            size_t atom = r / 9 % n, k = r % 9;
+            starts[r] = r < n * 9 ? atom * n * 9 + k : atom * 9 + k, steps[r] = r < n * 9 ? 9 : n * 9;
+        }
+        CHECK(gf_drift_report(S(fc), S(value), S(place), n) == GF_DRIFT_WORST);
+        CHECK(same_bits(value[0], stated_worst(fc, starts, steps, lines, n, &first)));
+        CHECK(is_place(place, first / 9 / n, first / 9 % n, first % 9 / 3, first % 3));
+        for (size_t k = 0; k < 27; k++) { /* three atoms, shifts in a circle, and the full set that is read out */
+            compact[k] = uneven(&state);
+        }
+        double of_full[1];
+        size_t place_of_full[4];
+        CHECK(gf_compact_to_full_fc2(S(full), S(compact), THREE, 3, 1, 3) == GF_DONE);
+        CHECK(gf_drift_report(S(full), S(of_full), S(place_of_full), 3) == GF_DRIFT_WORST);
+        CHECK(gf_drift_report_compact_fc2(S(compact), THREE, S(value), S(place), 3, 1, 3) == GF_DRIFT_WORST);
+        CHECK(same_bits(value[0], of_full[0]) && memcmp(place, place_of_full, sizeof place) == 0);
+        for (size_t k = 0; k < n * n * n * 27; k++) {
+            fc3[k] = uneven(&state);
+        }
+        for (size_t r = 0; r < legs; r++) { /* last leg, middle, first; the two other atoms, then directions */
+            size_t t = r / 27 / n / n, a = r / 27 / n % n, b = r / 27 % n, k = r % 27;
+            starts[r] = k + 27 * (t == 0 ? (a * n + b) * n : t == 1 ? a * n * n + b : a * n + b);
+            steps[r] = 27 * (t == 0 ? 1 : t == 1 ? n : n * n);
+        }
+        CHECK(gf_drift_report_fc3(S(fc3), S(value), S(at), n) == GF_DRIFT_WORST);
+        CHECK(same_bits(value[0], stated_worst(fc3, starts, steps, legs, n, &first)));
+        CHECK(at[0] == 2 - first / 27 / n / n && at[1] == first / 27 / n % n && at[2] == first / 27 % n);
+        CHECK(at[3] == first % 27 / 9 && at[4] == first % 9 / 3 && at[5] == first % 3);
+    }
+}
+
+/* where the number of x, y, z stands, permutation 120 reads that of y, z, x, and 201 that of z, x, y */
+static void stated_permutations(void) {
+    static const size_t read[] = {5, 7, 11, 15, 19, 21}; /* 012, 021, 102, 120, 201, 210 of x, y, z, one atom */
+    for (size_t k = 1; k < 6; k++) {
+        double fc3[27] = {0}, numbers[2];
+        size_t place[2];
+        fc3[read[k]] = 1.0;
+        CHECK(gf_audit_fc3(S(fc3), S(place), S(numbers), 1) == GF_UNLIKE);
+        CHECK(place[0] == 5 && place[1] == k && numbers[0] == 0.0 && numbers[1] == 1.0);
+    }
+}
+
 int main(void) {
     about();
+    stated_distances();
+    stated_drifts();
+    stated_permutations();
     rounding();
     shift_tables();
     matching();

@@ -53,8 +53,9 @@ def slices(*arrays):
     return [x for a in arrays for x in (_arrays.address(a), a.size)]
 
 
-def row(what, size, call, c, theirs=None, inside=None):
-    cells = [least(call), least(c), None if theirs is None else least(theirs), None if inside is None else inside(theirs)]
+def row(what, size, call, c, theirs=None, inside=None, check=None):
+    cells = [least(call), least(c), None if check is None else least(check), None if theirs is None else least(theirs),
+             None if inside is None else inside(theirs)]
     print(f"| {what} | {size} | " + " | ".join("" if x is None else f"{x:.2f}" for x in cells) + " |", flush=True)
 
 
@@ -64,29 +65,31 @@ def with_library(call):
 
 
 def calls():
-    print("| call | size | the package | the C name by ctypes, arguments ready | phonopy's function | phonopy with the library inside |")
-    print("|---|---|---|---|---|---|")
+    print("| call | size | the package | the C name by ctypes, arguments ready | of that the check of the tables | phonopy's function | "
+          "phonopy with the library inside |")
+    print("|---|---|---|---|---|---|---|")
     tables_of = {"2 x 64": grid((4, 4, 2), 2), "2 x 16": grid((2, 2, 2), 2), "4 x 512": grid((8, 4, 4), 4)}
     for size, t in tables_of.items():
         fc, done = np.random.rand(t.n_patom, t.n_satom, 3, 3), np.zeros(t.n_patom * t.n_satom, np.uint8)
         phonopys = [a.astype("intc") for a in (t.perms, t.s2pp, t.p2s, t.nsym_list)]
         arguments = [*slices(fc), *t.slices, *slices(done), *t.counts]
+        check = bare("check_shift_tables", *t.slices, *t.counts)
         row("transpose, `Tables`", size, lambda: gf.set_index_permutation_symmetry_compact_fc(fc, t, True),
             bare("set_index_permutation_symmetry_compact_fc", *arguments, True),
-            phonoc and (lambda: phonoc.transpose_compact_fc(fc, *phonopys)), phonoc and with_library)
+            phonoc and (lambda: phonoc.transpose_compact_fc(fc, *phonopys)), phonoc and with_library, check)
         row("transpose, four arrays", size, lambda: gf.set_index_permutation_symmetry_compact_fc(fc, tuple(t), True),
             bare("set_index_permutation_symmetry_compact_fc", *arguments, True))
         row("`perm_trans_symmetrize_compact_fc`, `Tables`", size, lambda: gf.perm_trans_symmetrize_compact_fc(fc, t),
             bare("perm_trans_symmetrize_compact_fc", *arguments, 1),
-            phonoc and (lambda: phonoc.perm_trans_symmetrize_compact_fc(fc, *phonopys, 1)), phonoc and with_library)
+            phonoc and (lambda: phonoc.perm_trans_symmetrize_compact_fc(fc, *phonopys, 1)), phonoc and with_library, check)
     for n in (2, 64):
         fc = np.random.rand(n, n, 3, 3)
         row("`perm_trans_symmetrize_fc`", n, lambda: gf.perm_trans_symmetrize_fc(fc), bare("perm_trans_symmetrize_fc", *slices(fc), n, 1),
             phonoc and (lambda: phonoc.perm_trans_symmetrize_fc(fc, 1)), phonoc and with_library)
         pos, lattice, found = np.random.rand(n, 3), np.eye(3), np.zeros(n, "intc")
-        slots, pair = np.empty(n, np.int64), np.empty(2, np.uintp)
+        slots, pair, axes = np.empty(n, np.int64), np.empty(2, np.uintp), np.ones(3, np.uint8)
         row("`compute_permutation`", n, lambda: gf.compute_permutation(lattice, 1e-5, pos, pos),
-            bare("compute_permutation", *slices(slots, lattice), 1e-5, *slices(pos, pos, pair), n),
+            bare("compute_permutation", *slices(slots, lattice), 1e-5, *slices(axes, pos, pos, pair), n),
             phonoc and (lambda: phonoc.compute_permutation(found, lattice, pos, pos, 1e-5)), phonoc and with_library)
         value, place = np.zeros(1), np.zeros(4, np.uintp)
         row("`drift_report`", n, lambda: gf.drift_report(fc), bare("drift_report", *slices(fc, value, place), n))

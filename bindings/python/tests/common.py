@@ -1,6 +1,7 @@
 """What the tests share."""
 import itertools
 import os
+import shutil
 
 import numpy as np
 
@@ -41,3 +42,53 @@ def read_out(fc, t):
 
 def same_bits(a, b):
     return a.shape == b.shape and a.tobytes() == b.tobytes()
+
+
+# ---- crystals as phonopy and phono3py leave them in a folder
+
+def phonopy_files(folder, name="NaCl-222"):
+    """POSCAR, FORCE_SETS, phonopy.yaml and FORCE_CONSTANTS (compact, symmetrized), as the command leaves them; what phonopy holds."""
+    from phonopy import Phonopy
+    from phonopy.file_IO import parse_FORCE_SETS, write_FORCE_CONSTANTS
+    from phonopy.interface.vasp import read_vasp
+
+    data = os.path.join(HERE, "data", name)
+    for one in ("POSCAR", "FORCE_SETS"):
+        shutil.copy(os.path.join(data, one), folder)
+    ph = Phonopy(read_vasp(os.path.join(data, "POSCAR")), np.diag([2, 2, 2]), primitive_matrix="auto")
+    ph.save(os.path.join(folder, "phonopy.yaml"))
+    ph.dataset = parse_FORCE_SETS(filename=os.path.join(data, "FORCE_SETS"))
+    ph.produce_force_constants(calculate_full_force_constants=False)
+    ph.symmetrize_force_constants(show_drift=False)
+    write_FORCE_CONSTANTS(ph.force_constants, os.path.join(folder, "FORCE_CONSTANTS"), p2s_map=ph.primitive.p2s_map)
+    return ph
+
+
+def phono3py_files(folder):
+    """Silicon: phono3py.yaml, fc3.hdf5 (dim 1 1 1, compact) and fc2.hdf5 (dim-fc2 2 2 2, compact) by phono3py's layout. The numbers of third order
+    are drawn at random, made to obey the crystal, and spoiled a little."""
+    import h5py
+
+    ph = phonopy_files(folder, "Si-222")
+    with open(os.path.join(folder, "phonopy.yaml"), encoding="utf-8") as f:
+        text = f.read().replace("phonopy:", "phono3py:")
+    first, rest = text.split("supercell_matrix:\n")
+    matrix, rest = rest.split("\n\n", 1)
+    small = matrix.replace("2", "1")
+    with open(os.path.join(folder, "phono3py.yaml"), "w", encoding="utf-8") as f:
+        f.write(f"{first}supercell_matrix:\n{small}\n\nphonon_supercell_matrix:\n{matrix}\n\n{rest}")
+    unit = ph.unitcell
+    t, found = gf.Tables.from_cell(unit, 1, ph.primitive_matrix), gf.crystal.operations(unit)
+    drawn = random(8, 8, 8, 3, 3, 3)
+    mean = np.zeros_like(drawn)
+    for turn, sent in zip(found.rotations, found.maps):
+        for shift in t.perms:
+            to = shift[sent]
+            mean[np.ix_(to, to, to)] += np.einsum("ai,bj,ck,xyzijk->xyzabc", turn, turn, turn, drawn)
+    fc3 = np.ascontiguousarray(mean[t.p2s]) / (len(found.maps) * t.num_trans) + 1e-5 * random(2, 8, 8, 3, 3, 3, seed=1)
+    for name, key, fc, rows in (("fc3.hdf5", "fc3", fc3, t.p2s), ("fc2.hdf5", "force_constants", ph.force_constants, ph.primitive.p2s_map)):
+        with h5py.File(os.path.join(folder, name), "w") as f:
+            f.create_dataset(key, data=fc, compression="gzip")
+            f.create_dataset("p2s_map", data=np.array(rows, "intc"))
+            f.create_dataset("version", data=np.string_("2.5.1"))
+    return ph

@@ -2,6 +2,7 @@
 import inspect
 import itertools
 import os
+import pathlib
 import pickle
 import shutil
 import subprocess
@@ -405,10 +406,10 @@ class Roll(unittest.TestCase):
         self.assertEqual([gf.stands_now(retired, k) for k in (7, 41, 57)], [(state.CURRENT, 57)] * 3)  # 41 was replaced
         ended = gf.roll.appended(retired, kind.RETIREMENT, 57)
         self.assertEqual([gf.stands_now(ended, k).state for k in (7, 41, 57)], [state.RETIRED] * 3)
-        for record, words in (((kind.DELIVERY, 7), "record 3 delivers set 7, which was delivered before"),
-                              ((kind.RETIREMENT, 8), "record 3 names set 8, which no earlier record delivers"),
-                              ((kind.REPLACEMENT, 9, 9), "record 3 names set 9, which no earlier record delivers"),
-                              ((kind.REPLACEMENT, 58, 41), "record 3 replaces set 41, which was replaced before")):
+        for record, words in (((kind.DELIVERY, 7), "delivery 7, line 4 of the list, delivers set 7, which was delivered before"),
+                              ((kind.RETIREMENT, 8), "retirement 8, line 4 of the list, names set 8, which no earlier record delivers"),
+                              ((kind.REPLACEMENT, 9, 9), "replacement 9 of 9, line 4 of the list, names set 9, which no earlier record delivers"),
+                              ((kind.REPLACEMENT, 58, 41), "replacement 58 of 41, line 4 of the list, replaces set 41, which was replaced before")):
             with self.assertRaises(gf.Refused) as caught:
                 gf.stands_now(gf.roll.appended(roll, *record), 57)
             self.assertEqual((caught.exception.number, caught.exception.detail), (9, words))
@@ -427,11 +428,49 @@ class Roll(unittest.TestCase):
             self.assertEqual([gf.stands_now(new, k).state for k in (5, 6, 7, 9)], [state.RETIRED, state.CURRENT, state.RETIRED, state.RETIRED])
             self.assertEqual(gf.roll.retired(new, number), new)
         lent = np.frombuffer(roll + bytes(27), np.uint8).copy()
-        for values, number in (((len(roll), 7), 8), ((len(roll), 4), 11), ((len(roll) - 1, 7), 7)):
+        for count, set, number in ((len(roll), 7, 8), (len(roll), 4, 11), (len(roll) - 1, 7, 7)):
             with self.assertRaises(gf.Refused) as caught:
-                gf.retire_all(lent, *values)
+                gf.retire_all(lent, set, count=count)
             self.assertEqual(caught.exception.number, number)
             self.assertEqual(lent.tobytes(), roll + bytes(27))
+
+    def test_files(self):
+        """What the command does is tried in tests/roll; here, what a program gets."""
+        kind, at = gf.roll.Kind, tempfile.mkdtemp()
+        self.addCleanup(shutil.rmtree, at)
+        file = os.path.join(at, "roll.bin")
+        gf.roll.begin(file)
+        self.assertEqual(gf.roll.load(file), gf.roll.EMPTY)
+        for record in ((kind.DELIVERY, 7), (kind.REPLACEMENT, 8, 7, b"MgO")):
+            gf.roll.append(pathlib.Path(file), *record)
+        roll = gf.roll.load(os.fsencode(file))
+        self.assertEqual(roll, gf.roll.appended(gf.roll.appended(gf.roll.EMPTY, kind.DELIVERY, 7), kind.REPLACEMENT, 8, 7, b"MgO"))
+        for call, number, argument in ((lambda: gf.roll.append(file, kind.DELIVERY, 7), 9, "path"), (lambda: gf.roll.retire(file, 9), 11, "set"),
+                                       (lambda: gf.roll.append(file, kind.DELIVERY, 9, label=bytes(256)), 7, "label")):
+            with self.assertRaises(gf.Refused) as caught:
+                call()
+            self.assertEqual((caught.exception.number, caught.exception.argument, gf.roll.load(file)), (number, argument, roll))
+        with self.assertRaises(FileExistsError):
+            gf.roll.begin(file)
+        self.assertEqual((gf.roll.retire(file, 7), gf.roll.retire(file, 7)), ([7, 8], []))
+        gf.roll.append(file, kind.RETIREMENT, 99, anyway=True)
+        with self.assertRaises(gf.Refused) as caught:
+            gf.stands_now(gf.roll.load(file), 7)
+        self.assertEqual(caught.exception.detail, "retirement 99, line 5 of the list, names set 99, which no earlier record delivers")
+        for call in (lambda: gf.roll.renew(file, file + ".new"), lambda: gf.roll.retire(file, 7)):
+            with self.assertRaises(gf.Refused) as caught:
+                call()
+            self.assertEqual(caught.exception.number, 9)
+        gf.roll.renew(file, file + ".new", anyway=True)
+        self.assertEqual(gf.roll.load(file + ".new"), gf.roll.load(file))
+        with open(file, "wb") as f:
+            f.write(b"no roll")
+        for call in (lambda: gf.roll.load(file), lambda: gf.roll.append(file, kind.DELIVERY, 1), lambda: gf.roll.retire(file, 1),
+                     lambda: gf.roll.renew(file, file + ".other")):
+            with self.assertRaises(gf.Refused) as caught:
+                call()
+            self.assertEqual(caught.exception.number, 7)
+        self.assertEqual(sorted(os.listdir(at)), ["roll.bin", "roll.bin.new"])
 
 
 class Threads(unittest.TestCase):

@@ -250,18 +250,18 @@ class Clumsy(unittest.TestCase):
     def test_rolls(self):
         self.assertFalse(gf.is_roll(b"1234567"))
         self.refuses(gf.Refused, "lent: its first 7 bytes are not a roll", lambda: gf.read_roll(b"1234567"))
-        self.refuses(gf.Refused, "count 9 passes its 8 bytes", lambda: gf.read_roll(gf.roll.EMPTY, 0, 9))
+        self.refuses(gf.Refused, "count 9 passes its 8 bytes", lambda: gf.read_roll(gf.roll.EMPTY, 0, count=9))
         self.refuses(gf.Refused, "at: neither a record nor the trailer starts at 1", lambda: gf.read_roll(gf.roll.EMPTY, 1))
         lent = np.zeros(22, np.uint8)
         for values, words in (((8, 4, 1), "kind: 4"), ((8, 1, 0), "set: 0"), ((8, 1, 1, 5), "earlier: 5"), ((8, 2, 1), "earlier: 0"),
                               ((8, 1, 1, 0, bytes(256)), "label: 256 bytes"), ((8, 1, 1, 0, b"x"), "lent: 22 bytes, the roll would have 23"),
                               ((9, 1, 1), "lent: its first 9 bytes")):
-            self.refuses(gf.Refused, words, lambda: gf.append_roll(lent, *values), lent)
-        self.refuses(ValueError, "kind is 257", lambda: gf.append_roll(lent, 8, 257, 1), lent)
-        self.refuses(ValueError, "set is 4294967297", lambda: gf.append_roll(lent, 8, 1, 2**32 + 1), lent)
-        self.refuses(TypeError, "encode the text", lambda: gf.append_roll(lent, 8, 1, 1, 0, "MgO"), lent)
-        self.refuses(ValueError, "read-only", lambda: gf.append_roll(bytes(22), 8, 1, 1))
-        self.assertEqual(gf.append_roll(lent, 8, 1, 1), 22)
+            self.refuses(gf.Refused, words, lambda: gf.append_roll(lent, *values[1:], count=values[0]), lent)
+        self.refuses(ValueError, "kind is 257", lambda: gf.append_roll(lent, 257, 1, count=8), lent)
+        self.refuses(ValueError, "set is 4294967297", lambda: gf.append_roll(lent, 1, 2**32 + 1, count=8), lent)
+        self.refuses(TypeError, "encode the text", lambda: gf.append_roll(lent, 1, 1, 0, "MgO", count=8), lent)
+        self.refuses(ValueError, "read-only", lambda: gf.append_roll(bytes(22), 1, 1, count=8))
+        self.assertEqual(gf.append_roll(lent, 1, 1, count=8), 22)
 
     def test_numbers(self):
         for call in (gf.nint, gf.round, gf.sqrt):

@@ -1,23 +1,34 @@
-"""The examples: of every module's doc strings, and of the documents' Python blocks."""
+"""The examples: of every module's doc strings, and of the documents' Python blocks; doc strings in numpydoc form; the page of all names."""
+import contextlib
 import doctest
 import importlib
+import inspect
+import io
 import os
 import pkgutil
+import pydoc
 import re
-import shutil
+import subprocess
+import sys
 import tempfile
 import unittest
 
 import numpy as np
 
 import gullyfork
-from common import HERE, ROOT
+from common import ROOT, phono3py_files, phonopy_files
+
+try:
+    import h5py
+    import phonopy
+except ImportError:
+    phonopy = None
 
 FLAGS = doctest.ELLIPSIS
 
 
 def modules():
-    names = [m.name for m in pkgutil.iter_modules(gullyfork.__path__) if m.name not in ("__main__", "phonopy")]
+    names = [m.name for m in pkgutil.iter_modules(gullyfork.__path__) if m.name != "__main__" and (phonopy or m.name != "phonopy")]
     return [gullyfork, *(importlib.import_module(f"gullyfork.{name}") for name in names)]
 
 
@@ -34,8 +45,53 @@ class DocStrings(unittest.TestCase):
     def test_every_call_has_an_example(self):
         for name in gullyfork.__all__:
             call = getattr(gullyfork, name)
-            if callable(call) and name not in ("version", "words", "append_roll", "Match") and not isinstance(call, type):
+            if inspect.isfunction(call):
                 self.assertIn(">>>", call.__doc__, name)
+
+    def public(self):
+        """Every public function and method with its name."""
+        for module in modules():
+            short = module.__name__.split(".")[-1]
+            if short.startswith("_") or short == "gullyfork":
+                continue
+            for name in module.__all__:
+                x = getattr(module, name)
+                if inspect.isfunction(x):
+                    yield f"{short}.{name}", x
+                elif inspect.isclass(x) and x.__module__.startswith("gullyfork"):
+                    yield from ((f"{short}.{name}.{k}", getattr(x, k)) for k, m in vars(x).items()
+                                if not k.startswith("_") and isinstance(m, (type(self.public), classmethod, type(modules))))
+
+    def test_numpydoc(self):
+        """A sentence first; every parameter by its name; what is returned, where it is not None."""
+        seen = 0
+        for name, call in self.public():
+            with self.subTest(name):
+                doc = inspect.getdoc(call)
+                self.assertRegex(doc.split("\n")[0], r"^[A-Z].*[.:]")
+                sections = dict(zip(*[iter(re.split(r"^(\w+)\n-{3,}\n", doc, flags=re.M)[1:])] * 2))
+                named = set(re.findall(r"\w+", " ".join(re.findall(r"^(\S.*?)(?: : .*)?$", sections.get("Parameters", ""), re.M))))
+                signature = inspect.signature(call)
+                self.assertLessEqual({p for p in signature.parameters if p not in ("self", "cls")}, named)
+                seen += 1
+        self.assertGreater(seen, 50)
+
+    def test_help_is_a_page(self):
+        """help(gullyfork) begins with a page that names every call and every module, and what `import gullyfork` brings is there."""
+        doc = inspect.getdoc(gullyfork)
+        self.assertLess(len(doc.split("\n")), 66)
+        self.assertIn(doc.split("\n")[0], pydoc.render_doc(gullyfork, renderer=pydoc.plaintext))
+        short = doc.replace("set_permutation_symmetry_fc3, .._fc4", "set_permutation_symmetry_fc3, set_permutation_symmetry_fc4")
+        for name in gullyfork.__all__:
+            x = getattr(gullyfork, name)
+            if inspect.isfunction(x):
+                stem = re.sub(r"_fc[34]$", "", name)
+                self.assertTrue(name in short or f"{stem}_fc" in short, name)
+            if inspect.ismodule(x):
+                self.assertTrue(f"gullyfork.{name}" in doc or set(x.__all__) & set(gullyfork.__all__), name)
+        said = subprocess.run([sys.executable, "-c", "import gullyfork; print(gullyfork.files, gullyfork.check, gullyfork.certificate, gullyfork.roll)"],
+                              capture_output=True, text=True)
+        self.assertEqual((said.returncode, said.stdout.count("<module")), (0, 4), said.stderr)
 
 
 class Documents(unittest.TestCase):
@@ -51,8 +107,16 @@ class Documents(unittest.TestCase):
         self.assertEqual(failed, 0)
         self.assertGreater(tried, 4)
 
+    @unittest.skipUnless(phonopy, "needs phonopy and h5py")
     def test_readme(self):
-        self.run_file(os.path.join(ROOT, "bindings", "python", "README.md"))
+        phono3py_files(".")
+        phonopy_files(".")
+        with contextlib.redirect_stderr(io.StringIO()):
+            self.run_file(os.path.join(ROOT, "bindings", "python", "README.md"))
+
+    def test_page_of_all_names(self):
+        p = subprocess.run([sys.executable, os.path.join(ROOT, "docs", "python-api"), "--check"], capture_output=True, text=True)
+        self.assertEqual((p.returncode, p.stderr), (0, ""))
 
     def test_how_to_add_a_call(self):
         """The block of the README that is no dialogue: a function as a call's is written."""
@@ -65,15 +129,10 @@ class Documents(unittest.TestCase):
         self.assertEqual(names["row_sums_fc2"](fc).tobytes(), gullyfork.row_sums_fc2(fc).tobytes())
 
     def test_guide(self):
-        try:
-            from phonopy import Phonopy
-            from phonopy.interface.vasp import read_vasp
-        except ImportError:
-            self.skipTest("needs phonopy")
-        data = os.path.join(HERE, "data", "NaCl-222")
-        shutil.copy(os.path.join(data, "FORCE_SETS"), ".")
-        Phonopy(read_vasp(os.path.join(data, "POSCAR")), np.diag([2, 2, 2]), primitive_matrix="auto").save("phonopy.yaml")
         self.run_file(os.path.join(ROOT, "docs", "GUIDE.md"))
+
+    def test_first_page(self):
+        self.run_file(os.path.join(ROOT, "README.md"))
 
 
 if __name__ == "__main__":

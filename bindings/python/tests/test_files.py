@@ -1,4 +1,7 @@
 """Sets in files: what is written is read back bit for bit, phonopy reads and writes the same, and what is wrong is said with its place."""
+import contextlib
+import io
+import json
 import os
 import pathlib
 import shutil
@@ -9,7 +12,8 @@ import numpy as np
 
 import gullyfork as gf
 from gullyfork import files
-from common import CIRCLE, SAMPLE, random, same_bits
+from gullyfork.__main__ import main
+from common import CIRCLE, SAMPLE, phono3py_files, random, same_bits
 
 try:
     import h5py
@@ -159,6 +163,111 @@ class Sets(Room):
         whole = pathlib.Path(self.path("x.hdf5")).read_bytes()
         pathlib.Path(self.path("x.hdf5")).write_bytes(whole[:len(whole) // 2])
         self.unreadable("x.hdf5", lambda: files.read(self.path("x.hdf5")))
+
+
+@unittest.skipUnless(write_FORCE_CONSTANTS and h5py, "needs phonopy and h5py")
+class Phono3py(Room):
+    """Files with phono3py's layout: fc3.hdf5 of one supercell (dim), fc2.hdf5 of another (dim-fc2), and one yaml that has both."""
+
+    def setUp(self):
+        super().setUp()
+        self.ph = phono3py_files(self.room.name)
+
+    def check(self, *words):
+        out, err = io.StringIO(), io.StringIO()
+        with contextlib.redirect_stdout(out), contextlib.redirect_stderr(err):
+            status = main(["check", *words, "--cell", self.path("phono3py.yaml"), "--json"])
+        self.assertEqual(err.getvalue(), "")
+        said = json.loads(out.getvalue())
+        return status, {m["name"]: m for m in said["sets"][0]["measures"]}
+
+    def test_each_with_its_supercell(self):
+        small, large = (gf.check.read_cell(self.path("phono3py.yaml"), *of) for of in ((3, 8), (2, 64)))
+        self.assertEqual((small.tables.counts, large.tables.counts), ((8, 2, 4), (64, 2, 32)))
+        self.assertEqual(gf.check.read_cell(self.path("phono3py.yaml"), 2).tables, large.tables)  # second order is dim-fc2's
+        self.assertEqual(gf.check.read_cell(self.path("phono3py.yaml"), 2, 8).tables, small.tables)  # unless it has the other's atoms
+        status, seen = self.check(self.path("fc2.hdf5"))
+        self.assertEqual(status, 0, seen)
+        self.assertEqual((seen["tables"]["words"], seen["highest"]["value"] > 10), ("32 shifts, every rule is kept", True))
+        status, seen = self.check(self.path("fc3.hdf5"))
+        self.assertEqual(status, 1)  # a little noise
+        self.assertEqual({name for name, m in seen.items() if m["fault"]}, {"drift", "exchange"})
+        self.assertLess(seen["crystal"]["value"], 1e-2)
+
+    def test_symmetrized(self):
+        """Full and compact: clean afterwards, with everything of the file's but the numbers; and the numbers are numpy's."""
+        t = gf.check.read_cell(self.path("phono3py.yaml"), 3).tables
+        compact = files.read(self.path("fc3.hdf5")).array
+        with h5py.File(self.path("full.hdf5"), "w") as f:
+            f.create_dataset("fc3", data=gf.compact_to_full_fc3(compact, t), compression="gzip")
+            f.create_dataset("version", data=np.string_("2.5.1"))
+        for name in ("fc3.hdf5", "full.hdf5"):
+            self.check(self.path(name), "--symmetrize", self.path("out-" + name))
+            status, seen = self.check(self.path("out-" + name))
+            self.assertEqual(status, 0, seen)
+            self.assertEqual(seen["audit"]["value"], 0)
+            with h5py.File(self.path("out-" + name), "r") as f:
+                self.assertEqual((f["fc3"].compression, f["version"][()], "p2s_map" in f), ("gzip", b"2.5.1", name == "fc3.hdf5"))
+        full = files.read(self.path("full.hdf5")).array
+        for leg in range(3):
+            full -= full.mean(axis=leg, keepdims=True)
+        orders = ((0, 1, 2), (0, 2, 1), (1, 0, 2), (1, 2, 0), (2, 0, 1), (2, 1, 0))
+        full = np.mean([full.transpose(*p, *(3 + k for k in p)) for p in orders], axis=0)
+        np.testing.assert_allclose(files.read(self.path("out-full.hdf5")).array, full, atol=1e-15)
+        np.testing.assert_allclose(files.read(self.path("out-fc3.hdf5")).array, full[t.p2s], atol=1e-15)
+
+    def test_written_as_phono3py_reads_it(self):
+        """Datasets by phono3py's names: fc3, or force_constants, and p2s_map where the set is compact."""
+        for name, key, shape in (("fc3.hdf5", "fc3", (2, 8, 8, 3, 3, 3)), ("fc2.hdf5", "force_constants", (2, 64, 3, 3))):
+            found = files.read(self.path(name))
+            files.write(self.path("again.hdf5"), found.array, found.p2s, overwrite=True)
+            with h5py.File(self.path("again.hdf5"), "r") as f, h5py.File(self.path(name), "r") as was:
+                self.assertEqual(f[key].shape, shape)
+                self.assertTrue(same_bits(f[key][()], was[key][()]))
+                self.assertEqual(f["p2s_map"][()].tolist(), was["p2s_map"][()].tolist())
+        self.assertTrue(same_bits(read_force_constants_hdf5(self.path("again.hdf5"), p2s_map=found.p2s), found.array))
+
+    def test_shengbte(self):
+        """FORCE_CONSTANTS_3RD, written from a set with every image that is nearest, is read back as that set; damage is named by its line."""
+        cell = gf.check.read_cell(self.path("phono3py.yaml"), 3)
+        t, fc3 = cell.tables, files.read(self.path("fc3.hdf5")).array
+        images = [list(self.images(cell, int(t.p2s[p]), a)) for p in range(2) for a in range(8)]
+        blocks = []
+        for p, a, b in np.ndindex(2, 8, 8):
+            near = [(u, v) for u in images[8 * p + a] for v in images[8 * p + b]]
+            for u, v in near:
+                lines = [" ".join(f"{x:.10e}" for x in w) for w in (u, v)] + [f"{p + 1} {t.s2pp[a] + 1} {t.s2pp[b] + 1}"]
+                lines += [f"{i + 1} {j + 1} {k + 1} {float(fc3[p, a, b, i, j, k]) / len(near)!r}" for i, j, k in np.ndindex(3, 3, 3)]
+                blocks.append(f"\n{len(blocks) + 1}\n" + "\n".join(lines) + "\n")
+        path = pathlib.Path(self.path("FORCE_CONSTANTS_3RD"))
+        path.write_text(f"{len(blocks)}\n" + "".join(blocks))
+        self.assertGreater(len(blocks), 128)  # some stand on the border
+        self.assertTrue(files.is_shengbte(path) and not files.is_shengbte(self.path("FORCE_CONSTANTS")) and not files.is_shengbte(self.path("fc3.hdf5")))
+        np.testing.assert_allclose(files.read_shengbte(path, cell).array, fc3, atol=1e-15)
+        status, seen = self.check(str(path), "--symmetrize", self.path("from.hdf5"))
+        self.assertEqual({name for name, m in seen.items() if m["fault"]}, {"drift", "exchange"})
+        self.assertEqual(self.check(self.path("from.hdf5"))[0], 0)
+        good = path.read_text()
+        first = good.split("\n")
+        for k, line, words in ((2, "2", "block 1 of .* does not begin with its number"), (3, "0.5 0 0", "no such atom there"),
+                               (5, "1 1 3", "three atoms from 1 to 2"), (6, "1 2 1 0.0", "the directions 1 1 1 are expected"), (0, str(len(blocks) + 1), "ends where")):
+            path.write_text("\n".join([*first[:k], line, *first[k + 1:]]))
+            with self.assertRaisesRegex(files.Unreadable, words):
+                files.read_shengbte(path, cell)
+
+    def images(self, cell, first, a):
+        """The lattice vectors from the representative of atom a to its images that are nearest to the first atom."""
+        own = cell.positions[cell.tables.p2s[cell.tables.s2pp[a]]]
+        around = np.array(list(np.ndindex(3, 3, 3))) - 1
+        d = (cell.positions[a] - cell.positions[first] + around) @ cell.lattice
+        far = np.sqrt((d ** 2).sum(axis=1))
+        return ((cell.positions[a] + around[k] - own) @ cell.lattice for k in np.flatnonzero(far < far.min() + 1e-6))
+
+    def test_rows_of_another_supercell(self):
+        with h5py.File(self.path("fc3.hdf5"), "r+") as f:
+            f["p2s_map"][...] = [0, 5]
+        status, seen = self.check(self.path("fc3.hdf5"))
+        self.assertEqual((status, seen["tables"]["fault"]), (1, True))
 
 
 class Deliveries(Room):

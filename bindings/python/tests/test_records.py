@@ -25,7 +25,7 @@ KEPT, SET = np.array([
     (0x007FFFFFFFFFFFFF, 0x3F80000000000000), (0x800FFFFFFFFFFFFF, 0x7FE0000000000000)], np.uint64).T
 
 
-# ---- numbers from a seed, and checksums, as crates/records makes them
+# ---- numbers from a seed, and checksums, as crates/replays makes them
 
 def mixed(h, w):
     return (h % PRIME * BY + w % PRIME) % PRIME
@@ -73,8 +73,18 @@ def checksum(a):
     return int(words[0]) if len(words) else 0
 
 
+# Whose file each part of the records stands in, its first page there, and how many pages it has.
+PARTS = {
+    "common": ("cells", 0, 1), "shifts": ("cells", 1, 3), "cells": ("cells", 4, 4), "finding": ("cells", 8, 4),
+    "fc2": ("sets", 0, 2), "fc2_compact": ("sets", 2, 3), "fc3": ("sets", 5, 3), "fc4": ("sets", 8, 2), "true": ("sets", 10, 3), "row_sums": ("sets", 13, 3),
+    "distribute": ("maps", 0, 1), "deltas": ("maps", 1, 1), "full_sets": ("maps", 2, 4),
+    "drift": ("reports", 3, 1),
+    "roll": ("roll", 0, 6), "retire": ("roll", 6, 3)}
+
+
 def records(name):
-    words = np.fromfile(os.path.join(ROOT, "crates", f"replay_{name}", "stdin"), "<u8")
+    program, first, pages = PARTS[name]
+    words = np.fromfile(os.path.join(ROOT, "crates", f"replay_{program}", "stdin"), "<u8")[first * PAGE:(first + pages) * PAGE]
     for page in range(0, len(words), PAGE):
         at = page + 1
         for _ in range(int(words[page])):
@@ -354,21 +364,21 @@ class Records(unittest.TestCase):
             kept = np.full(slots, 9, np.int64)
             if call in (0, 4):
                 judge = gf.is_roll if call == 0 else gf.is_roll_former
-                got = 0 if judge(lent, count) else 7
+                got = 0 if judge(lent, count=count) else 7
             elif call in (1, 5):
                 read = gf.read_roll if call == 1 else gf.read_roll_former
-                got, record = answer(lambda: read(lent, place, count))
+                got, record = answer(lambda: read(lent, place, count=count))
                 if got == 0 and record is None:
                     got = 68
                 elif got == 0:
                     start = record.next - len(record.label)
                     kept[:] = record.kind, record.set, record.earlier, start, len(record.label), record.next
             elif call == 3:
-                got, standing = answer(lambda: gf.stands_now(lent, set, count))
+                got, standing = answer(lambda: gf.stands_now(lent, set, count=count))
                 if standing is not None:
                     got, kept[:] = standing.state.value, standing.use or 9
             else:
-                got, new = answer(lambda: gf.append_roll(lent, count, place, set, earlier, bytes_of(label, set).tobytes()))
+                got, new = answer(lambda: gf.append_roll(lent, place, set, earlier, bytes_of(label, set).tobytes(), count=count))
                 kept[:] = 9 if new is None else new
             self.assertEqual((got, checksum(lent), checksum(kept)), (number, of_lent, of_slots))
             done += 1
@@ -382,7 +392,7 @@ class Records(unittest.TestCase):
             if slots != 1:
                 passed += 1
                 continue
-            got, new = answer(lambda: gf.retire_all(lent, count, set))
+            got, new = answer(lambda: gf.retire_all(lent, set, count=count))
             self.assertEqual((got, checksum(lent), 9 if new is None else new, 9), (number, of_lent, slot, other))
             done += 1
         self.least(done, passed, 300)

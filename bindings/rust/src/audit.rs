@@ -29,7 +29,8 @@ pub enum Audit {
 pub struct Difference {
     /// The place in the set.
     pub place: usize,
-    /// The first permutation that reads the other number, counted from 0: 01, 10; 012, 021, 102, 120, 201, 210; 0123 to 3210 likewise.
+    /// The first permutation that reads the other number, counted from 0: 01, 10; 012, 021, 102, 120, 201, 210; 0123 to 3210 likewise. The
+    /// digits name the pairs in their new order: where the number of p, q, r stands, 120 reads that of q, r, p.
     pub order: usize,
     /// The number at the place.
     pub here: f64,

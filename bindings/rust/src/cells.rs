@@ -10,7 +10,12 @@ pub enum MatchError {
     Refused(Refusal),
     /// The match failed, and a distance was NaN: of the pairs of position and free slot that the search tried, the first whose distance
     /// is no number. The slots are those of the failed match.
-    NoNumber { position: usize, slot: usize },
+    NoNumber {
+        /// The position.
+        position: usize,
+        /// The slot.
+        slot: usize,
+    },
 }
 
 impl From<Refusal> for MatchError {

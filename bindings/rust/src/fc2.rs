@@ -262,14 +262,18 @@ pub enum Along {
 /// that has the worst value, or that is NaN: rows come before columns, then by atom, then by directions.
 #[derive(Clone, Copy, Debug, PartialEq)]
 pub struct DriftReport {
+    /// How far.
     pub drift: Drift,
+    /// A row or a column.
     pub along: Along,
+    /// Its atom.
     pub atom: usize,
+    /// The directions of both atoms.
     pub directions: [usize; 2],
 }
 
 /// The drift of a full set of n_satom² × 9 numbers: of each atom and pair of directions the row sum over the second atom, and the column
-/// sum over the first. Not in phonors.
+/// sum over the first, each from 0.0 and rising. Not in phonors.
 ///
 /// ```
 /// use gullyfork::fc2::{drift_report, Along, Drift, DriftReport};

@@ -301,13 +301,17 @@ pub fn compact_to_full_fc3(
 /// over the middle one and the first; then by atoms, then by directions.
 #[derive(Clone, Copy, Debug, PartialEq)]
 pub struct LegReport {
+    /// How far.
     pub drift: Drift,
+    /// The leg that is summed over.
     pub leg: usize,
+    /// The atoms of the two other legs.
     pub atoms: [usize; 2],
+    /// The directions of all three.
     pub directions: [usize; 3],
 }
 
-/// The drift of a full set of num_atom³ × 27 numbers: the sums over each leg. Not in phonors.
+/// The drift of a full set of num_atom³ × 27 numbers: the sums over each leg, each from 0.0 and rising. Not in phonors.
 ///
 /// ```
 /// use gullyfork::fc2::Drift;

@@ -8,6 +8,13 @@
 //!   The plain form allocates the one and works out the others from the lengths. What work memory holds has no influence; a call
 //!   that ends well leaves zeros in it.
 //!
+//! The module [`tables`] has every call once more with less to pass: the shift tables as one argument, the work memory the caller's, and an
+//! error, [`Refused`], that names the argument which is the reason of a refusal.
+//!
+//! The library has no state and allocates nothing: any number of threads may call it at the same time, each on slices that Rust lets it have.
+//! The plain forms here allocate work memory; those that end in `_with`, and those of [`tables`], allocate nothing. A call takes at most 66 kB of
+//! stack, but [`cells::find_permutation`] 427 kB at 1,024 positions; docs/GUIDE.md has a table.
+//!
 //! Sets are slices of `f64`. A set of order 2, 3 or 4 has a block of 9, 27 or 81 numbers for each pair, triple or quadruple of atoms;
 //! the last atom varies fastest, and in a block the last direction. In a compact set the first atom is one of the primitive cell.
 //!
@@ -25,6 +32,7 @@
 //! assert_eq!(fc3::set_permutation_symmetry_fc3(&mut set, 2), Err(Refusal::WrongLength));
 //! # Ok::<(), Refusal>(())
 //! ```
+#![deny(missing_docs, rustdoc::broken_intra_doc_links)]
 pub mod audit;
 pub mod cells;
 pub mod common;
@@ -35,6 +43,9 @@ pub mod roll;
 pub mod tables;
 
 mod ffi;
+mod refused;
+
+pub use refused::{Argument, Refused};
 
 use ffi::call;
 use std::ffi::{c_char, CStr};
@@ -43,6 +54,7 @@ use std::{error, fmt};
 /// Why a call was turned down: the first of these that applies. Every slice is as it was.
 #[derive(Clone, Copy, Debug, PartialEq, Eq, Hash)]
 #[repr(u8)]
+#[non_exhaustive]
 pub enum Refusal {
     /// A count is above its limit.
     CountAboveLimit = 1,

@@ -19,16 +19,23 @@ use crate::{answer, Refusal};
 /// A roll without records.
 pub const EMPTY: [u8; 8] = [0; 8];
 
+/// The kind of a record that delivers a set.
 pub const DELIVERY: u8 = 1;
+/// The kind of a record that delivers a set in the place of an earlier one.
 pub const REPLACEMENT: u8 = 2;
+/// The kind of a record that retires a set.
 pub const RETIREMENT: u8 = 3;
 
 /// A record of a roll; the label is part of the roll's bytes.
 #[derive(Clone, Copy, Debug, PartialEq, Eq)]
 pub struct Record<'a> {
+    /// [`DELIVERY`], [`REPLACEMENT`] or [`RETIREMENT`].
     pub kind: u8,
+    /// The set number.
     pub set: u32,
+    /// The set that a replacement replaces, 0 otherwise.
     pub earlier: u32,
+    /// Any bytes.
     pub label: &'a [u8],
     /// Where the record ends: the next position.
     pub next: usize,
@@ -102,6 +109,7 @@ pub fn append(lent: &mut [u8], count: usize, kind: u8, set: u32, earlier: u32, l
 /// What a roll answers for a set.
 #[derive(Clone, Copy, Debug, PartialEq, Eq)]
 pub enum Standing {
+    /// The set was never delivered.
     Unknown,
     /// The set at the end of the chain of replacements was retired.
     Retired,

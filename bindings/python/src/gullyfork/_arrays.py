@@ -7,27 +7,35 @@ from __future__ import annotations
 
 import operator
 from ctypes import addressof, c_char
-from typing import Any, Tuple
+from typing import TYPE_CHECKING, Callable, Tuple, Union
 
 import numpy as np
+
+if TYPE_CHECKING:
+    from typing_extensions import TypeGuard
+
+    from ._types import ArrayLike, Bytes, Doubles, Integers, NDArray, Scalar
+
+    Plain = NDArray[np.generic]
 
 F64 = np.dtype(np.float64)
 _RANGES = {"size_t": (0, 2**64 - 1), "int64_t": (-2**63, 2**63 - 1), "uint32_t": (0, 2**32 - 1), "uint8_t": (0, 255)}
 _EXACT = 2**53  # up to here every whole number is a double
 
 
-_buffer: Any = c_char.from_buffer
+lent: Callable[[NDArray[Scalar]], c_char] = c_char.from_buffer  # type: ignore[assignment]  # numpy declares from Python 3.12 on that it lends memory
 
 
-def address(a: np.ndarray) -> int:
+def address(a: NDArray[Scalar]) -> int:
     """Where the array's memory begins. The first way is four times as fast, and takes no array that is empty or read-only."""
     try:
-        return addressof(_buffer(a))
+        return addressof(lent(a))
     except (TypeError, ValueError):
-        return a.__array_interface__["data"][0]
+        where: int = a.__array_interface__["data"][0]
+        return where
 
 
-def changed(a: Any, name: str, dtype: np.dtype = F64) -> np.ndarray:
+def changed(a: object, name: str, dtype: np.dtype[Scalar]) -> NDArray[Scalar]:
     """The array itself, if the library may write into it."""
     if type(a) is np.ndarray and a.dtype == dtype and a.flags.carray:
         return a
@@ -47,7 +55,13 @@ def changed(a: Any, name: str, dtype: np.dtype = F64) -> np.ndarray:
     return a
 
 
-def _array(a: Any, name: str) -> np.ndarray:
+def ready(a: object) -> TypeGuard[Doubles]:
+    """Whether the array can be handed on as it is, to be read as doubles. Some arrays that could are not: numpy makes its own dtype float64
+    once, and `is` takes half the time of `==`."""
+    return type(a) is np.ndarray and a.dtype is F64 and a.flags.carray
+
+
+def _array(a: object, name: str) -> Plain:
     if isinstance(a, np.ma.MaskedArray):
         raise TypeError(f"{name} is a masked array: what stands behind the mask is not for the library to read")
     if type(a) is np.ndarray:
@@ -58,47 +72,47 @@ def _array(a: Any, name: str) -> np.ndarray:
         raise ValueError(f"{name} is ragged: its rows are not of one length") from None
 
 
-def _plain(a: np.ndarray, dtype: np.dtype) -> np.ndarray:
+def _plain(a: Plain, dtype: np.dtype[Scalar]) -> NDArray[Scalar]:
     flags = a.flags
-    return a if a.dtype == dtype and (flags.carray or flags.c_contiguous and flags.aligned) else a.astype(dtype, "C")
+    return a if a.dtype == dtype and (flags.carray or flags.c_contiguous and flags.aligned) else a.astype(dtype, "C")  # type: ignore[return-value]
 
 
-def numbers(a: Any, name: str) -> np.ndarray:
+def numbers(a: ArrayLike, name: str) -> Doubles:
     """Real numbers as doubles."""
-    a = _array(a, name)
-    if a.dtype == F64:
-        return _plain(a, F64)
-    if a.dtype.kind not in "fiu" or a.dtype.itemsize > 8:
-        raise TypeError(f"{name} has to hold real numbers that a double can hold, not {a.dtype}")
-    if a.dtype.itemsize == 8 and a.dtype.kind in "iu" and a.size and (a.max() > _EXACT or a.min() < -_EXACT):
+    found = _array(a, name)
+    if found.dtype == F64:
+        return _plain(found, F64)
+    if found.dtype.kind not in "fiu" or found.dtype.itemsize > 8:
+        raise TypeError(f"{name} has to hold real numbers that a double can hold, not {found.dtype}")
+    if found.dtype.itemsize == 8 and found.dtype.kind in "iu" and found.size and (found.max() > _EXACT or found.min() < -_EXACT):
         raise ValueError(f"{name} holds a whole number beyond 2^53, which no double need be equal to")
-    return _plain(a, F64)
+    return _plain(found, F64)
 
 
 _I64 = np.dtype(np.int64)
 
 
-def table(a: Any, name: str, copy: bool = False) -> np.ndarray:
+def table(a: ArrayLike, name: str, copy: bool = False) -> Integers:
     """An index table as int64: any integers, neither floats nor bools. copy: memory of its own, whatever was given."""
-    a = _array(a, name)
-    kind = a.dtype.kind
-    if kind not in "iu" and not (a.size == 0 and a.dtype == F64):  # which is what numpy makes of an empty list
-        raise TypeError(f"{name} is an index table: it has to hold integers, not {a.dtype}")
-    if kind == "u" and a.dtype.itemsize == 8 and a.size and a.max() > _RANGES["int64_t"][1]:
+    found = _array(a, name)
+    kind = found.dtype.kind
+    if kind not in "iu" and not (found.size == 0 and found.dtype == F64):  # which is what numpy makes of an empty list
+        raise TypeError(f"{name} is an index table: it has to hold integers, not {found.dtype}")
+    if kind == "u" and found.dtype.itemsize == 8 and found.size and found.max() > _RANGES["int64_t"][1]:
         raise ValueError(f"{name} holds a number beyond int64")
-    return a.astype(_I64, "C") if copy else _plain(a, _I64)
+    return found.astype(_I64, "C") if copy else _plain(found, _I64)
 
 
-def read(a: Any, name: str, kind: str) -> np.ndarray:
+def read(a: object, name: str, kind: str) -> Union[Doubles, Integers, Bytes]:
     """An array that is only read, of the header's type."""
     if kind == "double":
-        return numbers(a, name)
+        return numbers(a, name)  # type: ignore[arg-type]  # whatever was given: it is judged there
     if kind == "int64_t":
-        return table(a, name)
+        return table(a, name)  # type: ignore[arg-type]
     return octets(a, name)
 
 
-def octets(a: Any, name: str) -> np.ndarray:
+def octets(a: object, name: str) -> Bytes:
     """Bytes as they stand: bytes, bytearray, memoryview or an array of uint8."""
     if isinstance(a, np.ndarray) and not isinstance(a, np.ma.MaskedArray):
         if a.dtype != np.uint8 or a.ndim != 1 or not a.flags.c_contiguous:
@@ -109,7 +123,7 @@ def octets(a: Any, name: str) -> np.ndarray:
     return np.frombuffer(a, np.uint8) if len(a) else np.empty(0, np.uint8)
 
 
-def flags(x: Any, name: str) -> np.ndarray:
+def flags(x: ArrayLike, name: str) -> Bytes:
     """A flag for each of three axes, as bytes: one for all of them, or three; True and False, or 1 and 0."""
     a = _array(x, name)
     if a.dtype.kind != "b" and not (a.dtype.kind in "iu" and np.isin(a, (0, 1)).all()):
@@ -119,19 +133,19 @@ def flags(x: Any, name: str) -> np.ndarray:
     return np.full(3, a, np.uint8)
 
 
-def apart(a: np.ndarray, name: str, b: Any, other: str) -> None:
+def apart(a: object, name: str, b: object, other: str) -> None:
     """Raises if b shares memory with a, which is changed."""
-    if isinstance(b, np.ndarray) and np.may_share_memory(a, b) and np.shares_memory(a, b):
+    if isinstance(a, np.ndarray) and isinstance(b, np.ndarray) and np.may_share_memory(a, b) and np.shares_memory(a, b):
         raise ValueError(f"{name} is changed in place, and {other} shares memory with it")
 
 
-def whole(x: Any, name: str, kind: str = "size_t") -> int:
+def whole(x: object, name: str, kind: str = "size_t") -> int:
     """A whole number that the header's type can hold: never wrapped round."""
     if type(x) is not int:
         if isinstance(x, (bool, np.bool_)):
             raise TypeError(f"{name} has to be a whole number, not a bool")
         try:
-            x = operator.index(x)
+            x = operator.index(x)  # type: ignore[arg-type]  # it says what it takes
         except TypeError:
             raise TypeError(f"{name} has to be a whole number, not {type(x).__name__}") from None
     low, high = _RANGES[kind]
@@ -140,7 +154,7 @@ def whole(x: Any, name: str, kind: str = "size_t") -> int:
     return x
 
 
-def real(x: Any, name: str) -> float:
+def real(x: object, name: str) -> float:
     """A real number as a double."""
     if type(x) is float:
         return x
@@ -150,21 +164,21 @@ def real(x: Any, name: str) -> float:
     return float(numbers(a, name))
 
 
-def truth(x: Any, name: str) -> bool:
+def truth(x: object, name: str) -> bool:
     """A bool: a number in its place is most often an argument too many or too few."""
     if not isinstance(x, (bool, np.bool_)):
         raise TypeError(f"{name} has to be True or False, not {type(x).__name__}")
     return bool(x)
 
 
-def value(x: Any, name: str, kind: str) -> Any:
+def value(x: object, name: str, kind: str) -> Union[int, float]:
     """A value of the header's type."""
     if kind == "double":
         return real(x, name)
     return truth(x, name) if kind == "bool" else whole(x, name, kind)
 
 
-def of_order(a: Any, name: str, order: int) -> Tuple[int, int]:
+def of_order(a: ArrayLike, name: str, order: int) -> Tuple[int, int]:
     """The atoms of the first leg and of the others, of a set's shape."""
     shape = a.shape if isinstance(a, np.ndarray) else np.shape(a)
     if len(shape) != 2 * order or shape[order:] != (3,) * order or (order > 2 and len(set(shape[1:order])) > 1):
@@ -173,7 +187,7 @@ def of_order(a: Any, name: str, order: int) -> Tuple[int, int]:
     return shape[0], shape[1]
 
 
-def full(a: Any, name: str, order: int) -> int:
+def full(a: ArrayLike, name: str, order: int) -> int:
     """The atoms of a full set."""
     first, others = of_order(a, name, order)
     if first != others:

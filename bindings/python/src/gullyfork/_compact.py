@@ -1,7 +1,7 @@
 """Calls on compact sets: a set, shift tables, a work slice of marks, their counts, and values, if any."""
 from __future__ import annotations
 
-from typing import Any, Optional
+from typing import TYPE_CHECKING, Optional
 
 import numpy as np
 
@@ -11,31 +11,36 @@ from ._refused import LIMITS
 from ._run import memory, run
 from .tables import Tables
 
+if TYPE_CHECKING:
+    from ._types import ArrayLike, Bytes, Doubles, TablesLike
+
 _U8 = np.dtype(np.uint8)
 _FORM = ["slice", "tables", "slice", "counts"]
-_IN_ORDER = {c.name for c in CALLS.values() if [a.form for a in c.arguments] == _FORM + ["value"] * (len(c.arguments) - 4)}
+# calls whose arguments come in this order, with values behind: what the short way hands on after the counts
+_SHORT = {c.name: (c.function, [(a.name, a.type) for a in c.arguments[4:]]) for c in CALLS.values()
+          if [a.form for a in c.arguments] == _FORM + ["value"] * (len(c.arguments) - 4)}
 
 
-def compact(name: str, fc: np.ndarray, order: int, tables: Any, work_legs: int, work: Optional[np.ndarray], **values: Any) -> None:
+def compact(name: str, fc: Doubles, order: int, tables: TablesLike, work_legs: int, work: Optional[Bytes], **values: object) -> None:
     """work_legs: the work slice has n_patom x n_satom^(work_legs - 1) bytes; values: what the call takes beside."""
     t = tables if type(tables) is Tables else Tables.given(tables)
-    call = CALLS[name]
-    key = call.arguments[0].name
-    fits = isinstance(fc, np.ndarray) and fc.shape == t.shapes[order - 2]
-    if not fits:
-        _arrays.of_order(fc, key, order)
-    elif work is None and name in _IN_ORDER:
-        # the short way: small sets are a matter of microseconds. A refused call has touched nothing, so it is made again, to be explained
-        last = [_arrays.value(values[a.name], a.name, a.type) for a in call.arguments[4:]]
-        fc = _arrays.changed(fc, key)
+    shape = t.shapes[order - 2]
+    short = _SHORT.get(name) if work is None and _arrays.ready(fc) and fc.shape == shape else None
+    if short is not None:
+        # small sets are a matter of microseconds. A refused call has touched nothing, so it is made again, to be explained
+        function, last = short
         done = np.empty(_marks(t, order, work_legs), _U8)
-        if call.function(_arrays.address(fc), fc.size, *t.slices, _arrays.address(done), done.size, *t.counts, *last) == 0:
+        if function(_arrays.address(fc), fc.size, *t.slices, _arrays.address(done), done.size, *t.counts,
+                    *[_arrays.value(values[key], key, kind) for key, kind in last]) == 0:
             return
-    marks = memory("done", work, "work", _marks(t, order, work_legs), _U8)
-    run(name, order, changed={key: (fc, t.shapes[order - 2])}, **marks, tables=t, values=values)
+    key = CALLS[name].arguments[0].name
+    if not isinstance(fc, np.ndarray) or fc.shape != shape:
+        _arrays.of_order(fc, key, order)
+    marks = memory("done", work, "work", _marks(t, order, work_legs), np.uint8)
+    run(name, order, changed={key: (fc, shape)}, **marks, tables=t, values=values)
 
 
-def full_set(name: str, fc: Any, order: int, tables: Any, out: Optional[np.ndarray]) -> np.ndarray:
+def full_set(name: str, fc: ArrayLike, order: int, tables: TablesLike, out: Optional[Doubles]) -> Doubles:
     """The full set that a compact one is read out to: in out, or in new memory."""
     t = tables if type(tables) is Tables else Tables.given(tables)
     n = t.n_satom if t.n_satom <= LIMITS[order] else 0
@@ -47,4 +52,5 @@ def full_set(name: str, fc: Any, order: int, tables: Any, out: Optional[np.ndarr
 
 def _marks(t: Tables, order: int, legs: int) -> int:
     limit = LIMITS[order]
-    return t.n_patom * t.n_satom ** (legs - 1) if t.n_patom <= limit and t.n_satom <= limit else 0
+    marks: int = t.n_patom * t.n_satom ** (legs - 1) if t.n_patom <= limit and t.n_satom <= limit else 0
+    return marks

@@ -8,19 +8,26 @@ from __future__ import annotations
 import ctypes
 import os
 import re
-from typing import Any, Dict, List, NamedTuple
+from typing import TYPE_CHECKING, Dict, List, NamedTuple, Type, Union
 
 import numpy as np
 
+if TYPE_CHECKING:
+    from ctypes import _NamedFuncPointer
+
+    _Number = Union[Type["ctypes._SimpleCData[int]"], Type["ctypes._SimpleCData[float]"], Type["ctypes._SimpleCData[bool]"],
+                    Type[ctypes.c_char_p], Type[ctypes.c_void_p]]
+    _DType = Union["np.dtype[np.float64]", "np.dtype[np.int64]", "np.dtype[np.uint8]", "np.dtype[np.uintp]"]
+
 _HERE = os.path.dirname(os.path.abspath(__file__))
-SHARED = os.environ.get("GULLYFORK_SO") or os.path.join(_HERE, "libgullyfork.so.1")
+SHARED = os.environ.get("GULLYFORK_SO") or os.path.join(_HERE, "libgullyfork.so")
 HEADER = os.path.join(_HERE, "gullyfork.h")
 
-_CTYPES: Dict[str, Any] = {
+_CTYPES: Dict[str, _Number] = {
     "size_t": ctypes.c_size_t, "int64_t": ctypes.c_int64, "uint32_t": ctypes.c_uint32, "uint8_t": ctypes.c_uint8,
     "double": ctypes.c_double, "bool": ctypes.c_bool, "char *": ctypes.c_char_p,
 }
-DTYPES: Dict[str, Any] = {"double": np.dtype(np.float64), "int64_t": np.dtype(np.int64), "uint8_t": np.dtype(np.uint8), "size_t": np.dtype(np.uintp)}
+DTYPES: Dict[str, _DType] = {"double": np.dtype(np.float64), "int64_t": np.dtype(np.int64), "uint8_t": np.dtype(np.uint8), "size_t": np.dtype(np.uintp)}
 TABLES = ("p2s", "s2pp", "nsym_list", "perms")
 COUNTS = ("n_satom", "n_patom", "num_trans")
 
@@ -38,14 +45,14 @@ class Call(NamedTuple):
     """A C name: `name` without gf_, its function, and its arguments in order."""
 
     name: str
-    function: Any
+    function: _NamedFuncPointer
     arguments: List[Argument]
 
 
 class _Declared(NamedTuple):
     name: str
     result: str
-    types: List[Any]
+    types: List[_Number]
     arguments: List[Argument]
 
 
@@ -71,7 +78,7 @@ def declarations(header: str) -> List[_Declared]:
     text = re.sub(r"/\*.*?\*/", " ", header, flags=re.S)
     out = []
     for result, name, words in re.findall(r"((?:const )?\w+(?: \*)?)\s*\b(gf_\w+)\s*\(([^)]*)\)\s*;", text):
-        types: List[Any] = []
+        types: List[_Number] = []
         arguments: List[Argument] = []
         for word in ([] if words.strip() == "void" else words.split(",")):
             kind, argument = re.fullmatch(r"\s*(?:const )?(\w+) \*?(\w+)\s*", word).groups()  # type: ignore[union-attr]
@@ -94,14 +101,14 @@ def _header() -> str:
         raise ImportError(f"gullyfork: the package has no header ({e}): it was not built by bindings/python/build") from None
 
 
-def _load() -> Any:
+def _load() -> ctypes.CDLL:
     try:
         return ctypes.CDLL(SHARED)
     except OSError as e:
         raise ImportError(f"gullyfork: the shared library cannot be loaded: {e}") from None
 
 
-def _calls(text: str, library: Any) -> Dict[str, Call]:
+def _calls(text: str, library: ctypes.CDLL) -> Dict[str, Call]:
     calls = {}
     for d in declarations(text):
         try:
@@ -119,15 +126,39 @@ HEADER_VERSION = re.search(r'^#define GF_VERSION "(.*)"', _text, re.M)[1]  # typ
 
 
 def version() -> str:
-    """The version of the library, three numbers with points between."""
-    return CALLS["version"].function().decode("ascii")
+    """Return the version of the library, three numbers with points between.
+
+    Examples
+    --------
+    >>> len(version().split("."))
+    3
+    """
+    text: bytes = CALLS["version"].function()
+    return text.decode("ascii")
 
 
 def words(answer: int) -> str:
-    """What an answer of the library means."""
+    """Return what an answer of the library means.
+
+    Parameters
+    ----------
+    answer : int
+        From 0 to 255: 0 says that the work is done, 1 to 63 are refusals.
+
+    Raises
+    ------
+    ValueError
+        Any other number.
+
+    Examples
+    --------
+    >>> words(6)
+    'the shift tables break a rule'
+    """
     if not 0 <= answer <= 255:
         raise ValueError(f"answer: {answer} is no number of 0 to 255")
-    return CALLS["words"].function(answer).decode("utf-8")
+    text: bytes = CALLS["words"].function(answer)
+    return text.decode("utf-8")
 
 
 if version() != HEADER_VERSION:

@@ -1,8 +1,9 @@
-"""What the library's calls, and numpy, see in a set: sums, exchanged legs, audits."""
+"""What the library's calls, and numpy, see in a set: sums over legs, exchanged pairs, audits. For sets of every order, full (tables None) or
+compact."""
 from __future__ import annotations
 
 import itertools
-from typing import Any, Iterator, List, Optional, Sequence, Tuple
+from typing import TYPE_CHECKING, Callable, Dict, Iterator, List, Optional, Sequence, Tuple
 
 import numpy as np
 
@@ -10,14 +11,22 @@ import gullyfork as gf
 
 from .tables import Tables
 
+if TYPE_CHECKING:
+    from ._types import Doubles, Flags
 
-def place(k: Any, atoms: int) -> str:
+_TYPE = {(0, 1): 0, (0, 2): 1, (1, 2): 2}  # of a transpose of third order, by its legs
+_SYMMETRIZERS: Dict[int, Tuple[Callable[[Doubles], None], Callable[[Doubles, Tables], None]]] = {
+    3: (gf.set_permutation_symmetry_fc3, gf.set_permutation_symmetry_compact_fc3),
+    4: (gf.set_permutation_symmetry_fc4, gf.set_permutation_symmetry_compact_fc4)}
+_AUDITS = {2: (gf.audit_fc2, gf.audit_compact_fc2), 3: (gf.audit_fc3, gf.audit_compact_fc3), 4: (gf.audit_fc4, gf.audit_compact_fc4)}
+
+
+def place(k: Sequence[int], atoms: int) -> str:
     """An entry in words: its atoms, and its directions as letters."""
-    k = [int(i) for i in k]
     return ("atom " if atoms == 1 else "atoms ") + " ".join(str(i) for i in k[:atoms]) + ", " + "".join("xyz"[i] for i in k[atoms:])
 
 
-def worst(a: np.ndarray) -> Tuple[float, Tuple[int, ...]]:
+def worst(a: Doubles) -> Tuple[float, Tuple[int, ...]]:
     """The largest absolute value and its place."""
     if a.size == 0:
         return 0.0, (0,) * a.ndim
@@ -25,71 +34,100 @@ def worst(a: np.ndarray) -> Tuple[float, Tuple[int, ...]]:
     return abs(float(a[k])), tuple(int(i) for i in k)
 
 
-def _permutations(order: int) -> List[Tuple[int, ...]]:
-    return [p for p in itertools.permutations(range(order)) if p != tuple(range(order))]
+def swap(fc: Doubles, tables: Tables, a: int, b: int) -> None:
+    """Exchanges two (atom, direction) pairs of every number of a compact set, in place, by a proved call. a < b."""
+    order = fc.ndim // 2
+    if order == 2:
+        gf.true_transpose_compact_fc2(fc, tables)
+    elif order == 3:
+        gf.true_transpose_compact_fc3(fc, tables, _TYPE[a, b])
+    else:
+        gf.swap_pairs_compact_fc4(fc, tables, a, b)
 
 
-def exchanged(fc: np.ndarray, tables: Optional[Tables]) -> Iterator[np.ndarray]:
-    """The set with its (atom, direction) pairs in every other order, one after the other."""
+def _walk(legs: int) -> List[int]:
+    """Swaps of neighbours, each by its left leg, after which every order of the legs has been once, but for the one at the start."""
+    if legs == 1:
+        return []
+    swaps: List[int] = []
+    for k, between in enumerate([*_walk(legs - 1), None]):
+        down = k % 2 == 0  # the last leg goes through all the others, to and fro; the others change places when it stands at an end
+        swaps += range(legs - 2, -1, -1) if down else range(legs - 1)
+        if between is not None:
+            swaps.append(between + down)
+    return swaps
+
+
+def exchanged(fc: Doubles, tables: Optional[Tables]) -> Iterator[Doubles]:
+    """The set with its (atom, direction) pairs in every other order, one after the other; each is good until the next."""
     order = fc.ndim // 2
     if tables is None:
-        for p in _permutations(order):
+        for p in itertools.islice(itertools.permutations(range(order)), 1, None):
             yield fc.transpose(*p, *(order + k for k in p))
-    elif order == 2:
+    else:
         other = fc.copy()
-        gf.true_transpose_compact_fc2(other, tables)
-        yield other
-    else:  # every order of three pairs is one or two exchanges
-        for types in ((0,), (1,), (2,), (0, 1), (1, 0)):
-            other = fc.copy()
-            for t_type in types:
-                gf.true_transpose_compact_fc3(other, tables, t_type)
+        for left in _walk(order):
+            swap(other, tables, left, left + 1)
             yield other
 
 
-def same_bits(fc: np.ndarray, other: np.ndarray) -> np.ndarray:
+def same_bits(fc: Doubles, other: Doubles) -> Flags:
     """Entry by entry, NaN by NaN's bits."""
-    return fc.view(np.int64) == np.ascontiguousarray(other).view(np.int64)
+    same: Flags = fc.view(np.int64) == np.ascontiguousarray(other).view(np.int64)
+    return same
 
 
-def audit(fc: np.ndarray, tables: Optional[Tables]) -> gf.Audit:
+def audit(fc: Doubles, tables: Optional[Tables]) -> gf.Audit:
     """What the proved audit says."""
-    if tables is None:
-        return gf.audit_fc2(fc) if fc.ndim == 4 else gf.audit_fc3(fc)
-    return gf.audit_compact_fc2(fc, tables) if fc.ndim == 4 else gf.audit_compact_fc3(fc, tables)
+    full, compact = _AUDITS[fc.ndim // 2]
+    return full(fc) if tables is None else compact(fc, tables)
 
 
-def symmetrized(fc: np.ndarray, tables: Optional[Tables], level: int) -> np.ndarray:
-    """A copy that the library has symmetrized."""
-    out = fc.copy()
-    if fc.ndim == 4 and tables is None:
-        gf.perm_trans_symmetrize_fc(out, level)
-    elif fc.ndim == 4:
-        gf.perm_trans_symmetrize_compact_fc(out, tables, level)
-    elif tables is None:
-        gf.set_permutation_symmetry_fc3(out)
-    else:
-        gf.set_permutation_symmetry_compact_fc3(out, tables)
-    return out
-
-
-def columns(fc: np.ndarray, tables: Optional[Tables]) -> np.ndarray:
-    """The sums over the first atom: those over the last one of the set with its first and last pair exchanged."""
-    if tables is None:
-        return fc.sum(axis=0)
-    other = fc.copy()
-    if fc.ndim == 4:
-        gf.true_transpose_compact_fc2(other, tables)
-    else:
-        gf.true_transpose_compact_fc3(other, tables, 1)
-    return other.sum(axis=fc.ndim // 2 - 1)
-
-
-def rows(fc: np.ndarray) -> np.ndarray:
-    """The sums over the last atom."""
-    if fc.ndim == 4 and fc.shape[0] == fc.shape[1]:
+def sums(fc: Doubles, tables: Optional[Tables], leg: int) -> Doubles:
+    """The sums over a leg's atom. Over the first leg of a compact set: those over the last one, the two exchanged."""
+    last = fc.ndim // 2 - 1
+    if leg == last == 1 and tables is None and fc.shape[0] == fc.shape[1]:
         return gf.row_sums_fc2(fc)
-    return fc.sum(axis=fc.ndim // 2 - 1)
+    if leg > 0 or tables is None:
+        over: Doubles = fc.sum(axis=leg)
+        return over
+    other = fc.copy()
+    swap(other, tables, 0, last)
+    return sums(other, tables, last)
+
+
+def _without_drift(fc: Doubles, tables: Optional[Tables]) -> None:
+    """Takes the mean over each leg's atom off every number, in place: by numpy, not proved."""
+    last = fc.ndim // 2 - 1
+    for leg in range(last + 1):
+        if leg == 0 and tables is not None:  # the first atom of a compact set is not every atom: the two are exchanged and back
+            swap(fc, tables, 0, last)
+            fc -= fc.mean(axis=last, keepdims=True)
+            swap(fc, tables, 0, last)
+        else:
+            fc -= fc.mean(axis=leg, keepdims=True)
+
+
+def symmetrized(fc: Doubles, tables: Optional[Tables], level: int) -> Doubles:
+    """A copy without drift and alike under exchange. The permutations are the proved calls', and at second order the drift's removal too; at
+    third and fourth order the means over the legs are numpy's."""
+    order = fc.ndim // 2
+    if order == 2:
+        out = fc.copy() if tables is None else gf.compact_to_full_fc2(fc, tables)
+        gf.perm_trans_symmetrize_fc(out, level)
+        if tables is None:
+            return out
+        out = np.ascontiguousarray(out[tables.p2s])  # the compact call leaves drift behind
+        gf.set_index_permutation_symmetry_compact_fc(out, tables, False)
+        return out
+    out = fc.copy()
+    _without_drift(out, tables)
+    full, compact = _SYMMETRIZERS[order]
+    if tables is None:
+        full(out)
+    else:
+        compact(out, tables)
+    return out
 
 
 # ---- verdicts of the proved calls, in the words of delivery/verdicts.c
@@ -111,7 +149,7 @@ def number(x: float, bits: bool = True) -> str:
     return f"{x:.6g} ({digits}{power}{exponent})"
 
 
-def drift_words(fc: np.ndarray, tables: Optional[Tables], bits: bool = True) -> str:
+def drift_words(fc: Doubles, tables: Optional[Tables], bits: bool = True) -> str:
     """The proved drift report of a set; of a compact one, of the set that it reads out to. bits: whether the number has its bits beside it."""
     if fc.ndim == 4:
         drift = gf.drift_report(fc) if tables is None else gf.drift_report_compact_fc2(fc, tables)

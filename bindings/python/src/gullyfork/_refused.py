@@ -1,13 +1,14 @@
 """Refusals as exceptions. The number is the library's; which argument is to blame is worked out afterwards, for the message only."""
 from __future__ import annotations
 
-from typing import TYPE_CHECKING, Any, Dict, NamedTuple, Optional, Tuple
+from typing import TYPE_CHECKING, Dict, Mapping, NamedTuple, Optional, Tuple, Type, Union, cast
 
 import numpy as np
 
 from ._library import words
 
 if TYPE_CHECKING:
+    from ._types import Given, Integers
     from .tables import Tables
 
 LIMITS = {2: 1024, 3: 256, 4: 64}  # atoms, by the order of the set
@@ -22,8 +23,25 @@ _NOBODY: Blame = (None, None)
 class Refused(ValueError):
     """A call was refused: every array is as it was.
 
-    number: the refusal, as the library answered it; words: what it means; call: the call's name; argument and detail: what is to
-    blame, or None where that could not be worked out.
+    Attributes
+    ----------
+    number : int
+        The refusal, as the library answered it.
+    words : str
+        What it means.
+    call : str
+        The call's name.
+    argument, detail : str or None
+        What is to blame; None where that could not be worked out.
+
+    Examples
+    --------
+    >>> import numpy as np, gullyfork
+    >>> try:
+    ...     gullyfork.perm_trans_symmetrize_fc(np.zeros((1, 1, 3, 3)), level=1001)
+    ... except gullyfork.Refused as refused:
+    ...     print(refused.number, refused.argument, refused.detail, sep="; ")
+    1; level; 1001, limit 1000
     """
 
     def __init__(self, number: int, call: str, argument: Optional[str] = None, detail: Optional[str] = None) -> None:
@@ -34,10 +52,10 @@ class Refused(ValueError):
         super().__init__(text)
 
     def again(self) -> "Refused":
-        """The same refusal, to be raised anew."""
+        """Return the same refusal, to be raised anew."""
         return Refused(self.number, self.call, self.argument, self.detail)
 
-    def __reduce__(self) -> Any:
+    def __reduce__(self) -> Tuple[Type["Refused"], Tuple[object, ...]]:
         return Refused, (self.number, self.call, self.argument, self.detail)
 
 
@@ -49,13 +67,16 @@ class _Call(NamedTuple):
     the count that its entries are below."""
 
     order: int
-    given: Dict[str, tuple]
-    values: Dict[str, Any]
+    given: Mapping[str, Given]
+    values: Mapping[str, Union[int, float]]
     tables: Optional["Tables"]
 
+    def table(self, name: str) -> Integers:
+        return cast("Integers", self.given[name][0])
 
-def explain(answer: int, call: str, order: int, given: Dict[str, tuple], values: Dict[str, Any], tables: Optional["Tables"],
-            names: Dict[str, str]) -> Refused:
+
+def explain(answer: int, call: str, order: int, given: Mapping[str, Given], values: Mapping[str, Union[int, float]],
+            tables: Optional["Tables"], names: Mapping[str, str]) -> Refused:
     """The exception for a refusal. names: of arrays that the caller knows by another name."""
     try:
         argument, detail = _BLAME.get(answer, lambda _: _NOBODY)(_Call(order, given, values, tables))
@@ -65,13 +86,13 @@ def explain(answer: int, call: str, order: int, given: Dict[str, tuple], values:
 
 
 def _above(c: _Call) -> Blame:
-    counts = {} if c.tables is None else dict(zip(("n_satom", "n_patom", "num_trans"), c.tables.counts))
+    counts: Dict[str, float] = {} if c.tables is None else dict(zip(("n_satom", "n_patom", "num_trans"), c.tables.counts))
     for name, value in {**counts, **c.values}.items():
         limit = LIMITS[c.order] if name in _ATOMS else _LIMITS.get(name)
         if limit is not None and value > limit:
             return name, f"{value}, limit {limit}"
-    if "atom_list" in c.given and c.given["atom_list"][0].size > 1024:
-        return "atom_list", f"{c.given['atom_list'][0].size} entries, limit 1024"
+    if "atom_list" in c.given and c.table("atom_list").size > 1024:
+        return "atom_list", f"{c.table('atom_list').size} entries, limit 1024"
     return _NOBODY
 
 
@@ -82,12 +103,12 @@ def _length(c: _Call) -> Blame:
     if t is not None and t.perms.shape[1] != t.n_satom:
         return "perms", f"rows of {t.perms.shape[1]} entries, s2pp has {t.n_satom}"
     for name, (a, shape, *_) in c.given.items():
-        if a.shape != shape:
-            return name, f"shape {a.shape}, asked for {shape}"
+        if np.shape(a) != shape:  # type: ignore[arg-type]  # an array
+            return name, f"shape {np.shape(a)}, asked for {shape}"  # type: ignore[arg-type]
     return _NOBODY
 
 
-def _beyond(name: str, a: np.ndarray, count: int) -> Optional[Blame]:
+def _beyond(name: str, a: Integers, count: float) -> Optional[Blame]:
     bad = np.argwhere((a < 0) | (a >= count))
     if not len(bad):
         return None
@@ -100,9 +121,9 @@ def _entry(c: _Call) -> Blame:
     if t is not None:
         found = (_beyond("p2s", t.p2s, t.n_satom) or _beyond("s2pp", t.s2pp, t.n_patom) or _beyond("nsym_list", t.nsym_list, t.num_trans)
                  or _beyond("perms", t.perms, t.n_satom))
-    for name, (a, _, *below) in c.given.items():
-        if below and below[0] in c.values:
-            found = found or _beyond(name, a, c.values[below[0]])
+    for name, (_, _, *below) in c.given.items():
+        if below and str(below[0]) in c.values:
+            found = found or _beyond(name, c.table(name), c.values[str(below[0])])
     for name in ("i", "j"):
         if not found and name in c.values and c.values[name] >= c.values["n_satom"]:
             found = name, f"{c.values[name]}, n_satom {c.values['n_satom']}"
@@ -120,7 +141,7 @@ def _slab(c: _Call) -> Blame:
 
 
 def _representative(c: _Call) -> Blame:
-    listed, map_atoms = c.given["atom_list"][0], c.given["map_atoms"][0]
+    listed, map_atoms = c.table("atom_list"), c.table("map_atoms")
     for a in listed:
         r = map_atoms[a]
         if r not in listed:
@@ -131,8 +152,10 @@ def _representative(c: _Call) -> Blame:
 
 
 def _grid(c: _Call) -> Blame:
-    i, j = c.values["i"], c.values["j"]
-    for name, block, before in (("fc", c.given["fc"][0][i, j], (i, j)), ("block", c.given["block"][0], ())):
+    i, j = int(c.values["i"]), int(c.values["j"])
+    old, new = (np.asarray(c.given[name][0], np.float64) for name in ("fc", "block"))
+    looked: Tuple[Tuple[str, "np.ndarray[Tuple[int, int], np.dtype[np.float64]]", Tuple[int, ...]], ...] = (("fc", old[i, j], (i, j)), ("block", new, ()))
+    for name, block, before in looked:
         with np.errstate(all="ignore"):
             off = np.argwhere(~((np.abs(block) <= GRID_MOST) & (block / GRID == np.rint(block / GRID))))
         if len(off):

@@ -1,7 +1,7 @@
 """One way into the library for every call: arguments by the names that the header gives them."""
 from __future__ import annotations
 
-from typing import TYPE_CHECKING, Any, Dict, List, Optional, Tuple
+from typing import TYPE_CHECKING, Dict, List, Mapping, Optional, Sequence, Tuple, TypedDict, Union
 
 import numpy as np
 
@@ -10,12 +10,25 @@ from ._library import CALLS, DTYPES
 from ._refused import explain
 
 if TYPE_CHECKING:
+    from ._types import Bytes, Doubles, Given, Integers, NDArray, Scalar
     from .tables import Tables
 
-_NONE: Dict[str, Any] = {}
+    Made = Union[Doubles, Integers, Bytes, NDArray[np.uintp]]
+
+_NONE: Dict[str, Given] = {}
+_NO_NAMES: Dict[str, str] = {}
+_NO_VALUES: Dict[str, object] = {}
+_NOTHING_MADE: Dict[str, Made] = {}
 
 # the C type of each slice, by call and name
 _TYPES = {c.name: {a.name: a.type for a in c.arguments if a.form == "slice"} for c in CALLS.values()}
+
+
+class Memory(TypedDict, total=False):
+    """Memory that the binding made, or that the caller lent: arguments of `run`."""
+
+    made: Mapping[str, Made]
+    lent: Mapping[str, Given]
 
 
 def room(*counts: Tuple[int, int]) -> int:
@@ -28,8 +41,9 @@ def room(*counts: Tuple[int, int]) -> int:
     return length
 
 
-def run(name: str, order: int, *, changed: Dict[str, tuple] = _NONE, read: Dict[str, tuple] = _NONE, made: Dict[str, np.ndarray] = _NONE,
-        lent: Dict[str, tuple] = _NONE, values: Dict[str, Any] = _NONE, tables: Optional["Tables"] = None) -> int:
+def run(name: str, order: int, *, changed: Mapping[str, Given] = _NONE, read: Mapping[str, Given] = _NONE,
+        made: Mapping[str, Made] = _NOTHING_MADE, lent: Mapping[str, Given] = _NONE, values: Mapping[str, object] = _NO_VALUES,
+        tables: Optional["Tables"] = None) -> int:
     """Calls gf_NAME and gives its answer; a refusal is raised as Refused, with what is to blame worked out afterwards.
 
     changed: arrays of the caller that the call writes, and read: those that it reads, each with the shape that it has to have, and an
@@ -38,12 +52,12 @@ def run(name: str, order: int, *, changed: Dict[str, tuple] = _NONE, read: Dict[
     limits hold.
     """
     call, types = CALLS[name], _TYPES[name]
-    arrays, names = dict(made), _NONE
+    arrays, names = dict(made), _NO_NAMES
     if lent:
-        names = {key: given[2] for key, given in lent.items()}
+        names = {key: str(given[2]) for key, given in lent.items()}
         changed = {**changed, **lent}
     for key, given in changed.items():
-        arrays[key] = _arrays.changed(given[0], names.get(key, key), DTYPES[types[key]])
+        arrays[key] = _arrays.changed(given[0], names.get(key, key), DTYPES[types[key]])  # type: ignore[type-var, assignment]  # one of four
     for key, given in read.items():
         arrays[key] = _arrays.read(given[0], key, types[key])
     for some in (changed, read):
@@ -53,32 +67,32 @@ def run(name: str, order: int, *, changed: Dict[str, tuple] = _NONE, read: Dict[
                 raise ValueError(f"{names.get(key, key)} has the shape {a.shape}, {name} asks for {shape}")
     if changed and (read or len(changed) > 1):
         _all_apart(changed, read, names)
-    passed: Dict[str, Any] = {}
-    arguments: List[Any] = []
+    passed: Dict[str, Union[int, float]] = {}
+    arguments: List[Union[int, float]] = []
     for key, form, kind, _ in call.arguments:
         if form == "slice":
             a = arrays[key]
-            arguments += _arrays.address(a), a.size
+            arguments += _arrays.address(a), a.size  # type: ignore[type-var]  # one of four types
         elif form == "value":
             passed[key] = x = _arrays.value(values[key], key, kind)
             arguments.append(x)
         else:
             arguments += tables.slices if form == "tables" else tables.counts  # type: ignore[union-attr]
-    answer = call.function(*arguments)
+    answer: int = call.function(*arguments)
     if 0 < answer < 64:
         given_ones = {key: (arrays[key], *given[1:]) for key, given in {**changed, **read}.items()}
         raise explain(answer, name, order, given_ones, passed, tables, names)
     return answer
 
 
-def _size(shape: Tuple[int, ...]) -> int:
+def _size(shape: object) -> int:
     size = 1
-    for n in shape:
+    for n in shape:  # type: ignore[attr-defined]  # a tuple of counts
         size *= n
     return size
 
 
-def _all_apart(changed: Dict[str, tuple], read: Dict[str, tuple], names: Dict[str, str]) -> None:
+def _all_apart(changed: Mapping[str, Given], read: Mapping[str, Given], names: Mapping[str, str]) -> None:
     """What is changed shares no memory with anything else that the caller gave. Tables hold copies of their own."""
     written = [(names.get(key, key), given[0]) for key, given in changed.items()]
     for k, (key, a) in enumerate(written):
@@ -88,7 +102,8 @@ def _all_apart(changed: Dict[str, tuple], read: Dict[str, tuple], names: Dict[st
             _arrays.apart(a, key, given[0], other)
 
 
-def memory(key: str, given: Optional[np.ndarray], name: str, shape: Any, dtype: Any = np.float64) -> Dict[str, Any]:
+def memory(key: str, given: Optional[NDArray[Scalar]], name: str, shape: Union[int, Tuple[int, ...]],
+           dtype: "Union[type[np.float64], type[np.int64], type[np.uint8]]" = np.float64) -> Memory:
     """An array for work or for a result: what the caller lent under the name, or new memory. What it holds has no influence."""
     if given is None:
         return {"made": {key: np.empty(shape, dtype)}}

@@ -1,28 +1,30 @@
 """The certificate of a delivery: what `delivery/run` writes beside the sets, held against the files.
 
-    python -m gullyfork verify FOLDER
-
-FOLDER: tables.txt, cell.txt, fc2.f64, fc3.f64 and certificate.txt. A line for each line of the certificate, and a verdict, as `delivery/verify`
-prints them; the verdicts on the sets are those of the library's proved audits. Status 0: it holds; 1: it does not, or something cannot be
-read.
+`verify(folder)` returns every line and whether it holds; `certify(folder)` writes one. The commands are `python -m gullyfork verify FOLDER`
+and `python -m gullyfork certify FOLDER`.
 """
 from __future__ import annotations
 
+import argparse
 import hashlib
 import os
 import sys
-from typing import Callable, Dict, Iterator, List, NamedTuple, Optional, Tuple
+from typing import TYPE_CHECKING, Callable, Dict, Iterator, List, NamedTuple, Optional
 
 import numpy as np
 
 import gullyfork as gf
 
 from . import files
+from ._commands import DONE, FAULTS, added
 from ._look import audit, audit_words, drift_words
 from ._progress import Tell, quiet, terminal
 from .files import Delivery, Unreadable
 
-__all__ = ["Line", "read", "verify"]
+if TYPE_CHECKING:
+    from ._commands import Commands
+
+__all__ = ["Line", "certify", "read", "verify"]
 
 NAME = "certificate.txt"
 _FIRST = b"gullyfork certificate 1"
@@ -33,7 +35,18 @@ _CUT = "a file is missing, longer or shorter than it was: nothing more is looked
 
 
 class Line(NamedTuple):
-    """A line of a certificate: what is found, what is stated (None: nothing of it), and whether that holds (None: it is not judged)."""
+    """A line of a certificate.
+
+    Attributes
+    ----------
+    name : str
+    found : str
+        What is found in the files.
+    stated : str or None
+        What the certificate states; None: nothing of it.
+    holds : bool or None
+        Whether that holds; None: it is not judged.
+    """
 
     name: str
     found: str
@@ -55,7 +68,17 @@ class Line(NamedTuple):
 # ---- reading
 
 def read(folder: str) -> Dict[str, str]:
-    """The lines of FOLDER/certificate.txt by their names; Unreadable if it is not as it was written."""
+    """Read the lines of FOLDER/certificate.txt by their names.
+
+    Parameters
+    ----------
+    folder : str
+
+    Raises
+    ------
+    Unreadable
+        It is not as it was written.
+    """
     try:
         with files.opened(os.path.join(folder, NAME)) as f:
             text = f.read(1 << 16)
@@ -154,31 +177,148 @@ def _lines(folder: str, tell: Tell) -> Iterator[Line]:
 
 
 def verify(folder: str, tell: Tell = quiet) -> List[Line]:
-    """Every line of the certificate of a delivery, and whether it holds of the files beside it."""
+    """Hold the certificate of a delivery against the files beside it.
+
+    Parameters
+    ----------
+    folder : str
+    tell : callable
+        Is given the step that begins.
+
+    Returns
+    -------
+    list of Line
+
+    Raises
+    ------
+    Unreadable
+        The delivery cannot be read.
+    """
     return list(_lines(folder, tell))
 
 
-def print_lines(folder: str) -> Tuple[List[str], bool]:
-    """Prints every line, and what cannot be read; the names of those that do not hold, and whether all was read."""
-    wrong, tell = [], terminal()
+class Held(NamedTuple):
+    """The lines of a certificate, the names of those that do not hold, and whether the whole delivery was read."""
+
+    lines: List[Line]
+    wrong: List[str]
+    whole: bool
+
+
+def look_at(folder: str, say: Callable[[str], None]) -> Held:
+    """Says every line, one after the other; what cannot be read goes to standard error."""
+    lines: List[Line] = []
+    tell, whole = terminal(), True
     try:
         for line in _lines(folder, tell):
             tell("")
-            print(line.words)
-            if line.holds is False:
-                wrong.append(line.name)
+            say(line.words)
+            lines.append(line)
     except (Unreadable, MemoryError) as e:
         tell("")
         print(f"gullyfork: {e}", file=sys.stderr)
-        return wrong, False
-    return wrong, True
+        whole = False
+    return Held(lines, [line.name for line in lines if line.holds is False], whole)
+
+
+# ---- writing
+
+def certify(folder: str, before: Optional[str] = None, overwrite: bool = False, tell: Tell = quiet) -> str:
+    """Write the certificate of a delivery, as `delivery/run` does.
+
+    Parameters
+    ----------
+    folder : str
+        The delivery: tables.txt, cell.txt, fc2.f64 and fc3.f64.
+    before : str, optional
+        The delivery that it was symmetrized from, whose drift is stated.
+    overwrite : bool
+        Whether a certificate that is there is replaced.
+    tell : callable
+        Is given the step that begins.
+
+    Returns
+    -------
+    str
+        The path of the certificate.
+
+    Raises
+    ------
+    ValueError
+        A verdict is a fault: tables that break a rule or do not fit the positions, a sum that is NaN, numbers that are unlike. Nothing
+        is written.
+    Unreadable
+        A file cannot be read.
+    FileExistsError
+        There is one already, and overwrite is False.
+    """
+    d = files.read_delivery(folder)
+    was = None if before is None else files.read_delivery(before)
+    lines = {"library": gf.version()}
+    for name in _FILES:
+        size = os.path.getsize(os.path.join(folder, name))
+        lines[name] = _file(folder, name, f"{size} bytes", tell)
+    for name in _NAMES[1 + len(_FILES):]:
+        tell(name)
+        stated = "not stated" if was is None else _verdict(name.replace("before", "after"), was)
+        lines[name] = stated if name in _STATED else _verdict(name, d)
+    tell("")
+    shifts = d.tables.num_trans
+    good = {"tables": "every rule is kept", "positions": f"{shifts} of {shifts} shifts send them as their row of the tables says",
+            "audit fc2": "alike", "audit fc3": "alike"}
+    wrong = [f"{name}: {lines[name]}" for name, words in good.items() if lines[name] != words]
+    wrong += [f"{name}: {lines[name]}" for name in ("drift fc2 after", "drift fc3 after") if "NaN" in lines[name]]
+    if wrong:
+        raise ValueError(f"{folder}: nothing is certified: {'; '.join(wrong)}")
+    body = "".join(f"{name}: {lines[name]}\n" for name in _NAMES).encode("utf-8")
+    path = os.path.join(folder, NAME)
+    files.put_bytes(path, overwrite, _FIRST + b"\n" + body + b"end: sha256 " + hashlib.sha256(body).hexdigest().encode() + b"\n")
+    return path
+
+
+# ---- the commands
+
+_VERIFY = """Hold a delivery against its certificate.
+
+FOLDER: tables.txt, cell.txt, fc2.f64, fc3.f64 and certificate.txt. A line for each line of the certificate, and a verdict, as `delivery/verify`
+prints them; the verdicts on the sets are those of the library's proved audits. Status 1 also where something cannot be read."""
+
+_CERTIFY = """Write the certificate of a delivery, if its sets are alike and its tables fit.
+
+FOLDER: tables.txt, cell.txt, fc2.f64 and fc3.f64. --before names the delivery that it was symmetrized from, whose drift is stated. What is
+at fault is said, and then nothing is written: status 1."""
+
+
+def verify_command(commands: Commands) -> None:
+    """Add the sub-command."""
+    added(commands, "verify", lambda a: main(a.folder), _VERIFY).add_argument("folder", metavar="FOLDER")
+
+
+def certify_command(commands: Commands) -> None:
+    """Add the sub-command."""
+    c = added(commands, "certify", _certify, _CERTIFY)
+    c.add_argument("folder", metavar="FOLDER")
+    c.add_argument("--before", metavar="FOLDER", help="the delivery that it was symmetrized from")
+    c.add_argument("--overwrite", action="store_true", help="replace a certificate that is there")
+
+
+def _certify(a: argparse.Namespace) -> int:
+    try:
+        path = certify(a.folder, a.before, a.overwrite, terminal())
+    except Unreadable:
+        raise
+    except ValueError as e:
+        print(f"gullyfork: {e}", file=sys.stderr)
+        return FAULTS
+    print(f"written {path}")
+    return DONE
 
 
 def main(folder: str) -> int:
-    """The command; its status."""
-    wrong, whole = print_lines(folder)
-    if wrong:
-        print(f"DOES NOT HOLD: {len(wrong)} line{'s' if len(wrong) > 1 else ''}")
+    """Hold a delivery against its certificate, in print; the status."""
+    held = look_at(folder, print)
+    if held.wrong:
+        print(f"DOES NOT HOLD: {len(held.wrong)} line{'s' if len(held.wrong) > 1 else ''}")
     else:
-        print("HOLDS" if whole else "DOES NOT HOLD: it cannot be read")
-    return 0 if whole and not wrong else 1
+        print("HOLDS" if held.whole else "DOES NOT HOLD: it cannot be read")
+    return DONE if held.whole and not held.wrong else FAULTS

@@ -1,303 +1,570 @@
-"""The checker: what is wrong with a set of force constants, in one line each, and a verdict.
+"""The checker: what is wrong with a set of force constants, a measure to a line with its bound, and one verdict.
 
-    python -m gullyfork check FILE [--cell PHONOPY_YAML] [--tolerance 1e-6] [--level 3] [--plot OUT.png] [--symmetrize OUT]
+`check(found)` works out the table MEASURES on a set; `python -m gullyfork check FILE` prints it.
 
-FILE: FORCE_CONSTANTS, force_constants.hdf5, fc2.hdf5, fc3.hdf5, .npy, or a delivery folder; full or compact. The columns and
-the exchange of atoms of a compact set are judged with shift tables: a delivery has them, for other files --cell names a
-phonopy.yaml. A sum or a difference is a fault if it is larger than the tolerance times the largest number of the set.
---symmetrize writes the symmetrized set, to a file (or folder, for a delivery) that is not there yet. Of a delivery that has a
-certificate each line is held against the files, as `verify` does; a line that does not hold is a fault.
-Status 0: clean; 1: faults; 2: the file cannot be read, or a call was refused.
+>>> import numpy as np
+>>> from gullyfork.files import ForceConstants
+>>> finding = check(ForceConstants(np.zeros((1, 1, 3, 3)) + np.eye(3), "an example"))
+>>> finding.faults
+['sums over an atom that are not zero']
 """
 from __future__ import annotations
 
 import argparse
+import json
+import math
 import os
 import sys
-from typing import List, NamedTuple, Optional, Tuple
+from typing import TYPE_CHECKING, Callable, Dict, List, NamedTuple, Optional, Tuple, Union
 
 import numpy as np
 
 import gullyfork as gf
 
 from . import _look as look
-from . import certificate, files, picture
+from . import certificate, crystal, files, picture
+from ._commands import DONE, FAULTS, added
 from ._progress import Tell, quiet, terminal
+from .crystal import Cell, Unknown, read_cell
 from .files import ForceConstants, Unreadable
-from .picture import Cell
 from .tables import Tables
 
-__all__ = ["Cell", "Finding", "check", "main"]
+if TYPE_CHECKING:
+    from ._commands import Commands
+    from ._types import Doubles
+
+    Json = Union[None, bool, int, float, str, List["Json"], Dict[str, "Json"]]
+
+__all__ = ["Bounds", "Cell", "Finding", "MEASURES", "Measure", "Reading", "Seen", "Subject", "check", "read_cell"]
 
 _LARGEST, _SMALLEST = 1e30, 1e-290  # of the largest number of a set, in any unit in use
+_MOST_WORK = 4e9  # numbers times operations that the check of the crystal takes in numpy
+
+
+class Bounds(NamedTuple):
+    """The bounds of a check.
+
+    Attributes
+    ----------
+    tolerance : float
+        Of sums that should vanish and of differences under exchange of atoms, as a part of the largest number.
+    crystal : float
+        Of differences under the crystal's operations, as a part of the largest number. It is wider: sets from fits or from finite
+        displacements carry noise that a symmetrizer has not touched; a swapped leg or another crystal gives some tenths.
+    lowest, highest : float
+        Of frequencies, in THz. Acoustic modes are a little off zero by rounding; no crystal vibrates above the highest.
+    """
+
+    tolerance: float = 1e-6
+    crystal: float = 1e-2
+    lowest: float = -0.1
+    highest: float = 150.0
+
+
+class Subject:
+    """A set that is judged, with what is known of it so far.
+
+    Parameters
+    ----------
+    found : ForceConstants
+    tables : Tables or None
+    cell : Cell or None
+    level : int
+        Of the symmetrizer of second order.
+    tell : callable
+        Is given the step that begins.
+    """
+
+    def __init__(self, found: ForceConstants, tables: Optional[Tables], cell: Optional[Cell], level: int, tell: Tell) -> None:
+        self.found, self.fc, self.order, self.full = found, found.array, found.order, found.full
+        self.given, self.cell, self.level, self.tell = tables, cell, level, tell
+        self.finite = True
+        self.tables_fit = True
+        self.scale = 0.0
+        self.symmetrized: Optional[Doubles] = None
+        self._frequencies: Optional[Tuple[float, float, int]] = None
+
+    def numbers(self) -> None:
+        """Raise Unknown if a number is not finite."""
+        if not self.finite:
+            raise Unknown("not worked out: a number is not finite")
+
+    def whole(self) -> Optional[Tables]:
+        """Return the tables of a compact set, None for a full one; Unknown where they are not there or do not fit."""
+        self.numbers()
+        if not self.tables_fit:
+            raise Unknown("not worked out: the shift tables are not those of this set")
+        if not self.full and self.given is None:
+            raise Unknown("not known without shift tables (--cell)")
+        return None if self.full else self.given
+
+    def part(self, value: float) -> float:
+        """Return a value as a part of the largest number.
+
+        Parameters
+        ----------
+        value : float
+        """
+        return value / self.scale if self.scale > 0.0 else value
+
+    def frequencies(self) -> Tuple[float, float, int]:
+        """Return the lowest and the highest frequency, and at how many wave vectors."""
+        if self.order != 2:
+            raise Unknown("of second order only")
+        self.whole()
+        if self.cell is None or self.cell.phonon is None:
+            raise Unknown("not known without a cell and phonopy (--cell)")
+        if self._frequencies is None:
+            self._frequencies = crystal.frequencies(self.cell.phonon, self.fc)
+        return self._frequencies
+
+
+class Seen(NamedTuple):
+    """What a measure found: its value, what is behind it in words, and what worked it out, if not what the measure says."""
+
+    value: float
+    words: str
+    by: Optional[str] = None
+
+
+class Measure(NamedTuple):
+    """An entry of the table of measures: a report that is added is one more.
+
+    Attributes
+    ----------
+    name, unit : str
+    by : str
+        What works it out: the proved library, or numpy, phonopy, which are not proved.
+    work : callable
+        Works it out on a Subject and returns Seen, or raises Unknown with the reason.
+    least, most : callable
+        The bound, of Bounds; None: no bound on this side.
+    fault : str
+        What is wrong with a set that is beyond it.
+    """
+
+    name: str
+    unit: str
+    by: str
+    work: Callable[[Subject], Seen]
+    least: Callable[[Bounds], Optional[float]]
+    most: Callable[[Bounds], Optional[float]]
+    fault: str
+
+
+class Reading(NamedTuple):
+    """A measure of a set, and whether it is within its bound. value is None where it could not be worked out; words has the reason."""
+
+    name: str
+    value: Optional[float]
+    unit: str
+    least: Optional[float]
+    most: Optional[float]
+    by: str
+    words: str
+    fault: Optional[str]
+
+    @property
+    def line(self) -> str:
+        """As the command prints it."""
+        mark = "FAULT" if self.fault else "?" if self.value is None else "-" if self.least is None and self.most is None else "ok"
+        if self.value is None:
+            return f"{mark:<6}{self.name:<14}{self.words}"
+        bound = "" if self.most is None else f", at most {self.most:g}"
+        if self.least is not None:
+            bound = f", at least {self.least:g}" if self.most is None else f", {self.least:g} to {self.most:g}"
+        return f"{mark:<6}{self.name:<14}{self.value:<10.4g} {self.unit}{bound}; {self.words} [{self.by}]"
+
+    def json(self) -> Dict[str, Json]:
+        """As --json has it."""
+        known = {k: v if not isinstance(v, float) or math.isfinite(v) else str(v) for k, v in self._asdict().items()}
+        return {**known, "fault": self.fault is not None}
+
+
+# ---- the measures
+
+def _tables(s: Subject) -> Seen:
+    if s.given is None:
+        raise Unknown("none" if s.full else "none: --cell gives them; without them only sums over the other atoms are judged")
+    t, shape = s.given, s.fc.shape
+    s.tables_fit = False
+    if shape[:2] != (t.n_satom if s.full else t.n_patom, t.n_satom):
+        return Seen(1, f"of {t.n_patom} x {t.n_satom} atoms, the set is of {shape[0]} x {shape[1]}: another cell")
+    try:
+        t.check()
+    except gf.Refused as e:
+        return Seen(1, f"{e.words}: {e.argument}: {e.detail}")
+    if s.found.p2s is not None and not s.full and not np.array_equal(s.found.p2s, t.p2s):
+        return Seen(1, f"rows of atoms {', '.join(map(str, s.found.p2s))}; the primitive cell has {', '.join(map(str, t.p2s))}")
+    s.tables_fit = True
+    return Seen(0, f"{t.num_trans} shifts, every rule is kept")
+
+
+def _finite(s: Subject) -> Seen:
+    odd = np.argwhere(~np.isfinite(s.fc))
+    if len(odd):
+        s.finite = False
+        nan = int(np.isnan(s.fc).sum())
+        return Seen(len(odd), f"{nan:,} NaN, {len(odd) - nan:,} infinite, the first at {look.place(odd[0], s.order)}")
+    s.scale = look.worst(s.fc)[0]
+    return Seen(0, "all finite")
+
+
+def _size(s: Subject) -> Seen:
+    s.numbers()
+    if s.scale == 0.0:
+        raise Unknown("all numbers are zero")
+    return Seen(s.scale, f"in {s.found.unit}" if s.found.unit else "in the file's unit")
+
+
+def _rows(s: Subject) -> Seen:
+    s.numbers()
+    empty = ~s.fc.any(axis=tuple(range(s.order, 2 * s.order)))
+    rows = np.flatnonzero(empty.all(axis=tuple(range(1, s.order))))
+    named = f": {', '.join(str(r) for r in rows[:8])}{' ..' if len(rows) > 8 else ''}" if len(rows) else ""
+    return Seen(len(rows), f"{len(rows)} of {len(s.fc)} rows{named}; {int(empty.sum()):,} of {empty.size:,} blocks are zero")
+
+
+def _drift(s: Subject) -> Seen:
+    """The proved report, where there is one for this kind of set."""
+    s.numbers()
+    try:
+        t = s.whole()
+    except Unknown:
+        return _sums(s, None, 1)
+    if s.order == 2:
+        d = gf.drift_report(s.fc) if t is None else gf.drift_report_compact_fc2(s.fc, t)
+        where = f"along {d.along.name.lower()}, {look.place((d.atom, *d.directions), 1)}"
+        return Seen(s.part(d.value), f"worst sum {d.value:.3e} {where}")
+    if s.order == 3 and (t is None or t.n_satom <= look.MOST_READ_OUT):
+        leg = gf.drift_report_fc3(s.fc if t is None else gf.compact_to_full_fc3(s.fc, t))
+        return Seen(s.part(leg.value), f"worst sum {leg.value:.3e} over leg {leg.leg}, {look.place((*leg.atoms, *leg.directions), 2)}")
+    return _sums(s, t, 0)
+
+
+def _sums(s: Subject, t: Optional[Tables], first: int) -> Seen:
+    value, words = 0.0, ""
+    for leg in range(s.order - 1, first - 1, -1):
+        most, k = look.worst(look.sums(s.fc, t, leg))
+        if not words or most > value:
+            value, words = most, f"worst sum {most:.3e} over leg {leg}, {look.place(k, s.order - 1)}"
+    return Seen(s.part(value), words + ("; over the first leg not known without shift tables" if first else ""), "numpy")
+
+
+def _exchange(s: Subject) -> Seen:
+    t = s.whole()
+    same = np.ones(s.fc.shape, bool)
+    widest: Tuple[float, Tuple[int, ...]] = (0.0, (0,) * s.fc.ndim)
+    for other in look.exchanged(s.fc, t):
+        widest = max(widest, look.worst(s.fc - other), key=lambda w: w[0])
+        same &= look.same_bits(s.fc, other)
+    return Seen(s.part(widest[0]), f"widest difference {widest[0]:.3e} at {look.place(widest[1], s.order)}; {int(same.sum()):,} of "
+                                   f"{same.size:,} numbers have the same bits in all orders of their legs")
+
+
+def _audit(s: Subject) -> Seen:
+    t = s.whole()
+    audited = look.audit(s.fc, t)
+    return Seen(0 if audited.alike else 1, look.audit_words(audited, t is not None) + " (not judged: rounding alone makes numbers unlike)")
+
+
+def _crystal(s: Subject) -> Seen:
+    t = s.whole()
+    if s.cell is None or not s.cell.elements:
+        raise Unknown("not known without a cell (--cell)")
+    try:
+        found = crystal.operations((s.cell.lattice, s.cell.positions, s.cell.elements))
+    except (ImportError, ValueError) as e:
+        raise Unknown(str(e)) from None
+    if s.fc.size * len(found.maps) > _MOST_WORK:
+        raise Unknown(f"not worked out: {s.fc.size:,} numbers and {len(found.maps)} operations are too many for numpy")
+    d = crystal.deviation(s.fc, s.given if s.full and s.order > 2 else t, found, lambda words: s.tell(f"{s.found.source}: {words}"))
+    return Seen(s.part(d.value), f"{len(found.maps)} operations; widest difference {d.value:.3e} under operation {d.operation}, "
+                                 f"{look.place(d.place, s.order)}")
+
+
+def _lowest(s: Subject) -> Seen:
+    low, _, count = s.frequencies()
+    return Seen(low, f"of {count} wave vectors; negative: imaginary")
+
+
+def _highest(s: Subject) -> Seen:
+    _, high, count = s.frequencies()
+    return Seen(high, f"of {count} wave vectors")
+
+
+def _symmetrizing(s: Subject) -> Seen:
+    s.symmetrized = look.symmetrized(s.fc, s.whole(), s.level)
+    value, k = look.worst(s.symmetrized - s.fc)
+    return Seen(s.part(value), f"a number would change by {value:.3e} at most, at {look.place(k, s.order)}")
+
+
+def _none(_: Bounds) -> Optional[float]:
+    return None
+
+
+def _zero(_: Bounds) -> Optional[float]:
+    return 0.0
+
+
+_LIBRARY, _NUMPY, _PHONOPY = "proved", "numpy", "phonopy"
+_PART = "of the largest"
+
+MEASURES: Tuple[Measure, ...] = (
+    Measure("tables", "faults", _LIBRARY, _tables, _none, _zero, "tables of another cell, or that break a rule"),
+    Measure("finite", "not finite", _NUMPY, _finite, _none, _zero, "numbers that are not finite"),
+    Measure("size", "largest number", _NUMPY, _size, lambda b: _SMALLEST, lambda b: _LARGEST, "numbers of no possible size: is their byte order right?"),
+    Measure("zero rows", "rows", _NUMPY, _rows, _none, _zero, "rows that are zero throughout"),
+    Measure("drift", _PART, _LIBRARY, _drift, _none, lambda b: b.tolerance, "sums over an atom that are not zero"),
+    Measure("exchange", _PART, "proved transposes, numpy differences", _exchange, _none, lambda b: b.tolerance,
+            "numbers that change when atoms are exchanged"),
+    Measure("audit", "places", _LIBRARY, _audit, _none, _none, ""),
+    Measure("crystal", _PART, "spglib, numpy: not proved", _crystal, _none, lambda b: b.crystal,
+            "numbers that do not obey the crystal's operations"),
+    Measure("lowest", "THz", _PHONOPY, _lowest, lambda b: b.lowest, _none, "imaginary frequencies"),
+    Measure("highest", "THz", _PHONOPY, _highest, _none, lambda b: b.highest, "frequencies that no crystal has: is the unit right?"),
+    Measure("symmetrizing", _PART, "proved; above second order the drift by numpy", _symmetrizing, _none, _none, ""),
+)
+"""What is worked out of a set, in this order."""
 
 
 class Finding(NamedTuple):
-    """What a check found: the lines that it prints, the faults among them, and the symmetrized set (None where it is not known)."""
+    """What a check found.
 
-    lines: List[str]
-    faults: List[str]
-    symmetrized: Optional[np.ndarray]
-
-
-class _Check:
-    def __init__(self, found: ForceConstants, tables: Optional[Tables], tolerance: float, level: int) -> None:
-        self.fc, self.order, self.tolerance, self.level = found.array, found.order, tolerance, level
-        self.tables = None if found.full else tables
-        self.lines: List[str] = []
-        self.faults: List[str] = []
-        self.scale = 0.0
-
-    def say(self, what: str, words: str) -> None:
-        self.lines.append(f"{what:<15}{words}")
-
-    def numbers(self) -> bool:
-        """Whether all numbers are finite."""
-        fc, order = self.fc, self.order
-        odd = np.argwhere(~np.isfinite(fc))
-        if len(odd):
-            nan = int(np.isnan(fc).sum())
-            self.say("numbers", f"{nan:,} NaN, {len(odd) - nan:,} infinite, the first at {look.place(odd[0], order)}")
-            self.faults.append("numbers that are not finite")
-            return False
-        empty = ~fc.any(axis=tuple(range(order, 2 * order)))
-        rows = np.flatnonzero(empty.all(axis=tuple(range(1, order))))
-        self.scale = look.worst(fc)[0]
-        zero = f"{int(empty.sum()):,} of {empty.size:,} blocks zero, {len(rows)} of {len(fc)} rows zero"
-        self.say("numbers", f"all finite, largest {self.scale:.6g}, {zero}")
-        if self.scale > _LARGEST or 0.0 < self.scale < _SMALLEST:
-            self.faults.append("numbers of no possible size: is their byte order right?")
-        if len(rows):
-            self.faults.append(f"rows that are zero throughout: {', '.join(str(r) for r in rows[:8])}{' ..' if len(rows) > 8 else ''}")
-        return True
-
-    def judge(self, value: float, words: str) -> None:
-        if not value <= self.tolerance * self.scale:
-            self.faults.append(words)
-
-    def drift(self, columns: bool) -> None:
-        value, k = look.worst(look.rows(self.fc))
-        self.say("drift, rows", f"worst sum {value:.3e} at {look.place(k, self.order - 1)}")
-        self.judge(value, "rows that do not add up to zero")
-        if columns:
-            value, k = look.worst(look.columns(self.fc, self.tables))
-            self.say("drift, columns", f"worst sum {value:.3e} at {look.place(k, self.order - 1)}")
-            self.judge(value, "columns that do not add up to zero")
-            self.say("drift report", look.drift_words(self.fc, self.tables))
-
-    def exchange(self) -> None:
-        same = np.ones(self.fc.shape, bool)
-        widest: Tuple[float, Tuple[int, ...]] = (0.0, (0,) * self.fc.ndim)
-        for other in look.exchanged(self.fc, self.tables):
-            difference = look.worst(self.fc - other)
-            widest = max(widest, difference, key=lambda w: w[0])
-            same &= look.same_bits(self.fc, other)
-        self.say("exchange", f"widest difference {widest[0]:.3e} at {look.place(widest[1], self.order)}; "
-                             f"{int(same.sum()):,} of {same.size:,} numbers have the same bits in all orders of their legs")
-        self.judge(widest[0], "numbers that change when atoms are exchanged")
-
-    def audit(self) -> None:
-        self.say("audit", look.audit_words(look.audit(self.fc, self.tables), self.tables is not None))
-
-    def symmetrizing(self) -> np.ndarray:
-        out = look.symmetrized(self.fc, self.tables, self.level)
-        value, k = look.worst(out - self.fc)
-        self.say("symmetrizing", f"would change a number by {value:.3e} at most, at {look.place(k, self.order)}")
-        return out
-
-
-def check(found: ForceConstants, tables: Optional[Tables] = None, tolerance: float = 1e-6, level: int = 3, tell: Tell = quiet) -> Finding:
-    """Judges a set. tables: those of a compact set; without them only its rows are judged. tell: what is told each step that begins.
-
-    >>> finding = check(ForceConstants(np.zeros((1, 1, 3, 3)) + np.eye(3), "an example"))
-    >>> finding.faults
-    ['rows that do not add up to zero', 'columns that do not add up to zero']
+    Attributes
+    ----------
+    readings : list of Reading
+        One for each measure.
+    symmetrized : ndarray of float64, or None
+        The set without drift and alike under exchange; None where it could not be worked out.
     """
-    c = _Check(found, tables, tolerance, level)
-    if found.order == 4:
-        raise Unreadable(f"{found.source}: sets of fourth order are not checked")
-    known = found.full or tables is not None
-    if tables is not None:
-        _judge_tables(c, found, tables)
-    elif not found.full:
-        c.say("tables", "none: --cell gives them; columns and exchange are not judged")
-    out = None
-    tell(f"{found.source}: numbers")
-    if c.numbers() and not any("tables" in f for f in c.faults):
-        tell(f"{found.source}: drift")
-        c.drift(known)
-        if known:
-            tell(f"{found.source}: exchange of atoms")
-            c.exchange()
-            tell(f"{found.source}: audit")
-            c.audit()
-            tell(f"{found.source}: symmetrizing")
-            out = c.symmetrizing()
+
+    readings: List[Reading]
+    symmetrized: Optional[Doubles]
+
+    @property
+    def faults(self) -> List[str]:
+        """What is wrong, in words; none: the set is clean."""
+        return [r.fault for r in self.readings if r.fault]
+
+    @property
+    def lines(self) -> List[str]:
+        """As the command prints them."""
+        return [r.line for r in self.readings]
+
+    def reading(self, name: str) -> Reading:
+        """Return the reading of a measure.
+
+        Parameters
+        ----------
+        name : str
+        """
+        return next(r for r in self.readings if r.name == name)
+
+
+def _read(measure: Measure, s: Subject, bounds: Bounds) -> Reading:
+    least, most = measure.least(bounds), measure.most(bounds)
+    try:
+        seen = measure.work(s)
+    except Unknown as e:
+        return Reading(measure.name, None, measure.unit, least, most, measure.by, str(e), None)
+    within = (least is None or seen.value >= least) and (most is None or seen.value <= most)
+    return Reading(measure.name, float(seen.value), measure.unit, least, most, seen.by or measure.by, seen.words, None if within else measure.fault)
+
+
+def check(found: ForceConstants, cell: Union[Cell, Tables, None] = None, bounds: Bounds = Bounds(), level: int = 3, tell: Tell = quiet) -> Finding:
+    """Judge a set by every measure of MEASURES.
+
+    Parameters
+    ----------
+    found : ForceConstants
+        As `files.read` returns it, or made of an array.
+    cell : Cell or Tables, optional
+        What is known of the supercell. Without the tables of a compact set only sums over its other atoms are judged; the crystal's
+        operations and the frequencies need a cell.
+    bounds : Bounds
+        Beyond which a measure is a fault.
+    level : int
+        Of the symmetrizer of second order.
+    tell : callable
+        Is given the step that begins.
+
+    Returns
+    -------
+    Finding
+
+    Raises
+    ------
+    Refused
+        1: more atoms than the library takes.
+
+    Examples
+    --------
+    >>> import numpy as np
+    >>> fc = np.random.default_rng(1).standard_normal((4, 4, 3, 3))
+    >>> gf.perm_trans_symmetrize_fc(fc, 3)
+    >>> check(ForceConstants(fc, "an example")).faults
+    []
+    >>> fc[0, 1, 0, 0] += 0.5
+    >>> check(ForceConstants(fc, "an example")).reading("exchange").words
+    'widest difference 5.000e-01 at atoms 0 1, xx; 142 of 144 numbers have the same bits in all orders of their legs'
+    """
+    tables = cell.tables if isinstance(cell, Cell) else cell
+    s = Subject(found, tables, cell if isinstance(cell, Cell) else None, level, tell)
+    readings = []
+    for measure in MEASURES:
+        tell(f"{found.source}: {measure.name}")
+        readings.append(_read(measure, s, bounds))
     tell("")
-    return Finding(c.lines, c.faults, out)
-
-
-def _judge_tables(c: _Check, found: ForceConstants, tables: Tables) -> None:
-    asked = (tables.n_satom if found.full else tables.n_patom, tables.n_satom)
-    if found.array.shape[:2] != asked:
-        c.say("tables", f"of {tables.n_patom} x {tables.n_satom} atoms, the set is of {found.array.shape[0]} x {found.array.shape[1]}")
-        c.faults.append("tables of another cell")
-        return
-    try:
-        tables.check()
-        c.say("tables", f"{tables.num_trans} shifts, every rule is kept")
-    except gf.Refused as e:
-        c.say("tables", f"{e.words}: {e.argument}: {e.detail}")
-        c.faults.append("tables that break a rule")
-    if found.p2s is not None and not found.full and not np.array_equal(found.p2s, tables.p2s):
-        c.say("rows", f"of atoms {', '.join(map(str, found.p2s))}; the primitive cell has {', '.join(map(str, tables.p2s))}")
-        c.faults.append("rows of another numbering than the tables")
-
-
-# ---- cells
-
-def read_cell(path: str) -> Cell:
-    """The cell of a phonopy.yaml, by phonopy."""
-    try:
-        import phonopy
-    except ImportError:
-        raise Unreadable("--cell needs phonopy (Debian: python3-phonopy)") from None
-    if not os.path.exists(path):
-        raise Unreadable(f"{path}: no such file")
-    try:
-        p = phonopy.load(path, produce_fc=False, log_level=0)
-    except Exception as e:  # phonopy raises whatever it meets
-        raise Unreadable(f"{path}: phonopy cannot read it: {type(e).__name__}: {e}") from None
-    return Cell(Tables.of(p.primitive), np.array(p.supercell.cell), np.array(p.supercell.scaled_positions))
+    return Finding(readings, s.symmetrized)
 
 
 # ---- the command
 
-def _print(name: str, found: ForceConstants, finding: Finding) -> None:
-    kind = "full" if found.full else "compact"
-    size = " x ".join(str(n) for n in found.array.shape[:found.order])
-    print(f"{name}: {kind} set of order {found.order} ({found.source}), {size} atoms, {found.array.size:,} numbers")
-    for line in finding.lines:
-        print(line)
+_COMMAND = """Judge a file or a delivery folder: every measure with its bound, and one verdict.
+
+FILE: FORCE_CONSTANTS, force_constants.hdf5, fc2.hdf5, fc3.hdf5, fc4.hdf5, .npy, or a delivery folder; full or compact; with --cell also
+ShengBTE's FORCE_CONSTANTS_3RD (--symmetrize writes an hdf5 or .npy file of it). --cell names the
+phonopy.yaml or phono3py.yaml of the set: its shift tables, by which the first atom of a compact set is judged, its crystal, whose operations
+spglib finds, and the frequencies, by phonopy. A delivery has its own cell. --symmetrize writes the symmetrized set; of an hdf5 file
+everything else is kept. Of a delivery with a certificate each line is held against the files, as `verify` does."""
 
 
-def _verdict(faults: List[str]) -> int:
-    print("VERDICT        " + ("clean" if not faults else "; ".join(faults)))
-    return 1 if faults else 0
+def command(commands: Commands) -> None:
+    """Add the sub-command."""
+    c = added(commands, "check", _run, _COMMAND)
+    default = Bounds()
+    c.add_argument("file", metavar="FILE")
+    c.add_argument("--cell", metavar="YAML", help="a phonopy.yaml or phono3py.yaml")
+    c.add_argument("--tolerance", type=_bound, default=default.tolerance, help="of drift and exchange, as a part of the largest number (%(default)s)")
+    c.add_argument("--crystal", type=_bound, default=default.crystal, help="the same of the crystal's operations (%(default)s)")
+    c.add_argument("--lowest", type=float, default=default.lowest, metavar="THZ", help="of the lowest frequency (%(default)s)")
+    c.add_argument("--highest", type=float, default=default.highest, metavar="THZ", help="of the highest frequency (%(default)s)")
+    c.add_argument("--level", type=int, default=3, help="of the symmetrizer of second order (%(default)s)")
+    c.add_argument("--json", action="store_true", help="print one JSON object")
+    c.add_argument("--plot", metavar="PNG", help="draw the set too, as `picture` does")
+    c.add_argument("--symmetrize", metavar="OUT", help="write the symmetrized set to a file, or folder, that is not there yet")
+    c.add_argument("--overwrite", action="store_true", help="let --symmetrize replace what is there, also its own input")
 
 
-def _not_there(path: str) -> None:
-    if os.path.lexists(path):
-        raise Unreadable(f"{path} is there already: it is not overwritten")
+def _bound(word: str) -> float:
+    x = float(word)
+    if not 0.0 <= x < math.inf:
+        raise argparse.ArgumentTypeError(f"{word}: a number from 0 on")
+    return x
 
 
-def _plots(path: str, names: List[str]) -> List[str]:
-    """The files to draw to, one for each set; an older drawing is replaced, nothing else is."""
-    root, ending = os.path.splitext(path)
-    if ending != ".png":
-        raise Unreadable(f"{path}: a plot is a .png")
-    paths = [f"{root}-{name}{ending}" for name in names] or [path]
-    for one in paths:
-        if os.path.lexists(one):
-            with open(one, "rb") as f:
-                if not f.read(8).startswith(b"\x89PNG"):
-                    raise Unreadable(f"{one} is there already, and is no drawing: it is not overwritten")
-    return paths
+class _Report:
+    """What the command says, as lines or as one JSON object."""
+
+    def __init__(self, as_json: bool) -> None:
+        self.as_json = as_json
+        self.sets: List[Json] = []
+        self.faults: List[str] = []
+        self.more: Dict[str, Json] = {}
+
+    def say(self, words: str) -> None:
+        if not self.as_json:
+            print(words)
+
+    def judged(self, name: str, found: ForceConstants, finding: Finding) -> None:
+        kind, shape = "full" if found.full else "compact", found.array.shape[:found.order]
+        self.say(f"{name}: {kind} set of order {found.order} ({found.source}), {' x '.join(map(str, shape))} atoms, {found.array.size:,} numbers")
+        for line in finding.lines:
+            self.say(line)
+        self.sets.append({"name": name, "order": found.order, "kind": kind, "atoms": list(shape), "measures": [r.json() for r in finding.readings]})
+
+    def ended(self) -> int:
+        if self.as_json:
+            verdict = "clean" if not self.faults else "faults"
+            print(json.dumps({"sets": self.sets, **self.more, "faults": list(self.faults), "verdict": verdict}, indent=1))
+        self.say("VERDICT " + ("clean" if not self.faults else "; ".join(self.faults)))
+        return FAULTS if self.faults else DONE
 
 
-def _draw(path: str, name: str, found: ForceConstants, finding: Finding, cell: Optional[Cell], tell: Tell) -> None:
+def _run(a: argparse.Namespace) -> int:
+    if a.symmetrize and not a.overwrite and os.path.lexists(a.symmetrize):
+        raise Unreadable(f"{a.symmetrize} is there already: it is not overwritten (--overwrite)")
+    return _delivery(a) if os.path.isdir(a.file) else _file(a)
+
+
+def _bounds(a: argparse.Namespace) -> Bounds:
+    return Bounds(a.tolerance, a.crystal, a.lowest, a.highest)
+
+
+def _draw(report: _Report, path: str, name: str, found: ForceConstants, finding: Finding, cell: Optional[Cell], tell: Tell) -> None:
     if not np.isfinite(found.array).all():
-        print("drawn          nothing: numbers that are not finite")
+        report.say("drawn   nothing: numbers that are not finite")
     elif cell is not None and finding.symmetrized is None:
-        print("drawn          nothing: tables that are not of this set")
+        report.say("drawn   nothing: tables that are not of this set")
     else:
         tell(f"drawing of {path}")
         picture.draw(path, name, found, finding.symmetrized, cell)
         tell("")
-        print(f"drawn          {path}")
+        report.say(f"drawn   {path}")
+        report.more["drawn"] = path
 
 
-def _certified(folder: str) -> List[str]:
-    """Prints what holds of the delivery's certificate, if it has one; what does not, as faults."""
+def _written(report: _Report, a: argparse.Namespace, known: bool) -> None:
+    if a.symmetrize:
+        report.more["written"] = a.symmetrize if known else None
+        report.say("written " + (a.symmetrize if known else "nothing: the set cannot be symmetrized"))
+
+
+def _file(a: argparse.Namespace) -> int:
+    report, tell = _Report(a.json), terminal()
+    plots = picture.paths(a.plot, []) if a.plot else []
+    found, cell = crystal.read_set(a.file, a.cell)
+    finding = check(found, cell, _bounds(a), a.level, tell)
+    report.judged(a.file, found, finding)
+    if plots:
+        _draw(report, plots[0], a.file, found, finding, cell, tell)
+    out = finding.symmetrized
+    if a.symmetrize and out is not None:
+        like = a.file if found.source.startswith("hdf5") else None
+        files.write(a.symmetrize, out, found.p2s, found.unit, a.overwrite, like)
+    _written(report, a, out is not None)
+    report.faults += finding.faults
+    return report.ended()
+
+
+def _certified(report: _Report, folder: str) -> None:
+    """What holds of the delivery's certificate, if it has one; what does not is a fault."""
     path = os.path.join(folder, certificate.NAME)
     if not os.path.lexists(path):
-        return []
-    print(f"{path}:")
-    wrong, whole = certificate.print_lines(folder)
-    return [f"{certificate.NAME}: {name}" for name in wrong] + ([] if whole else [f"{certificate.NAME}: the delivery cannot be read"])
+        return
+    report.say(f"{path}:")
+    held = certificate.look_at(folder, report.say)
+    report.more["certificate"] = [{"name": line.name, "found": line.found, "stated": line.stated, "holds": line.holds} for line in held.lines]
+    report.faults += [f"{certificate.NAME}: {name}" for name in held.wrong]
+    report.faults += [] if held.whole else [f"{certificate.NAME}: the delivery cannot be read"]
 
 
-def _check_delivery(a: argparse.Namespace) -> int:
+def _delivery(a: argparse.Namespace) -> int:
     if a.cell:
         raise Unreadable(f"{a.file}: a delivery has its own cell; leave --cell out")
-    plots = _plots(a.plot, ["fc2", "fc3"]) if a.plot else []
-    faults, tell = _certified(a.file), terminal()
-    sets: List[Optional[np.ndarray]] = []
+    report, tell = _Report(a.json), terminal()
+    plots = picture.paths(a.plot, ["fc2", "fc3"]) if a.plot else []
+    _certified(report, a.file)
     try:
         d = files.read_delivery(a.file)
     except Unreadable as e:
-        if not faults:
+        if not report.faults:
             raise
         print(f"gullyfork: {e}", file=sys.stderr)
-        return _verdict(faults)
-    cell = Cell(d.tables, d.lattice, d.positions)
+        return report.ended()
+    cell = crystal.of_supercell(d.tables, d.lattice, d.positions, d.elements)
+    sets: List[Optional[Doubles]] = []
     for name, array in (("fc2.f64", d.fc2), ("fc3.f64", d.fc3)):
         found, path = ForceConstants(array, name), os.path.join(a.file, name)
-        finding = check(found, d.tables, a.tolerance, a.level, tell)
-        _print(path, found, finding)
-        faults += [f"{name}: {fault}" for fault in finding.faults]
+        finding = check(found, cell, _bounds(a), a.level, tell)
+        report.judged(path, found, finding)
+        report.faults += [f"{name}: {fault}" for fault in finding.faults]
         if plots:
-            _draw(plots[len(sets)], path, found, finding, cell, tell)
+            _draw(report, plots[len(sets)], path, found, finding, cell, tell)
         sets.append(finding.symmetrized)
     fc2, fc3 = sets
     if a.symmetrize and fc2 is not None and fc3 is not None:
-        files.write_delivery(a.symmetrize, d._replace(fc2=fc2, fc3=fc3))
-    return _ended(a, fc2 is not None and fc3 is not None, faults)
-
-
-def _check_file(a: argparse.Namespace) -> int:
-    plots, tell = _plots(a.plot, []) if a.plot else [], terminal()
-    found = files.read(a.file)
-    cell = read_cell(a.cell) if a.cell else None
-    finding = check(found, cell.tables if cell else None, a.tolerance, a.level, tell)
-    _print(a.file, found, finding)
-    if plots:
-        _draw(plots[0], a.file, found, finding, cell, tell)
-    if a.symmetrize and finding.symmetrized is not None:
-        files.write(a.symmetrize, finding.symmetrized, found.p2s, found.unit)
-    return _ended(a, finding.symmetrized is not None, finding.faults)
-
-
-def _ended(a: argparse.Namespace, symmetrized: bool, faults: List[str]) -> int:
-    if a.symmetrize:
-        print("written        " + (a.symmetrize if symmetrized else "nothing: the set cannot be symmetrized"))
-    return _verdict(faults)
-
-
-def main(arguments: Optional[List[str]] = None) -> int:
-    """The command; its status."""
-    parser = argparse.ArgumentParser(prog="python -m gullyfork", description="What is wrong with a set of force constants.")
-    parser.add_argument("--version", action="version", version=f"gullyfork {gf.version()}")
-    commands = parser.add_subparsers(dest="command", required=True)
-    commands.add_parser("verify", description=certificate.__doc__, formatter_class=argparse.RawDescriptionHelpFormatter,
-                        help="hold a delivery against its certificate").add_argument("folder", metavar="FOLDER")
-    command = commands.add_parser(
-        "check", description=__doc__, formatter_class=argparse.RawDescriptionHelpFormatter, help="judge a file or a delivery folder")
-    command.add_argument("file", metavar="FILE")
-    command.add_argument("--cell", metavar="YAML", help="a phonopy.yaml: shift tables and distances")
-    command.add_argument("--tolerance", type=float, default=1e-6, help="of sums and differences, as a part of the largest number (1e-6)")
-    command.add_argument("--level", type=int, default=3, help="of the symmetrizer of second order (3)")
-    command.add_argument("--plot", metavar="PNG", help="draw drift, blocks, exchange, and where the audit fails")
-    command.add_argument("--symmetrize", metavar="OUT", help="write the symmetrized set; OUT is not there yet")
-    a = parser.parse_args(arguments)
-    try:
-        if a.command == "verify":
-            return certificate.main(a.folder)
-        if not 0.0 <= a.tolerance < float("inf"):
-            raise Unreadable(f"--tolerance {a.tolerance}: a number from 0 on")
-        if a.symmetrize:
-            _not_there(a.symmetrize)
-        return _check_delivery(a) if os.path.isdir(a.file) else _check_file(a)
-    except (ValueError, OSError, ImportError) as e:  # Unreadable and Refused are ValueErrors
-        print(f"gullyfork: {e}", file=sys.stderr)
-        return 2
+        files.write_delivery(a.symmetrize, d._replace(fc2=fc2, fc3=fc3), a.overwrite)
+    _written(report, a, fc2 is not None and fc3 is not None)
+    return report.ended()

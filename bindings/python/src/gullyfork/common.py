@@ -8,27 +8,51 @@ __all__ = ["nint", "round", "sqrt"]
 
 
 def nint(x: float) -> int:
-    """The nearest whole number as an int; halves go away from zero, beyond int64 it stops at the nearest end, NaN gives 0.
+    """Return the nearest whole number as an int.
 
+    Parameters
+    ----------
+    x : float
+        Halves go away from zero; beyond int64 it stops at the nearest end; NaN gives 0.
+
+    Examples
+    --------
     >>> nint(2.5), nint(-0.5), nint(float("nan"))
     (3, -1, 0)
     """
-    return CALLS["nint"].function(_arrays.real(x, "x"))
+    nearest: int = CALLS["nint"].function(_arrays.real(x, "x"))
+    return nearest
 
 
 def round(x: float) -> float:
-    """The nearest whole number as a float; halves go away from zero.
+    """Return the nearest whole number as a float.
 
+    Parameters
+    ----------
+    x : float
+        Halves go away from zero.
+
+    Examples
+    --------
     >>> round(2.5), round(-0.25)
     (3.0, -0.0)
     """
-    return CALLS["round"].function(_arrays.real(x, "x"))
+    nearest: float = CALLS["round"].function(_arrays.real(x, "x"))
+    return nearest
 
 
 def sqrt(x: float) -> float:
-    """The square root, to nearest, ties to even; -0.0 gives -0.0, other negative numbers NaN.
+    """Return the square root, to nearest, ties to even.
 
+    Parameters
+    ----------
+    x : float
+        -0.0 gives -0.0, other negative numbers NaN.
+
+    Examples
+    --------
     >>> sqrt(2.0)
     1.4142135623730951
     """
-    return CALLS["sqrt"].function(_arrays.real(x, "x"))
+    root: float = CALLS["sqrt"].function(_arrays.real(x, "x"))
+    return root

@@ -1,7 +1,7 @@
-"""Third order: sets of shape (n, m, m, 3, 3, 3), of doubles, changed in place."""
+"""Third order: sets of shape (n, m, m, 3, 3, 3), phono3py's fc3."""
 from __future__ import annotations
 
-from typing import Any, NamedTuple, Optional, Tuple
+from typing import TYPE_CHECKING, NamedTuple, Optional, Tuple
 
 import numpy as np
 
@@ -11,13 +11,28 @@ from ._deltas import distribute, rotate
 from ._run import run
 from .fc2 import DriftKind
 
+if TYPE_CHECKING:
+    from ._types import ArrayLike, Bytes, Doubles, TablesLike
+
 __all__ = ["LegDrift", "compact_to_full_fc3", "distribute_fc3", "drift_report_fc3", "rotate_delta_fc2s", "set_permutation_symmetry_compact_fc3",
            "set_permutation_symmetry_fc3", "transpose_compact_fc3", "true_transpose_compact_fc3"]
 
 
-def set_permutation_symmetry_fc3(fc3: np.ndarray) -> None:
-    """Symmetrizes a full set in place: the six permutations of any three (atom, direction) pairs get their mean.
+def set_permutation_symmetry_fc3(fc3: Doubles) -> None:
+    """Symmetrize a full set in place: the six permutations of any three (atom, direction) pairs get their mean.
 
+    Parameters
+    ----------
+    fc3 : ndarray of float64, shape (n, n, n, 3, 3, 3)
+        The set, changed in place.
+
+    Raises
+    ------
+    Refused
+        1: more than 256 atoms.
+
+    Examples
+    --------
     >>> fc3 = np.zeros((1, 1, 1, 3, 3, 3))
     >>> fc3[0, 0, 0, 0, 1, 2] = 6.0
     >>> set_permutation_symmetry_fc3(fc3)
@@ -28,10 +43,26 @@ def set_permutation_symmetry_fc3(fc3: np.ndarray) -> None:
     run("set_permutation_symmetry_fc3", 3, changed={"fc3": (fc3, (n, n, n, 3, 3, 3))}, values={"num_atom": n})
 
 
-def set_permutation_symmetry_compact_fc3(fc3: np.ndarray, tables: Any, *, work: Optional[np.ndarray] = None) -> None:
-    """Symmetrizes a compact set in place: read out to all atoms, the six permutations of any three (atom, direction) pairs then hold the
-    same bits. work: n_patom x n_satom x n_satom bytes.
+def set_permutation_symmetry_compact_fc3(fc3: Doubles, tables: TablesLike, *, work: Optional[Bytes] = None) -> None:
+    """Symmetrize a compact set in place.
 
+    Read out to all atoms, the six permutations of any three (atom, direction) pairs then hold the same bits.
+
+    Parameters
+    ----------
+    fc3 : ndarray of float64, shape (n_patom, n_satom, n_satom, 3, 3, 3)
+        The set, changed in place.
+    tables : Tables, or p2s, s2pp, nsym_list and perms
+    work : ndarray of uint8, shape (n_patom * n_satom**2,), optional
+        Memory to work in.
+
+    Raises
+    ------
+    Refused
+        1: a count above 256; 2; 3; 6: the tables break a rule.
+
+    Examples
+    --------
     >>> fc3 = np.zeros((1, 1, 1, 3, 3, 3))
     >>> fc3[0, 0, 0, 0, 1, 2] = 6.0
     >>> set_permutation_symmetry_compact_fc3(fc3, ([0], [0], [0], [[0]]))
@@ -41,11 +72,28 @@ def set_permutation_symmetry_compact_fc3(fc3: np.ndarray, tables: Any, *, work: 
     compact("set_permutation_symmetry_compact_fc3", fc3, 3, tables, 3, work)
 
 
-def transpose_compact_fc3(fc3: np.ndarray, tables: Any, t_type: int, *, work: Optional[np.ndarray] = None) -> None:
-    """Exchanges two of the three (atom, direction) pairs of every number of a compact set, in place: t_type 0 the first two, 1 the
-    first and the third, 2 the last two; any other changes nothing. With 0 and 1, blocks that a half shift exchanges stay as they are.
-    work: n_patom x n_satom bytes.
+def transpose_compact_fc3(fc3: Doubles, tables: TablesLike, t_type: int, *, work: Optional[Bytes] = None) -> None:
+    """Exchange two of the three (atom, direction) pairs of every number of a compact set, in place, as phonors and phono3py do.
 
+    With types 0 and 1, blocks that a half shift exchanges stay as they are; `true_transpose_compact_fc3` moves those too.
+
+    Parameters
+    ----------
+    fc3 : ndarray of float64, shape (n_patom, n_satom, n_satom, 3, 3, 3)
+        The set, changed in place.
+    tables : Tables, or p2s, s2pp, nsym_list and perms
+    t_type : int
+        0: the first two pairs; 1: the first and the third; 2: the last two; any other changes nothing.
+    work : ndarray of uint8, shape (n_patom * n_satom,), optional
+        Memory to work in.
+
+    Raises
+    ------
+    Refused
+        1: a count above 256; 2; 3; 6: the tables break a rule.
+
+    Examples
+    --------
     >>> fc3 = np.arange(27.0).reshape(1, 1, 1, 3, 3, 3)
     >>> transpose_compact_fc3(fc3, ([0], [0], [0], [[0]]), 2)
     >>> fc3[0, 0, 0, 0, 0].tolist()
@@ -54,9 +102,26 @@ def transpose_compact_fc3(fc3: np.ndarray, tables: Any, t_type: int, *, work: Op
     compact("transpose_compact_fc3", fc3, 3, tables, 2, work, t_type=t_type)
 
 
-def true_transpose_compact_fc3(fc3: np.ndarray, tables: Any, t_type: int, *, work: Optional[np.ndarray] = None) -> None:
-    """As transpose_compact_fc3, and every number moves, also where a half shift exchanges the blocks.
+def true_transpose_compact_fc3(fc3: Doubles, tables: TablesLike, t_type: int, *, work: Optional[Bytes] = None) -> None:
+    """Exchange two of the three (atom, direction) pairs of every number of a compact set, in place, half shifts or not.
 
+    Parameters
+    ----------
+    fc3 : ndarray of float64, shape (n_patom, n_satom, n_satom, 3, 3, 3)
+        The set, changed in place.
+    tables : Tables, or p2s, s2pp, nsym_list and perms
+    t_type : int
+        0: the first two pairs; 1: the first and the third; 2: the last two; any other changes nothing.
+    work : ndarray of uint8, shape (n_patom * n_satom,), optional
+        Memory to work in.
+
+    Raises
+    ------
+    Refused
+        1: a count above 256; 2; 3; 6: the tables break a rule.
+
+    Examples
+    --------
     >>> fc3 = np.arange(108.0).reshape(1, 2, 2, 3, 3, 3)
     >>> true_transpose_compact_fc3(fc3, ([0], [0, 0], [0, 1], [[0, 1], [1, 0]]), 0)
     >>> float(fc3[0, 1, 0, 0, 1, 0])
@@ -65,10 +130,27 @@ def true_transpose_compact_fc3(fc3: np.ndarray, tables: Any, t_type: int, *, wor
     compact("true_transpose_compact_fc3", fc3, 3, tables, 2, work, t_type=t_type)
 
 
-def distribute_fc3(fc3: np.ndarray, target: int, source: int, atom_mapping: Any, rot_cart: Any) -> None:
-    """Fills slab `target` from slab `source`, in place: block (i, j) of the target is block (atom_mapping[i], atom_mapping[j]) of the
-    source, rotated by rot_cart (3, 3) on each leg.
+def distribute_fc3(fc3: Doubles, target: int, source: int, atom_mapping: ArrayLike, rot_cart: ArrayLike) -> None:
+    """Fill slab `target` from slab `source`, in place: blocks at the images of their atoms, rotated on each leg.
 
+    Parameters
+    ----------
+    fc3 : ndarray of float64, shape (num_first, n, n, 3, 3, 3)
+        The set, changed in place.
+    target, source : int
+        Two different first atoms.
+    atom_mapping : array_like of int, shape (n,)
+        Block (j, k) of the target is block (atom_mapping[j], atom_mapping[k]) of the source.
+    rot_cart : array_like of float, shape (3, 3)
+        The Cartesian rotation.
+
+    Raises
+    ------
+    Refused
+        1: a count above 256; 2; 3; 4: source or target not below num_first, or equal.
+
+    Examples
+    --------
     >>> fc3 = np.zeros((2, 1, 1, 3, 3, 3))
     >>> fc3[0] = 1.0
     >>> distribute_fc3(fc3, 1, 0, [0], np.eye(3))
@@ -78,24 +160,63 @@ def distribute_fc3(fc3: np.ndarray, target: int, source: int, atom_mapping: Any,
     distribute("distribute_fc3", fc3, 3, target, source, atom_mapping, rot_cart)
 
 
-def rotate_delta_fc2s(delta_fc2s: Any, inv_u: Any, site_sym_cart: Any, rot_map_syms: Any, *, out: Optional[np.ndarray] = None,
-                      work: Optional[np.ndarray] = None) -> np.ndarray:
-    """The blocks (n, n, 3, 3, 3) of third order of one displaced atom with all pairs of atoms.
+def rotate_delta_fc2s(delta_fc2s: ArrayLike, inv_u: ArrayLike, site_sym_cart: ArrayLike, rot_map_syms: ArrayLike, *,
+                      out: Optional[Doubles] = None, work: Optional[Doubles] = None) -> Doubles:
+    """Return the blocks of third order of one displaced atom with all pairs of atoms.
 
-    delta_fc2s (num_disp, n, n, 3, 3): the changes that the displacements make to a set of second order; inv_u (3, num_disp x
-    num_site_sym); site_sym_cart (num_site_sym, 3, 3); rot_map_syms (num_site_sym, n). work: num_disp x num_site_sym x 9 doubles.
+    Parameters
+    ----------
+    delta_fc2s : array_like of float, shape (num_disp, n, n, 3, 3)
+        The changes that the displacements make to a set of second order.
+    inv_u : array_like of float, shape (3, num_disp * num_site_sym)
+    site_sym_cart : array_like of float, shape (num_site_sym, 3, 3)
+    rot_map_syms : array_like of int, shape (num_site_sym, n)
+    out : ndarray of float64, shape (n, n, 3, 3, 3), optional
+        Memory for the result.
+    work : ndarray of float64, shape (num_disp * num_site_sym * 9,), optional
+        Memory to work in.
 
+    Returns
+    -------
+    ndarray of float64, shape (n, n, 3, 3, 3)
+
+    Raises
+    ------
+    Refused
+        1: more than 256 atoms, or another count above 1,024; 2; 3.
+
+    Examples
+    --------
     >>> rotate_delta_fc2s(np.ones((1, 1, 1, 3, 3)), [[2.0], [0.0], [0.0]], [np.eye(3)], [[0]])[0, 0, :, 0, 0].tolist()
     [2.0, 0.0, 0.0]
     """
     return rotate("rotate_delta_fc2s", "fc3", "delta_fc2s", 3, delta_fc2s, inv_u, site_sym_cart, rot_map_syms, out, work)
 
 
-def compact_to_full_fc3(fc3: Any, tables: Any, *, out: Optional[np.ndarray] = None) -> np.ndarray:
-    """A compact set read out to the full one, (n, n, n, 3, 3, 3): for any atoms and directions of the supercell the number that it has for them.
+def compact_to_full_fc3(fc3: ArrayLike, tables: TablesLike, *, out: Optional[Doubles] = None) -> Doubles:
+    """Read a compact set out to the full one: for any atoms and directions of the supercell the number that it has for them.
+
     If every number is on the grid (whole multiples of 2^-20 of absolute value at most 2^20), reading out and then symmetrizing gives the
     same bits as symmetrizing and then reading out.
 
+    Parameters
+    ----------
+    fc3 : array_like of float, shape (n_patom, n_satom, n_satom, 3, 3, 3)
+    tables : Tables, or p2s, s2pp, nsym_list and perms
+    out : ndarray of float64, shape (n_satom, n_satom, n_satom, 3, 3, 3), optional
+        Memory for the result.
+
+    Returns
+    -------
+    ndarray of float64, shape (n_satom, n_satom, n_satom, 3, 3, 3)
+
+    Raises
+    ------
+    Refused
+        1: a count above 256; 2; 3; 6: the tables break a rule.
+
+    Examples
+    --------
     >>> tables = [0], [0, 0], [0, 1], [[0, 1], [1, 0]]
     >>> compact = np.arange(108.0).reshape(1, 2, 2, 3, 3, 3)
     >>> full = compact_to_full_fc3(compact, tables)
@@ -107,11 +228,19 @@ def compact_to_full_fc3(fc3: Any, tables: Any, *, out: Optional[np.ndarray] = No
     return full_set("compact_to_full_fc3", fc3, 3, tables, out)
 
 
-
-
 class LegDrift(NamedTuple):
-    """A drift report of third order: the largest absolute value of a sum over a leg (0, 1 or 2), and the first sum that has it (or the
-    first that is NaN), by the atoms of the two other legs and the directions. The sums over the last leg come first."""
+    """A drift report of third order.
+
+    Attributes
+    ----------
+    kind : DriftKind
+    value : float
+        The largest absolute value of a sum over a leg.
+    leg : int
+        The leg that is summed over; the sums over the last one come first.
+    atoms, directions : (int, int), (int, int, int)
+        The atoms of the two other legs, and the directions, of the first sum that has the value, or of the first that is NaN.
+    """
 
     kind: DriftKind
     value: float
@@ -120,18 +249,33 @@ class LegDrift(NamedTuple):
     directions: Tuple[int, int, int]
 
 
-def drift_report_fc3(fc: Any) -> LegDrift:
-    """How far the sums over each leg of a full set are from zero: what phono3py prints as drift.
+def drift_report_fc3(fc: ArrayLike) -> LegDrift:
+    """Report how far the sums over each leg of a full set are from zero: what phono3py prints as drift.
 
+    Parameters
+    ----------
+    fc : array_like of float, shape (n, n, n, 3, 3, 3)
+
+    Returns
+    -------
+    LegDrift
+
+    Raises
+    ------
+    Refused
+        1: more than 256 atoms.
+
+    Examples
+    --------
     >>> fc3 = np.zeros((2, 2, 2, 3, 3, 3))
     >>> fc3[1, 0, 0, 0, 0, 0], fc3[1, 0, 1, 0, 0, 0] = 1.0, -1.0
     >>> drift = drift_report_fc3(fc3)
     >>> drift.kind.name, drift.value, drift.leg, drift.atoms, drift.directions
     ('WORST', 1.0, 1, (1, 0), (0, 0, 0))
     """
-    fc = _arrays.numbers(fc, "fc")
-    n = _arrays.full(fc, "fc", 3)
+    numbers = _arrays.numbers(fc, "fc")
+    n = _arrays.full(numbers, "fc", 3)
     value, place = np.zeros(1), np.zeros(6, np.uintp)
-    answer = run("drift_report_fc3", 3, read={"fc": (fc, fc.shape)}, made={"value": value, "place": place}, values={"num_atom": n})
-    leg, a, b, i, j, k = (int(x) for x in place)
+    answer = run("drift_report_fc3", 3, read={"fc": (numbers, numbers.shape)}, made={"value": value, "place": place}, values={"num_atom": n})
+    leg, a, b, i, j, k = place.tolist()
     return LegDrift(DriftKind(answer), float(value[0]), leg, (a, b), (i, j, k))

@@ -1,8 +1,9 @@
-"""Sets of force constants in files: FORCE_CONSTANTS (text), force_constants.hdf5, fc2.hdf5, fc3.hdf5, .npy, and the delivery folder.
+"""Sets of force constants in files: FORCE_CONSTANTS (text), force_constants.hdf5, phono3py's fc2.hdf5 and fc3.hdf5, fc4.hdf5, .npy, and the
+delivery folder.
 
 `read(path)` tells the kind from the first bytes. What is wrong with a file is said with its place, as Unreadable; nothing is guessed. A
 file is written whole beside its place and then takes its name, so nobody ever finds half of one; a file that is there is not replaced
-unless overwrite=True.
+unless overwrite=True. FORCE_CONSTANTS has 15 digits after the point; hdf5 and .npy keep every bit.
 
 >>> import numpy as np, tempfile, os
 >>> folder = tempfile.mkdtemp()
@@ -17,15 +18,24 @@ import io
 import math
 import os
 import re
+import shutil
 import stat
 from dataclasses import dataclass
-from typing import Any, BinaryIO, Callable, List, NamedTuple, Optional, Sequence, Tuple
+from typing import TYPE_CHECKING, BinaryIO, Callable, Dict, List, NamedTuple, Optional, Sequence, Tuple, Union
 
 import numpy as np
 
 from .tables import Tables
 
-__all__ = ["Delivery", "ForceConstants", "Unreadable", "read", "read_delivery", "write", "write_delivery"]
+if TYPE_CHECKING:
+    import h5py
+
+    from ._types import ArrayLike, Doubles, Integers, NDArray
+    from .crystal import Cell
+
+    Path = Union[str, "os.PathLike[str]"]
+
+__all__ = ["Delivery", "ForceConstants", "Unreadable", "is_shengbte", "read", "read_delivery", "read_shengbte", "write", "write_delivery"]
 
 _NPY, _HDF5 = b"\x93NUMPY", b"\x89HDF\r\n\x1a\n"
 _LONGEST = 1 << 20  # letters of a line of text
@@ -39,11 +49,22 @@ class Unreadable(ValueError):
 
 @dataclass(repr=False)
 class ForceConstants:
-    """A set and what its file says of it. p2s: the atoms of the supercell that the rows are of, where the file says so."""
+    """A set and what its file says of it.
 
-    array: np.ndarray
+    Attributes
+    ----------
+    array : ndarray of float64
+        The set, (n, m, 3, 3) and so on.
+    source : str
+        The kind of file.
+    p2s : ndarray of int64, or None
+        The atoms of the supercell that the rows are of, where the file says so.
+    unit : str or None
+    """
+
+    array: Doubles
     source: str
-    p2s: Optional[np.ndarray] = None
+    p2s: Optional[Integers] = None
     unit: Optional[str] = None
 
     @property
@@ -61,7 +82,7 @@ class ForceConstants:
         return f"ForceConstants(order {self.order}, {'full' if self.full else 'compact'}, {first} x {others} atoms, from {self.source})"
 
 
-def _judged(a: np.ndarray, path: str, source: str, p2s: Any = None, unit: Optional[str] = None) -> ForceConstants:
+def _judged(a: NDArray[np.generic], path: str, source: str, rows: Optional[ArrayLike] = None, unit: Optional[str] = None) -> ForceConstants:
     order = a.ndim // 2
     if a.dtype.kind != "f" or a.dtype.itemsize > 8:
         raise Unreadable(f"{path}: it holds {a.dtype}, not real numbers of 8 bytes or fewer")
@@ -69,8 +90,8 @@ def _judged(a: np.ndarray, path: str, source: str, p2s: Any = None, unit: Option
         raise Unreadable(f"{path}: the shape {a.shape} is of no set of order 2, 3 or 4")
     if a.shape[0] > a.shape[1]:
         raise Unreadable(f"{path}: the shape {a.shape} has more atoms in the first place than in the others")
+    p2s = None if rows is None else np.asarray(rows)
     if p2s is not None:
-        p2s = np.asarray(p2s)
         if p2s.ndim != 1 or p2s.dtype.kind not in "iu":
             raise Unreadable(f"{path}: p2s_map is of {p2s.dtype} and the shape {p2s.shape}, not a list of atoms")
         if len(p2s) != a.shape[0] and a.shape[0] != a.shape[1]:
@@ -88,8 +109,23 @@ def opened(path: str) -> BinaryIO:
     return open(path, "rb")
 
 
-def read(path: str) -> ForceConstants:
-    """The set in a file, of whichever kind it is."""
+def read(path: Path) -> ForceConstants:
+    """Read the set in a file, of whichever kind it is.
+
+    Parameters
+    ----------
+    path : str or path
+        FORCE_CONSTANTS, force_constants.hdf5, fc2.hdf5, fc3.hdf5, fc4.hdf5 or .npy, under any name.
+
+    Returns
+    -------
+    ForceConstants
+
+    Raises
+    ------
+    Unreadable
+        It holds no set; the message says where.
+    """
     path = os.fspath(path)
     if os.path.isdir(path):
         raise Unreadable(f"{path}: a folder: read_delivery reads a delivery")
@@ -115,11 +151,8 @@ def _read_npy(path: str) -> ForceConstants:
 
 
 def _read_hdf5(path: str) -> ForceConstants:
-    h5py = _h5py()
-    with h5py.File(path, "r") as f:
-        name = next((k for k in _DATASETS if k in f), None)
-        if name is None:
-            raise Unreadable(f"{path}: it has none of {', '.join(_DATASETS)}, but {', '.join(sorted(f)) or 'nothing'}")
+    with _hdf5(path, "r") as f:
+        name = _dataset(f, path)
         p2s = f["p2s_map"][()] if "p2s_map" in f else None
         unit = f["physical_unit"][()] if "physical_unit" in f else None
         found = _judged(f[name][()], path, f"hdf5, {name}", p2s, None if unit is None else _text(unit))
@@ -128,17 +161,25 @@ def _read_hdf5(path: str) -> ForceConstants:
     return found
 
 
-def _text(unit: Any) -> str:
-    unit = np.ravel(unit)[0]
-    return unit.decode("utf-8", "replace") if isinstance(unit, bytes) else str(unit)
+def _text(unit: ArrayLike) -> str:
+    first: object = np.ravel(unit)[0]
+    return first.decode("utf-8", "replace") if isinstance(first, bytes) else str(first)
 
 
-def _h5py() -> Any:
+def _hdf5(path: str, mode: str) -> h5py.File:
     try:
         import h5py
     except ImportError:
         raise ImportError("hdf5 files need h5py (Debian: python3-h5py)") from None
-    return h5py
+    return h5py.File(path, mode)
+
+
+def _dataset(f: h5py.File, path: str) -> str:
+    """The name of the set in an hdf5 file."""
+    for name in _DATASETS:
+        if name in f:
+            return name
+    raise Unreadable(f"{path}: it has none of {', '.join(_DATASETS)}, but {', '.join(sorted(f)) or 'nothing'}")
 
 
 class _Lines:
@@ -150,7 +191,7 @@ class _Lines:
     def __enter__(self) -> "_Lines":
         return self
 
-    def __exit__(self, *_: Any) -> None:
+    def __exit__(self, *_: object) -> None:
         self.file.close()
 
     def bad(self, number: int, what: str) -> Unreadable:
@@ -216,7 +257,8 @@ def _read_text(path: str) -> ForceConstants:
         n, m = counts[0], counts[-1]
         if n < 1 or m < 1:
             raise t.bad(number, "a number of atoms is not above 0")
-        rows, p2s = [], []
+        rows: List[Doubles] = []
+        p2s: List[int] = []
         for i in range(n):
             row = np.empty((m, 3, 3))
             for j in range(m):
@@ -240,6 +282,90 @@ def _read_text(path: str) -> ForceConstants:
         rows_of = ", ".join(str(a + 1) for a in p2s)
         raise Unreadable(f"{path}: the rows are of atoms {rows_of}: {n} different ones from 1 to {m} are expected")
     return _judged(np.array(rows), path, "FORCE_CONSTANTS", p2s)
+
+
+# ---- ShengBTE
+
+def is_shengbte(path: Path) -> bool:
+    """Return whether a file begins as ShengBTE's FORCE_CONSTANTS_3RD: a count, and then the number of the first block alone in its line.
+
+    Parameters
+    ----------
+    path : str or path
+    """
+    try:
+        with _Lines(os.fspath(path)) as t:
+            return all(len(t.next("")[1]) == 1 for _ in range(2))
+    except (OSError, Unreadable):
+        return False
+
+
+def read_shengbte(path: Path, cell: Cell, symprec: float = 1e-3) -> ForceConstants:
+    """Read ShengBTE's FORCE_CONSTANTS_3RD into the compact set of a supercell.
+
+    A block names its three atoms by their numbers in the primitive cell, which has to have the atoms of `cell` in the same order, and the
+    cells of the second and the third by Cartesian vectors. Blocks of the same atoms of the supercell are added up, as ShengBTE writes an
+    atom on the border once for each of its images; what no block names is zero.
+
+    Parameters
+    ----------
+    path : str or path
+    cell : Cell
+        Of the supercell, as `crystal.read_cell` returns it, in angstrom.
+    symprec : float
+        How near to its place an atom has to be.
+
+    Returns
+    -------
+    ForceConstants
+
+    Raises
+    ------
+    Unreadable
+        It is no such file, or a block names a place where the supercell has no such atom; the message says where.
+    """
+    path = os.fspath(path)
+    t = cell.tables
+    fc3 = np.zeros(t.shapes[1])
+    try:
+        with _Lines(path) as text:
+            number, words = text.next("the number of blocks")
+            for k in range(1, text.integers(number, words[:1])[0] + 1):
+                what = f"block {k} of {words[0]}"
+                if text.integers(*text.next(what)) != [k]:
+                    raise text.bad(text.number, f"{what} does not begin with its number")
+                vectors = [text.reals(*text.next(what)) for _ in range(2)]
+                number, named = text.next(what)
+                atoms = text.integers(number, named)
+                if [len(v) for v in vectors] != [3, 3] or len(atoms) != 3 or not all(1 <= a <= t.n_patom for a in atoms):
+                    raise text.bad(number, f"{what}: two vectors and three atoms from 1 to {t.n_patom} are expected")
+                places = [_supercell_atom(cell, a - 1, v, symprec) for a, v in zip(atoms[1:], vectors)]
+                if None in places:
+                    raise text.bad(number, f"{what}: the supercell has no such atom there: is it the cell of this file?")
+                fc3[(atoms[0] - 1, *places)] += _shengbte_block(text, what)
+            text.end("the last block")
+    except OSError as e:
+        raise Unreadable(f"{path}: {e.strerror or e}") from None
+    return ForceConstants(fc3, "FORCE_CONSTANTS_3RD", t.p2s, "eV/angstrom^3")
+
+
+def _supercell_atom(cell: Cell, primitive: int, vector: List[float], symprec: float) -> Optional[int]:
+    """The image of an atom of the primitive cell that is a vector away from it."""
+    t = cell.tables
+    images = np.flatnonzero(t.s2pp == primitive)
+    d = cell.positions[images] - cell.positions[t.p2s[primitive]] - np.linalg.solve(cell.lattice.T, np.array(vector))
+    far = np.sqrt((((d - np.rint(d)) @ cell.lattice) ** 2).sum(axis=1))
+    return int(images[far.argmin()]) if far.min() < symprec else None
+
+
+def _shengbte_block(text: _Lines, what: str) -> Doubles:
+    block = np.empty((3, 3, 3))
+    for i, j, k in np.ndindex(3, 3, 3):
+        number, words = text.next(what)
+        if words[:-1] != [str(i + 1), str(j + 1), str(k + 1)]:
+            raise text.bad(number, f"{what}: the directions {i + 1} {j + 1} {k + 1} are expected")
+        block[i, j, k] = text.reals(number, words[-1:])[0]
+    return block
 
 
 # ---- writing
@@ -270,13 +396,36 @@ def _take_name(new: str, path: str) -> None:
         os.rename(new, path)
 
 
-def write(path: str, array: np.ndarray, p2s: Any = None, unit: Optional[str] = None, overwrite: bool = False) -> None:
-    """Writes a set: hdf5 if the name ends in .hdf5 or .h5 (as phonopy and phono3py name the datasets), .npy, or else FORCE_CONSTANTS,
-    which has 15 digits after the point and second order only. p2s: the atoms of the supercell that the rows of a compact set are of."""
+def write(path: Path, array: ArrayLike, p2s: Optional[ArrayLike] = None, unit: Optional[str] = None, overwrite: bool = False,
+          like: Optional[Path] = None) -> None:
+    """Write a set.
+
+    Parameters
+    ----------
+    path : str or path
+        hdf5 if the name ends in .hdf5 or .h5 (datasets and compression as phonopy and phono3py have them), .npy, or else
+        FORCE_CONSTANTS, for second order only.
+    array : array_like of float
+    p2s : array_like of int, optional
+        The atoms of the supercell that the rows of a compact set are of.
+    unit : str, optional
+        For hdf5.
+    overwrite : bool
+        Whether a file that is there is replaced.
+    like : str or path, optional
+        An hdf5 file with a set of the same shape: everything else in it (version, attributes, other datasets, compression) is kept.
+
+    Raises
+    ------
+    FileExistsError
+        It is there, and overwrite is False.
+    ValueError
+        No set, or none that this kind of file can hold.
+    """
     path = os.fspath(path)
     found = _judged(np.asarray(array), "the array", "", p2s)
     if path.endswith((".hdf5", ".h5")):
-        _put(path, overwrite, lambda new: _write_hdf5(new, found, unit))
+        _put(path, overwrite, lambda new: _write_hdf5(new, found, unit) if like is None else _write_like(new, found, os.fspath(like)))
     elif path.endswith(".npy"):
         _put(path, overwrite, lambda new: _write_npy(new, found))
     elif found.order != 2:
@@ -288,12 +437,27 @@ def write(path: str, array: np.ndarray, p2s: Any = None, unit: Optional[str] = N
 
 
 def _write_hdf5(path: str, found: ForceConstants, unit: Optional[str]) -> None:
-    with _h5py().File(path, "w") as f:
-        f.create_dataset({2: "force_constants", 3: "fc3", 4: "fc4"}[found.order], data=found.array)
+    with _hdf5(path, "w") as f:
+        f.create_dataset({2: "force_constants", 3: "fc3", 4: "fc4"}[found.order], data=found.array, compression="gzip")
         if found.p2s is not None:
             f.create_dataset("p2s_map", data=found.p2s)
         if unit is not None:
             f.create_dataset("physical_unit", data=np.array([unit.encode("utf-8")]))
+
+
+def _write_like(path: str, found: ForceConstants, like: str) -> None:
+    shutil.copyfile(like, path)
+    with _hdf5(path, "r+") as f:
+        name = _dataset(f, like)
+        old = f[name]
+        if old.shape != found.array.shape:
+            raise ValueError(f"{like}: it has a set of the shape {old.shape}, the array has {found.array.shape}")
+        if old.dtype.itemsize == 8:
+            old[...] = found.array
+            return
+        kept, how = dict(old.attrs), {k: getattr(old, k) for k in ("chunks", "compression", "compression_opts", "shuffle", "fletcher32")}
+        del f[name]  # of fewer bytes: the set's own bits would be lost
+        f.create_dataset(name, data=found.array, **how).attrs.update(kept)
 
 
 def _write_npy(path: str, found: ForceConstants) -> None:
@@ -316,19 +480,46 @@ def _write_text(path: str, found: ForceConstants) -> None:
 # ---- the delivery folder
 
 class Delivery(NamedTuple):
-    """A delivery, as delivery/run reads it: shift tables, the cell (a basis vector to a row, as in the file), the full set of second
-    order and the compact set of third."""
+    """A delivery, as delivery/run reads it.
+
+    Attributes
+    ----------
+    tables : Tables
+    lattice : ndarray of float64, shape (3, 3)
+        Basis vectors of the supercell in rows.
+    elements : list of str
+    positions : ndarray of float64, shape (n_satom, 3)
+    fc2 : ndarray of float64, shape (n_satom, n_satom, 3, 3)
+        The full set of second order.
+    fc3 : ndarray of float64, shape (n_patom, n_satom, n_satom, 3, 3, 3)
+        The compact set of third order.
+    """
 
     tables: Tables
-    lattice: np.ndarray
+    lattice: Doubles
     elements: List[str]
-    positions: np.ndarray
-    fc2: np.ndarray
-    fc3: np.ndarray
+    positions: Doubles
+    fc2: Doubles
+    fc3: Doubles
 
 
-def read_delivery(folder: str) -> Delivery:
-    """The delivery in a folder: tables.txt, cell.txt, fc2.f64 and fc3.f64."""
+def read_delivery(folder: Path) -> Delivery:
+    """Read the delivery in a folder: tables.txt, cell.txt, fc2.f64 and fc3.f64.
+
+    Parameters
+    ----------
+    folder : str or path
+
+    Returns
+    -------
+    Delivery
+
+    Raises
+    ------
+    Unreadable
+        A file is missing, or does not hold what it should; the message says where.
+    """
+    folder = os.fspath(folder)
     try:
         tables = _read_tables(os.path.join(folder, "tables.txt"))
         lattice, elements, positions = _read_cell(os.path.join(folder, "cell.txt"), tables.n_satom)
@@ -366,8 +557,10 @@ def _tables(t: _Lines) -> Tables:
     return Tables(np.array(p2s, np.int64), np.array(s2pp, np.int64), np.array(nsym_list, np.int64), rows)
 
 
-def _read_cell(path: str, n_satom: int) -> Tuple[np.ndarray, List[str], np.ndarray]:
-    lattice, elements, positions = [], [], []
+def _read_cell(path: str, n_satom: int) -> Tuple[Doubles, List[str], Doubles]:
+    lattice: List[List[float]] = []
+    elements: List[str] = []
+    positions: List[List[float]] = []
     with _Lines(path) as t:
         for _ in range(3):
             number, words = t.named("lattice", 3, "a vector")
@@ -385,7 +578,7 @@ def _read_cell(path: str, n_satom: int) -> Tuple[np.ndarray, List[str], np.ndarr
     return found[0], elements, found[1]
 
 
-def _read_numbers(path: str, shape: Tuple[int, ...]) -> np.ndarray:
+def _read_numbers(path: str, shape: Tuple[int, ...]) -> Doubles:
     asked = 8 * math.prod(shape)
     with opened(path) as f:
         size = os.fstat(f.fileno()).st_size
@@ -394,8 +587,24 @@ def _read_numbers(path: str, shape: Tuple[int, ...]) -> np.ndarray:
         return np.fromfile(f, "<f8").reshape(shape).astype(np.float64, copy=False)
 
 
-def write_delivery(folder: str, d: Delivery, overwrite: bool = False) -> None:
-    """Writes the four files of a delivery; the folder is made if it is not there."""
+def write_delivery(folder: Path, d: Delivery, overwrite: bool = False) -> None:
+    """Write the four files of a delivery; the folder is made if it is not there.
+
+    Parameters
+    ----------
+    folder : str or path
+    d : Delivery
+    overwrite : bool
+        Whether files that are there are replaced.
+
+    Raises
+    ------
+    FileExistsError
+        A file is there, and overwrite is False.
+    ValueError
+        The parts do not fit each other.
+    """
+    folder = os.fspath(folder)
     n, p = d.tables.n_satom, d.tables.n_patom
     shapes = {"lattice": (3, 3), "positions": (n, 3), "fc2": (n, n, 3, 3), "fc3": (p, n, n, 3, 3, 3)}
     for name, shape in shapes.items():
@@ -408,17 +617,19 @@ def write_delivery(folder: str, d: Delivery, overwrite: bool = False) -> None:
     there = [path for path in paths.values() if os.path.lexists(path)]
     if there and not overwrite:
         raise FileExistsError(f"{there[0]} is there; overwrite=True replaces it")
-    rows = [("n_satom", [n]), ("n_patom", [p]), ("num_trans", [d.tables.num_trans]), ("p2s", d.tables.p2s), ("s2pp", d.tables.s2pp),
-            ("nsym_list", d.tables.nsym_list), *(("perms", row) for row in d.tables.perms)]
-    cell = [("lattice", v) for v in np.asarray(d.lattice).tolist()] + list(zip(d.elements, np.asarray(d.positions).tolist()))
+    rows: List[Tuple[str, List[float]]] = [("n_satom", [n]), ("n_patom", [p]), ("num_trans", [d.tables.num_trans])]
+    rows += [(name, table.tolist()) for name, table in zip(("p2s", "s2pp", "nsym_list"), d.tables)]
+    rows += [("perms", row) for row in d.tables.perms.tolist()]
+    cell: List[Tuple[str, List[float]]] = [("lattice", v) for v in np.asarray(d.lattice).tolist()]
+    cell += zip(d.elements, np.asarray(d.positions).tolist())
     for name, lines in (("tables.txt", rows), ("cell.txt", cell)):
-        text = "".join(f"{word} {' '.join(repr(x) if isinstance(x, float) else str(int(x)) for x in entries)}\n" for word, entries in lines)
-        _put_bytes(paths[name], overwrite, text.encode("ascii"))
+        put_bytes(paths[name], overwrite, "".join(f"{word} {' '.join(map(repr, entries))}\n" for word, entries in lines).encode("ascii"))
     for name, array in (("fc2.f64", d.fc2), ("fc3.f64", d.fc3)):
-        _put_bytes(paths[name], overwrite, np.asarray(array).astype("<f8").tobytes())
+        put_bytes(paths[name], overwrite, np.asarray(array).astype("<f8").tobytes())
 
 
-def _put_bytes(path: str, overwrite: bool, data: bytes) -> None:
+def put_bytes(path: str, overwrite: bool, data: bytes) -> None:
+    """Writes a file as a whole."""
     def writer(new: str) -> None:
         with open(new, "wb") as f:
             f.write(data)

@@ -8,27 +8,47 @@ DELIVERY 7 0 b'MgO, spring'
 REPLACEMENT 8 7 b''
 >>> len(roll)
 47
+
+Every call takes the roll first, then what is asked or added, in the order kind, set, earlier, label. Bytes that are longer than the roll are
+lent with `count=`, how many of them it fills. A file is worked by `begin`, `append`, `retire`, `renew` and `load`: one program at a time,
+replaced as a whole, and never with a record that the others do not allow. `python -m gullyfork roll` is the command `roll`.
+
+>>> import os, tempfile
+>>> with tempfile.TemporaryDirectory() as folder:
+...     file = os.path.join(folder, "roll.bin")
+...     begin(file)
+...     append(file, Kind.DELIVERY, 7, label=b"MgO, spring")
+...     append(file, Kind.REPLACEMENT, 8, 7)
+...     stands_now(load(file), 7).use, retire(file, 7)
+(8, [7, 8])
 """
 from __future__ import annotations
 
 import enum
-from typing import Any, Callable, Iterator, NamedTuple, Optional
+from typing import Iterator, List, NamedTuple, Optional, Protocol, Tuple, Union
 
 import numpy as np
+from numpy.typing import NDArray
 
 from . import _arrays
+from ._alone import Alone, Path, Tell, quiet
+from ._alone import begin as _begin
+from ._alone import read as _read_file
 from ._library import CALLS
 from ._refused import Refused
 from ._run import run
 
 __all__ = [
-    "EMPTY", "Kind", "Record", "Standing", "State", "append_roll", "appended", "is_roll", "is_roll_former", "read_roll", "read_roll_former",
-    "records", "records_former", "retire_all", "retired", "stands_now",
+    "EMPTY", "Kind", "Record", "Standing", "State", "append", "append_roll", "appended", "begin", "is_roll", "is_roll_former", "load",
+    "read_roll", "read_roll_former", "records", "records_former", "renew", "retire", "retire_all", "retired", "stands_now",
 ]
 
 EMPTY = bytes(8)
 _END, _NO_ROOM, _NOT_LAWFUL, _UNKNOWN_SET = 68, 8, 9, 11
 _RECORDS, _BYTES = 1000, 65536
+Bytes = NDArray[np.uint8]
+BytesLike = Union[bytes, bytearray, memoryview, Bytes]
+_OLDER = "an older roll: its starts are not in rising order; records_former reads it"
 
 
 class Kind(enum.IntEnum):
@@ -46,84 +66,218 @@ class Record(NamedTuple):
     label: bytes
     next: int
 
+    @property
+    def words(self) -> str:
+        """As the command lists it; in a label the bytes that are no text, or would move a terminal's cursor, are escaped.
 
-def _count(lent: np.ndarray, count: Optional[int]) -> int:
+        >>> read_roll(appended(EMPTY, Kind.REPLACEMENT, 8, 7, b"MgO\\n")).words
+        'replacement 8 of 7 "MgO\\\\x0a"'
+        """
+        of = f" of {self.earlier}" if self.kind is Kind.REPLACEMENT else ""
+        return f"{self.kind.name.lower()} {self.set}{of}" + (f' "{_escaped(self.label)}"' if self.label else "")
+
+
+def _escaped(label: bytes) -> str:
+    out = ""
+    for c in label.decode("utf-8", "surrogateescape"):
+        if c in '"\\':
+            out += "\\" + c
+        elif c < " " or "\x7f" <= c <= "\x9f" or "\udc80" <= c <= "\udcff":
+            out += "".join(f"\\x{b:02x}" for b in c.encode("utf-8", "surrogateescape"))
+        else:
+            out += c
+    return out
+
+
+class _Judge(Protocol):
+    """`is_roll` and `is_roll_former`."""
+
+    def __call__(self, lent: BytesLike, *, count: Optional[int] = None) -> bool: ...
+
+
+def _count(lent: Bytes, count: Optional[int]) -> int:
     return lent.size if count is None else _arrays.whole(count, "count")
 
 
-def _lent(lent: Any) -> np.ndarray:
+def _lent(lent: BytesLike) -> Bytes:
     a = _arrays.octets(lent, "lent")
     if not a.flags.writeable:
         raise ValueError("lent is changed in place, and is read-only")
     return a
 
 
-def is_roll(lent: Any, count: Optional[int] = None) -> bool:
-    """Whether the first `count` bytes (all, if it is not given) are there and are a roll. Never refused.
+def is_roll(lent: BytesLike, *, count: Optional[int] = None) -> bool:
+    """Tell whether bytes are a roll. Never refused.
 
+    Parameters
+    ----------
+    lent : bytes, bytearray, memoryview or ndarray of uint8
+        The roll, and what may stand after it.
+    count : int, optional
+        How many bytes the roll has; all, if left out.
+
+    Returns
+    -------
+    bool
+        Whether the first `count` bytes are there and are a roll.
+
+    Examples
+    --------
     >>> is_roll(EMPTY), is_roll(b"")
     (True, False)
     """
     a = _arrays.octets(lent, "lent")
-    return CALLS["is_roll"].function(_arrays.address(a), a.size, _count(a, count))
+    return bool(CALLS["is_roll"].function(_arrays.address(a), a.size, _count(a, count)))
 
 
-def is_roll_former(lent: Any, count: Optional[int] = None) -> bool:
-    """The same by the former rule, under which older rolls list their starts in any order.
+def is_roll_former(lent: BytesLike, *, count: Optional[int] = None) -> bool:
+    """Tell whether bytes are a roll by the former rule, under which older rolls list their starts in any order. Never refused.
 
+    Parameters
+    ----------
+    lent : bytes, bytearray, memoryview or ndarray of uint8
+        The roll, and what may stand after it.
+    count : int, optional
+        How many bytes the roll has; all, if left out.
+
+    Returns
+    -------
+    bool
+        Whether the first `count` bytes are there and are such a roll.
+
+    Examples
+    --------
     >>> older = bytes.fromhex("01070000000000000000" "01080000000000000000" "0a000000" "00000000" "02000000" "14000000")
     >>> is_roll(older), is_roll_former(older)
     (False, True)
     """
     a = _arrays.octets(lent, "lent")
-    return CALLS["is_roll_former"].function(_arrays.address(a), a.size, _count(a, count))
+    return bool(CALLS["is_roll_former"].function(_arrays.address(a), a.size, _count(a, count)))
 
 
-def read_roll(lent: Any, at: int = 0, count: Optional[int] = None) -> Optional[Record]:
-    """The record that starts at the position, or None where the trailer begins. Begin with 0 and go on with `next`. The whole roll is
-    judged in each call.
+def read_roll(lent: BytesLike, at: int = 0, *, count: Optional[int] = None) -> Optional[Record]:
+    """Read a roll at a position.
 
+    Parameters
+    ----------
+    lent : bytes, bytearray, memoryview or ndarray of uint8
+        The roll, and what may stand after it.
+    at : int
+        The position: 0, or the `next` of a record.
+    count : int, optional
+        How many bytes the roll has; all, if left out.
+
+    Returns
+    -------
+    Record or None
+        The record that starts there; None where the trailer begins.
+
+    Raises
+    ------
+    Refused
+        7: not a roll, or neither a record nor the trailer starts there. The whole roll is judged in each call.
+
+    Examples
+    --------
     >>> read_roll(EMPTY) is None
     True
     """
     return _read("read_roll", is_roll, lent, at, count)
 
 
-def read_roll_former(lent: Any, at: int = 0, count: Optional[int] = None) -> Optional[Record]:
-    """The same of an older roll, by the former rule.
+def read_roll_former(lent: BytesLike, at: int = 0, *, count: Optional[int] = None) -> Optional[Record]:
+    """Read an older roll at a position, by the former rule.
 
+    Parameters
+    ----------
+    lent : bytes, bytearray, memoryview or ndarray of uint8
+        The roll, and what may stand after it.
+    at : int
+        The position: 0, or the `next` of a record.
+    count : int, optional
+        How many bytes the roll has; all, if left out.
+
+    Returns
+    -------
+    Record or None
+        The record that starts there; None where the trailer begins.
+
+    Raises
+    ------
+    Refused
+        7: not a roll, or neither a record nor the trailer starts there. The whole roll is judged in each call.
+
+    Examples
+    --------
     >>> read_roll_former(EMPTY) is None
     True
     """
     return _read("read_roll_former", is_roll_former, lent, at, count)
 
 
-def _read(call: str, judge: Callable[..., bool], lent: Any, at: int, count: Optional[int]) -> Optional[Record]:
+def _read(call: str, judge: _Judge, lent: BytesLike, at: int, count: Optional[int]) -> Optional[Record]:
     a = _arrays.octets(lent, "lent")
     slots = np.empty(6, np.uintp)
     count, at = _count(a, count), _arrays.whole(at, "at")
     try:
         answer = run(call, 2, read={"lent": (a, a.shape)}, made={"slots": slots}, values={"count": count, "at": at})
     except Refused as e:
-        detail = f"neither a record nor the trailer starts at {at}" if judge(a, count) else _what_is_wrong(a, count)
-        raise Refused(e.number, e.call, "at" if judge(a, count) else "lent", detail) from None
+        detail = f"neither a record nor the trailer starts at {at}" if judge(a, count=count) else _what_is_wrong(a, count)
+        raise Refused(e.number, e.call, "at" if judge(a, count=count) else "lent", detail) from None
     if answer == _END:
         return None
     kind, number, earlier, start, length, following = (int(x) for x in slots)
     return Record(Kind(kind), number, earlier, a[start:start + length].tobytes(), following)
 
 
-def records(lent: Any, count: Optional[int] = None) -> Iterator[Record]:
-    """The records of a roll, in order."""
+def records(lent: BytesLike, *, count: Optional[int] = None) -> Iterator[Record]:
+    """Walk over the records of a roll, in order.
+
+    Parameters
+    ----------
+    lent : bytes, bytearray, memoryview or ndarray of uint8
+        The roll, and what may stand after it.
+    count : int, optional
+        How many bytes the roll has; all, if left out.
+
+    Yields
+    ------
+    Record
+
+    Raises
+    ------
+    Refused
+        7: not a roll.
+    """
     at = 0
-    while (record := read_roll(lent, at, count)) is not None:
+    while (record := read_roll(lent, at, count=count)) is not None:
         yield record
         at = record.next
 
 
-def records_former(lent: Any, count: Optional[int] = None) -> Iterator[Record]:
-    """The records of an older roll, by the former rule; `appended` to an empty roll they make the roll that all other calls take.
+def records_former(lent: BytesLike, *, count: Optional[int] = None) -> Iterator[Record]:
+    """Walk over the records of an older roll, by the former rule.
 
+    `appended` to an empty roll they make the roll that all other calls take; `renew` does so with files.
+
+    Parameters
+    ----------
+    lent : bytes, bytearray, memoryview or ndarray of uint8
+        The roll, and what may stand after it.
+    count : int, optional
+        How many bytes the roll has; all, if left out.
+
+    Yields
+    ------
+    Record
+
+    Raises
+    ------
+    Refused
+        7: not a roll by the former rule.
+
+    Examples
+    --------
     >>> older = bytes.fromhex("01070000000000000000" "01080000000000000000" "0a000000" "00000000" "02000000" "14000000")
     >>> roll = EMPTY
     >>> for record in records_former(older):
@@ -132,17 +286,44 @@ def records_former(lent: Any, count: Optional[int] = None) -> Iterator[Record]:
     (True, [7, 8], True)
     """
     at = 0
-    while (record := read_roll_former(lent, at, count)) is not None:
+    while (record := read_roll_former(lent, at, count=count)) is not None:
         yield record
         at = record.next
 
 
-def append_roll(lent: Any, count: int, kind: int, set: int, earlier: int = 0, label: bytes = b"") -> int:
-    """Adds a record at the end of the roll that the first `count` bytes are, in place, and gives the new count: 14 bytes and the label
-    more. lent: a bytearray or an array of uint8 with room for them.
+def append_roll(lent: BytesLike, kind: int, set: int, earlier: int = 0, label: bytes = b"", *, count: int) -> int:
+    """Add a record at the end of a roll, in place.
 
+    The numbers are not looked up in the roll: a second delivery of a set is taken (`append`, on a file, asks first).
+
+    Parameters
+    ----------
+    lent : bytearray or ndarray of uint8
+        The roll, changed in place, with room after it.
+    kind : Kind
+    set : int
+        The set's number, from 1 on.
+    earlier : int
+        The number of the set that is replaced; 0 except for a replacement.
+    label : bytes
+        At most 255.
+    count : int
+        How many bytes the roll has.
+
+    Returns
+    -------
+    int
+        How many bytes it has now: 14 and the label more.
+
+    Raises
+    ------
+    Refused
+        7: not a roll, or the record breaks the rules; 8: the roll would pass 1,000 records, 65,536 bytes or what is lent.
+
+    Examples
+    --------
     >>> lent = bytearray(64)
-    >>> append_roll(lent, 8, Kind.DELIVERY, 1)
+    >>> append_roll(lent, Kind.DELIVERY, 1, count=8)
     22
     """
     a = _lent(lent)
@@ -159,11 +340,39 @@ def append_roll(lent: Any, count: int, kind: int, set: int, earlier: int = 0, la
     return int(new_count[0])
 
 
-def appended(roll: Any, kind: int, set: int, earlier: int = 0, label: bytes = b"") -> bytes:
-    """A new roll: the former one with a record more."""
+def appended(roll: BytesLike, kind: int, set: int, earlier: int = 0, label: bytes = b"") -> bytes:
+    """Return a roll with a record more.
+
+    Parameters
+    ----------
+    roll : bytes, bytearray, memoryview or ndarray of uint8
+        The former roll, which stays.
+    kind : Kind
+    set : int
+        The set's number, from 1 on.
+    earlier : int
+        The number of the set that is replaced; 0 except for a replacement.
+    label : bytes
+        At most 255.
+
+    Returns
+    -------
+    bytes
+        The new roll.
+
+    Raises
+    ------
+    Refused
+        As `append_roll`.
+
+    Examples
+    --------
+    >>> len(appended(EMPTY, Kind.DELIVERY, 7, label=b"MgO"))
+    25
+    """
     former = _arrays.octets(roll, "roll")
     lent = bytearray(former.tobytes() + bytes(14 + len(label)))
-    return bytes(lent[:append_roll(lent, former.size, kind, set, earlier, label)])
+    return bytes(lent[:append_roll(lent, kind, set, earlier, label, count=former.size)])
 
 
 class State(enum.Enum):
@@ -180,9 +389,32 @@ class Standing(NamedTuple):
     use: Optional[int]
 
 
-def stands_now(lent: Any, set: int, count: Optional[int] = None) -> Standing:
-    """Which set stands now for a set number: a replaced set answers as the one that replaced it; retirement counts at the end of the chain.
+def stands_now(lent: BytesLike, set: int, *, count: Optional[int] = None) -> Standing:
+    """Tell which set stands now for a set number.
 
+    A replaced set answers as the one that replaced it; retirement counts at the end of the chain.
+
+    Parameters
+    ----------
+    lent : bytes, bytearray, memoryview or ndarray of uint8
+        The roll, and what may stand after it.
+    set : int
+        The number that is asked for.
+    count : int, optional
+        How many bytes the roll has; all, if left out.
+
+    Returns
+    -------
+    Standing
+        State, and the number to use where there is one.
+
+    Raises
+    ------
+    Refused
+        7: not a roll; 9: a record that the others do not allow, which is named.
+
+    Examples
+    --------
     >>> roll = appended(appended(EMPTY, Kind.DELIVERY, 7), Kind.REPLACEMENT, 8, 7)
     >>> stands_now(roll, 7)
     Standing(state=<State.CURRENT: 0>, use=8)
@@ -200,13 +432,35 @@ def stands_now(lent: Any, set: int, count: Optional[int] = None) -> Standing:
     return Standing(state, int(use[0]) if state is State.CURRENT else None)
 
 
-def retire_all(lent: Any, count: int, set: int) -> int:
-    """Retires a set and every set linked to it by replacements, earlier or later: adds a retirement with an empty label for each that has
-    none, by rising number, in place, and gives the new count: 14 bytes more for each. lent: as for append_roll.
+def retire_all(lent: BytesLike, set: int, *, count: int) -> int:
+    """Retire a set and every set linked to it by replacements, earlier or later, in place.
 
+    A retirement with an empty label is added for each that has none, by rising number.
+
+    Parameters
+    ----------
+    lent : bytearray or ndarray of uint8
+        The roll, changed in place, with room after it.
+    set : int
+        The set's number.
+    count : int
+        How many bytes the roll has.
+
+    Returns
+    -------
+    int
+        How many bytes it has now: 14 more for each retirement.
+
+    Raises
+    ------
+    Refused
+        7: not a roll; 9: a record that the others do not allow; 11: the set was never delivered; 8: they do not all fit.
+
+    Examples
+    --------
     >>> lent = bytearray(appended(appended(EMPTY, Kind.DELIVERY, 7), Kind.REPLACEMENT, 8, 7) + bytes(28))
-    >>> count = retire_all(lent, 36, 7)
-    >>> [(record.kind.name, record.set) for record in records(lent, count)][2:]
+    >>> count = retire_all(lent, 7, count=36)
+    >>> [(record.kind.name, record.set) for record in records(lent, count=count)][2:]
     [('RETIREMENT', 7), ('RETIREMENT', 8)]
     """
     a = _lent(lent)
@@ -219,14 +473,37 @@ def retire_all(lent: Any, count: int, set: int) -> int:
     return int(new_count[0])
 
 
-def retired(roll: Any, set: int) -> bytes:
-    """A new roll: the former one with the retirements of `retire_all`."""
+def retired(roll: BytesLike, set: int) -> bytes:
+    """Return a roll with the retirements of `retire_all`.
+
+    Parameters
+    ----------
+    roll : bytes, bytearray, memoryview or ndarray of uint8
+        The former roll, which stays.
+    set : int
+        The set's number.
+
+    Returns
+    -------
+    bytes
+        The new roll.
+
+    Raises
+    ------
+    Refused
+        As `retire_all`.
+
+    Examples
+    --------
+    >>> [r.words for r in records(retired(appended(EMPTY, Kind.DELIVERY, 7), 7))]
+    ['delivery 7', 'retirement 7']
+    """
     former = _arrays.octets(roll, "roll")
     lent = bytearray(former.tobytes() + bytes(14 * _RECORDS))
-    return bytes(lent[:retire_all(lent, former.size, set)])
+    return bytes(lent[:retire_all(lent, set, count=former.size)])
 
 
-def _not_retired(number: int, a: np.ndarray, count: int, set: int) -> tuple:
+def _not_retired(number: int, a: Bytes, count: int, set: int) -> Tuple[str, Optional[str]]:
     if number == _NOT_LAWFUL:
         return "lent", _unlawful(a, count)
     if number == _UNKNOWN_SET:
@@ -236,39 +513,40 @@ def _not_retired(number: int, a: np.ndarray, count: int, set: int) -> tuple:
     return "lent", _what_is_wrong(a, count)
 
 
-def _unlawful(a: np.ndarray, count: int) -> Optional[str]:
-    """The first record that another one does not allow."""
-    delivered, replaced = [], []
-    for k, r in enumerate(records(a, count)):
-        if r.kind is not Kind.DELIVERY:
-            named = r.earlier if r.kind is Kind.REPLACEMENT else r.set
-            if named not in delivered:
-                return f"record {k} names set {named}, which no earlier record delivers"
-            if r.kind is Kind.REPLACEMENT and named in replaced:
-                return f"record {k} replaces set {named}, which was replaced before"
-            replaced += [named] if r.kind is Kind.REPLACEMENT else []
-        if r.kind is not Kind.RETIREMENT:
-            if r.set in delivered:
-                return f"record {k} delivers set {r.set}, which was delivered before"
-            delivered.append(r.set)
+def _unlawful(a: Bytes, count: int) -> Optional[str]:
+    """The first record that the others do not allow."""
+    delivered: List[int] = []
+    replaced: List[int] = []
+    for k, r in enumerate(records(a, count=count), 1):
+        named, fault = r.earlier if r.kind is Kind.REPLACEMENT else r.set, None
+        if r.kind is not Kind.DELIVERY and named not in delivered:
+            fault = f"names set {named}, which no earlier record delivers"
+        elif r.kind is Kind.REPLACEMENT and named in replaced:
+            fault = f"replaces set {named}, which was replaced before"
+        elif r.kind is not Kind.RETIREMENT and r.set in delivered:
+            fault = f"delivers set {r.set}, which was delivered before"
+        if fault:
+            return f"{r.words}, line {k} of the list, {fault}"
+        replaced += [named] if r.kind is Kind.REPLACEMENT else []
+        delivered += [] if r.kind is Kind.RETIREMENT else [r.set]
     return None
 
 
-def _what_is_wrong(a: np.ndarray, count: int) -> str:
+def _what_is_wrong(a: Bytes, count: int) -> str:
     if count > a.size:
         return f"count {count} passes its {a.size} bytes"
-    if is_roll_former(a, count):
-        return "an older roll: its starts are not in rising order; records_former reads it"
+    if is_roll_former(a, count=count):
+        return _OLDER
     return f"its first {count} bytes are not a roll"
 
 
-def _blame(number: int, a: np.ndarray, label: int, count: int, kind: int, set: int, earlier: int) -> tuple:
+def _blame(number: int, a: Bytes, label: int, count: int, kind: int, set: int, earlier: int) -> Tuple[str, Optional[str]]:
     if number == _NO_ROOM:
         want = count + 14 + label
         if want > _BYTES:
             return "lent", f"the roll would have {want} bytes, limit {_BYTES}"
         return "lent", f"{a.size} bytes, the roll would have {want}" if want > a.size else f"the roll has {_RECORDS} records, the limit"
-    if not is_roll(a, count):
+    if not is_roll(a, count=count):
         return "lent", _what_is_wrong(a, count)
     if kind not in (1, 2, 3):
         return "kind", f"{kind}, not 1, 2 or 3"
@@ -277,3 +555,156 @@ def _blame(number: int, a: np.ndarray, label: int, count: int, kind: int, set: i
     if (earlier != 0) != (kind == Kind.REPLACEMENT):
         return "earlier", f"{earlier}: a replacement names an earlier set, and nothing else does"
     return "label", f"{label} bytes, limit 255"
+
+
+# ---- files
+
+def _in_roll(call: str, data: bytes) -> bytes:
+    """The bytes, if they are a roll."""
+    if not is_roll(data):
+        raise Refused(7, call, "path", _what_is_wrong(np.frombuffer(data, np.uint8), len(data)))
+    return data
+
+
+def _allowed(call: str, data: bytes) -> bytes:
+    """The bytes of a roll, if no record is one that the others do not allow."""
+    try:
+        stands_now(data, 1)
+    except Refused as e:
+        raise Refused(e.number, call, "path", e.detail) from None
+    return data
+
+
+def load(path: Path) -> bytes:
+    """Read the roll in a file.
+
+    Parameters
+    ----------
+    path : str, bytes or path
+        The file.
+
+    Returns
+    -------
+    bytes
+        The roll.
+
+    Raises
+    ------
+    Refused
+        7: not a roll.
+    OSError
+        The file cannot be read.
+    """
+    return _in_roll("load", _read_file(path, _BYTES + 1))
+
+
+def begin(path: Path) -> None:
+    """Write an empty roll to a file that is not there yet.
+
+    Parameters
+    ----------
+    path : str, bytes or path
+        The file.
+
+    Raises
+    ------
+    OSError
+        There is such a file, or it cannot be written.
+    """
+    _begin(path, EMPTY)
+
+
+def append(path: Path, kind: int, set: int, earlier: int = 0, label: bytes = b"", *, anyway: bool = False, tell: Tell = quiet) -> None:
+    """Add a record at the end of the roll in a file: one program at a time, and replaced as a whole.
+
+    Parameters
+    ----------
+    path : str, bytes or path
+        The file.
+    kind : Kind
+    set : int
+        The set's number, from 1 on.
+    earlier : int
+        The number of the set that is replaced; 0 except for a replacement.
+    label : bytes
+        At most 255.
+    anyway : bool
+        Write even a record that the others do not allow; from then on no standing can be told.
+    tell : function of str
+        Is told of waiting for another program, and of what one that was ended had left.
+
+    Raises
+    ------
+    Refused
+        7, 8: as `append_roll`; 9: a record that the others do not allow, which is named. The file is as it was.
+    OSError
+        The file cannot be read, written or locked, or could not keep its owner, group or names; it is as it was.
+    """
+    with Alone(path, tell) as file:
+        new = appended(_in_roll("append", file.read(_BYTES + 1)), kind, set, earlier, label)
+        file.replace(new if anyway else _allowed("append", new))
+
+
+def retire(path: Path, set: int, *, tell: Tell = quiet) -> List[int]:
+    """Retire a set of the roll in a file, and every set linked to it by replacements.
+
+    Parameters
+    ----------
+    path : str, bytes or path
+        The file.
+    set : int
+        The set's number.
+    tell : function of str
+        Is told of waiting for another program, and of what one that was ended had left.
+
+    Returns
+    -------
+    list of int
+        The numbers of the retirements that were added.
+
+    Raises
+    ------
+    Refused
+        As `retire_all`.
+    OSError
+        The file cannot be read, written or locked, or could not keep its owner, group or names; it is as it was.
+    """
+    with Alone(path, tell) as file:
+        former = _in_roll("retire", file.read(_BYTES + 1))
+        new, numbers = _retirements(former, set)
+        if numbers:
+            file.replace(new)
+    return numbers
+
+
+def _retirements(former: bytes, set: int) -> Tuple[bytes, List[int]]:
+    new = retired(former, set)
+    more = (len(new) - len(former)) // 14
+    return new, [r.set for r in records(new)][-more:] if more else []
+
+
+def renew(older: Path, path: Path, *, anyway: bool = False) -> None:
+    """Write the records of an older roll to a file that is not there yet; the older file stays as it is.
+
+    Parameters
+    ----------
+    older : str, bytes or path
+        The file with the older roll.
+    path : str, bytes or path
+        The new file.
+    anyway : bool
+        Write even a record that the others do not allow; from then on no standing can be told.
+
+    Raises
+    ------
+    Refused
+        7: not a roll by the former rule; 9: a record that the others do not allow, which is named.
+    OSError
+        The older file cannot be read, there is such a new file, or it cannot be written.
+    """
+    data, new = _read_file(older, _BYTES + 1), EMPTY
+    if not is_roll_former(data):
+        raise Refused(7, "renew", "older", _what_is_wrong(np.frombuffer(data, np.uint8), len(data)))
+    for r in records_former(data):
+        new = appended(new, r.kind, r.set, r.earlier, r.label)
+    _begin(path, new if anyway else _allowed("renew", new))
