@@ -28,7 +28,7 @@ FLAGS = doctest.ELLIPSIS
 
 
 def modules():
-    names = [m.name for m in pkgutil.iter_modules(gullyfork.__path__) if m.name != "__main__" and (phonopy or m.name != "phonopy")]
+    names = [m.name for m in pkgutil.iter_modules(gullyfork.__path__) if m.name not in ("__main__", "libgullyfork") and (phonopy or m.name != "phonopy")]
     return [gullyfork, *(importlib.import_module(f"gullyfork.{name}") for name in names)]
 
 
