@@ -28,7 +28,7 @@
  *
  * THREADS AND STACK
  *   The library has no state, allocates nothing and keeps no pointer, so any number of threads may call it at the same time, on slices that
- *   overlap only where all of them only read. A call takes at most 66 kB of stack, but gf_find_permutation 427 kB at 1,024 positions:
+ *   overlap only where all of them only read. A call takes at most 161 kB of stack, but gf_find_permutation 427 kB at 1,024 positions:
  *   docs/GUIDE.md has each call's, measured.
  *
  * WORK SLICES
@@ -757,6 +757,284 @@ uint8_t gf_audit_fc4(
     const double *fc, size_t fc_len,
     size_t *place, size_t place_len,
     double *numbers, size_t numbers_len,
+    size_t num_atom);
+
+/* ---- reports: how far a set is from what it must obey. Sets are only read ---- */
+
+/*
+ * How far two sets are apart: the worst difference between their numbers, a's minus b's. GF_DRIFT_STILL: all differences are zero, of
+ * either sign; value is 0.0 and place is zeros. GF_DRIFT_WORST: value is the largest absolute value of a difference, place[0] the first
+ * address that has it, place[1] 0. GF_DRIFT_NO_NUMBER: a difference is NaN, as those of two infinities of one sign are; value is NaN,
+ * place[0] the first address of one. A refusal leaves the slots.
+ *   b      as long as a
+ *   value  1, only written
+ *   place  2, only written
+ * Refusals: 2.
+ */
+uint8_t gf_set_difference(
+    const double *a, size_t a_len,
+    const double *b, size_t b_len,
+    double *value, size_t value_len,
+    size_t *place, size_t place_len);
+
+/*
+ * The worst difference between the numbers that the permutations of any two (atom, direction) pairs of a compact set read out: what a
+ * permutation reads minus the number at the address. The answers are those of gf_set_difference; place[0] is the address and place[1] the
+ * permutation, numbered as in gf_audit_compact_fc2. Places are in order of the addresses, then of the permutations.
+ *   fc     n_patom x n_satom x 9
+ *   value  1, only written
+ *   place  2, only written
+ * Refusals: 1 (a count above 1,024), 2, 3, 6.
+ */
+uint8_t gf_difference_report_compact_fc2(
+    const double *fc, size_t fc_len,
+    const int64_t *p2s, size_t p2s_len,
+    const int64_t *s2pp, size_t s2pp_len,
+    const int64_t *nsym_list, size_t nsym_list_len,
+    const int64_t *perms, size_t perms_len,
+    double *value, size_t value_len,
+    size_t *place, size_t place_len,
+    size_t n_satom, size_t n_patom, size_t num_trans);
+
+/*
+ * The same of a full set.
+ *   fc     num_atom x num_atom x 9
+ *   value  1, only written
+ *   place  2, only written
+ * Refusals: 1 (num_atom above 1,024), 2.
+ */
+uint8_t gf_difference_report_fc2(
+    const double *fc, size_t fc_len,
+    double *value, size_t value_len,
+    size_t *place, size_t place_len,
+    size_t num_atom);
+
+/*
+ * As gf_difference_report_compact_fc2, of all six permutations of any three pairs.
+ *   fc     n_patom x n_satom x n_satom x 27
+ *   value  1, only written
+ *   place  2, only written
+ * Refusals: 1 (a count above 256), 2, 3, 6.
+ */
+uint8_t gf_difference_report_compact_fc3(
+    const double *fc, size_t fc_len,
+    const int64_t *p2s, size_t p2s_len,
+    const int64_t *s2pp, size_t s2pp_len,
+    const int64_t *nsym_list, size_t nsym_list_len,
+    const int64_t *perms, size_t perms_len,
+    double *value, size_t value_len,
+    size_t *place, size_t place_len,
+    size_t n_satom, size_t n_patom, size_t num_trans);
+
+/*
+ * The same of a full set.
+ *   fc     num_atom x num_atom x num_atom x 27
+ *   value  1, only written
+ *   place  2, only written
+ * Refusals: 1 (num_atom above 256), 2.
+ */
+uint8_t gf_difference_report_fc3(
+    const double *fc, size_t fc_len,
+    double *value, size_t value_len,
+    size_t *place, size_t place_len,
+    size_t num_atom);
+
+/*
+ * As gf_difference_report_compact_fc2, of all 24 permutations of any four pairs.
+ *   fc     n_patom x n_satom x n_satom x n_satom x 81
+ *   value  1, only written
+ *   place  2, only written
+ * Refusals: 1 (a count above 64), 2, 3, 6.
+ */
+uint8_t gf_difference_report_compact_fc4(
+    const double *fc, size_t fc_len,
+    const int64_t *p2s, size_t p2s_len,
+    const int64_t *s2pp, size_t s2pp_len,
+    const int64_t *nsym_list, size_t nsym_list_len,
+    const int64_t *perms, size_t perms_len,
+    double *value, size_t value_len,
+    size_t *place, size_t place_len,
+    size_t n_satom, size_t n_patom, size_t num_trans);
+
+/*
+ * The same of a full set.
+ *   fc     num_atom x num_atom x num_atom x num_atom x 81
+ *   value  1, only written
+ *   place  2, only written
+ * Refusals: 1 (num_atom above 64), 2.
+ */
+uint8_t gf_difference_report_fc4(
+    const double *fc, size_t fc_len,
+    double *value, size_t value_len,
+    size_t *place, size_t place_len,
+    size_t num_atom);
+
+/*
+ * How far a compact set is from obeying the crystal's own operations: the read-out at the images of the atoms minus the block of the
+ * atoms, rotated on every leg as gf_distribute_fc2 rotates it. Operation r is the matrix in the nine numbers of r_carts from 9 r on, row
+ * after row, and sends atom a to operations[r x n_satom + a]. The answers are those of gf_set_difference; place[0] is the operation and
+ * place[1] the address, and places are in this order. Only stored blocks are looked at: their first atom is a representative.
+ *   fc          n_patom x n_satom x 9
+ *   r_carts     num_rot x 9
+ *   operations  num_rot x n_satom, entries below n_satom
+ *   value       1, only written
+ *   place       2, only written
+ * Refusals: 1 (a count above 1,024, num_rot above 1,024), 2, 3, 6.
+ */
+uint8_t gf_crystal_report_compact_fc2(
+    const double *fc, size_t fc_len,
+    const int64_t *p2s, size_t p2s_len,
+    const int64_t *s2pp, size_t s2pp_len,
+    const int64_t *nsym_list, size_t nsym_list_len,
+    const int64_t *perms, size_t perms_len,
+    const double *r_carts, size_t r_carts_len,
+    const int64_t *operations, size_t operations_len,
+    double *value, size_t value_len,
+    size_t *place, size_t place_len,
+    size_t n_satom, size_t n_patom, size_t num_trans, size_t num_rot);
+
+/*
+ * The same of a full set.
+ *   fc          num_atom x num_atom x 9
+ *   r_carts     num_rot x 9
+ *   operations  num_rot x num_atom, entries below num_atom
+ *   value       1, only written
+ *   place       2, only written
+ * Refusals: 1 (num_atom above 1,024, num_rot above 1,024), 2, 3.
+ */
+uint8_t gf_crystal_report_fc2(
+    const double *fc, size_t fc_len,
+    const double *r_carts, size_t r_carts_len,
+    const int64_t *operations, size_t operations_len,
+    double *value, size_t value_len,
+    size_t *place, size_t place_len,
+    size_t num_atom, size_t num_rot);
+
+/*
+ * As gf_crystal_report_compact_fc2, at third order.
+ *   fc          n_patom x n_satom x n_satom x 27
+ *   r_carts     num_rot x 9
+ *   operations  num_rot x n_satom, entries below n_satom
+ *   value       1, only written
+ *   place       2, only written
+ * Refusals: 1 (a count above 256, num_rot above 1,024), 2, 3, 6.
+ */
+uint8_t gf_crystal_report_compact_fc3(
+    const double *fc, size_t fc_len,
+    const int64_t *p2s, size_t p2s_len,
+    const int64_t *s2pp, size_t s2pp_len,
+    const int64_t *nsym_list, size_t nsym_list_len,
+    const int64_t *perms, size_t perms_len,
+    const double *r_carts, size_t r_carts_len,
+    const int64_t *operations, size_t operations_len,
+    double *value, size_t value_len,
+    size_t *place, size_t place_len,
+    size_t n_satom, size_t n_patom, size_t num_trans, size_t num_rot);
+
+/*
+ * The same of a full set.
+ *   fc          num_atom x num_atom x num_atom x 27
+ *   r_carts     num_rot x 9
+ *   operations  num_rot x num_atom, entries below num_atom
+ *   value       1, only written
+ *   place       2, only written
+ * Refusals: 1 (num_atom above 256, num_rot above 1,024), 2, 3.
+ */
+uint8_t gf_crystal_report_fc3(
+    const double *fc, size_t fc_len,
+    const double *r_carts, size_t r_carts_len,
+    const int64_t *operations, size_t operations_len,
+    double *value, size_t value_len,
+    size_t *place, size_t place_len,
+    size_t num_atom, size_t num_rot);
+
+/*
+ * As gf_crystal_report_compact_fc2, at fourth order.
+ *   fc          n_patom x n_satom x n_satom x n_satom x 81
+ *   r_carts     num_rot x 9
+ *   operations  num_rot x n_satom, entries below n_satom
+ *   value       1, only written
+ *   place       2, only written
+ * Refusals: 1 (a count above 64, num_rot above 1,024), 2, 3, 6.
+ */
+uint8_t gf_crystal_report_compact_fc4(
+    const double *fc, size_t fc_len,
+    const int64_t *p2s, size_t p2s_len,
+    const int64_t *s2pp, size_t s2pp_len,
+    const int64_t *nsym_list, size_t nsym_list_len,
+    const int64_t *perms, size_t perms_len,
+    const double *r_carts, size_t r_carts_len,
+    const int64_t *operations, size_t operations_len,
+    double *value, size_t value_len,
+    size_t *place, size_t place_len,
+    size_t n_satom, size_t n_patom, size_t num_trans, size_t num_rot);
+
+/*
+ * The same of a full set.
+ *   fc          num_atom x num_atom x num_atom x num_atom x 81
+ *   r_carts     num_rot x 9
+ *   operations  num_rot x num_atom, entries below num_atom
+ *   value       1, only written
+ *   place       2, only written
+ * Refusals: 1 (num_atom above 64, num_rot above 1,024), 2, 3.
+ */
+uint8_t gf_crystal_report_fc4(
+    const double *fc, size_t fc_len,
+    const double *r_carts, size_t r_carts_len,
+    const int64_t *operations, size_t operations_len,
+    double *value, size_t value_len,
+    size_t *place, size_t place_len,
+    size_t num_atom, size_t num_rot);
+
+/*
+ * How far the sums over each leg of the third-order set that a compact set reads out to are from zero, by the rule of gf_drift_report; the full set is
+ * not made. The answers are those of gf_set_difference. place[0] is ((2 - leg) x n + a) x n + b, a and b the atoms of the two other legs, and place[1] (k x 3 + l) x 3 + m, the directions.
+ * The sums over the last leg come first.
+ *   fc     n_patom x n_satom x n_satom x 27
+ *   value  1, only written
+ *   place  2, only written
+ * Refusals: 1 (a count above 256), 2, 3, 6.
+ */
+uint8_t gf_drift_report_compact_fc3(
+    const double *fc, size_t fc_len,
+    const int64_t *p2s, size_t p2s_len,
+    const int64_t *s2pp, size_t s2pp_len,
+    const int64_t *nsym_list, size_t nsym_list_len,
+    const int64_t *perms, size_t perms_len,
+    double *value, size_t value_len,
+    size_t *place, size_t place_len,
+    size_t n_satom, size_t n_patom, size_t num_trans);
+
+/*
+ * How far the sums over each leg of the fourth-order set that a compact set reads out to are from zero, by the rule of gf_drift_report; the full set is
+ * not made. The answers are those of gf_set_difference. place[0] is (((3 - leg) x n + a) x n + b) x n + c, the atoms of the three other legs, and place[1] the position of the directions in a block of 81.
+ * The sums over the last leg come first.
+ *   fc     n_patom x n_satom x n_satom x n_satom x 81
+ *   value  1, only written
+ *   place  2, only written
+ * Refusals: 1 (a count above 64), 2, 3, 6.
+ */
+uint8_t gf_drift_report_compact_fc4(
+    const double *fc, size_t fc_len,
+    const int64_t *p2s, size_t p2s_len,
+    const int64_t *s2pp, size_t s2pp_len,
+    const int64_t *nsym_list, size_t nsym_list_len,
+    const int64_t *perms, size_t perms_len,
+    double *value, size_t value_len,
+    size_t *place, size_t place_len,
+    size_t n_satom, size_t n_patom, size_t num_trans);
+
+/*
+ * The same of a full set of fourth order.
+ *   fc     num_atom x num_atom x num_atom x num_atom x 81
+ *   value  1, only written
+ *   place  2, only written
+ * Refusals: 1 (num_atom above 64), 2.
+ */
+uint8_t gf_drift_report_fc4(
+    const double *fc, size_t fc_len,
+    double *value, size_t value_len,
+    size_t *place, size_t place_len,
     size_t num_atom);
 
 /* ---- a delivery roll ---- */

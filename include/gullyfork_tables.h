@@ -527,6 +527,141 @@ static inline uint8_t gft_audit_fc4(struct gf_numbers fc, struct gf_difference *
     GF_SAY(GF_LENGTH(fc, num_atom * num_atom * num_atom * num_atom * 81), GF_COUNT(num_atom, 64));
 }
 
+/* ---- reports ---- */
+
+static inline uint8_t gft_set_difference(struct gf_numbers a, struct gf_numbers b, struct gf_report *report, struct gf_why *why)
+{
+    const uint8_t answer = gf_set_difference(GF_SLICE(a), GF_SLICE(b), &report->value, 1, report->place, 2);
+    GF_SAY(GF_LENGTH(b, a.length));
+}
+
+static inline uint8_t gft_difference_report_compact_fc2(
+    struct gf_numbers fc, const struct gf_tables *tables, struct gf_report *report, struct gf_why *why)
+{
+    GF_OPEN(tables);
+    const uint8_t answer = gf_difference_report_compact_fc2(GF_SLICE(fc), GF_TABLES, &report->value, 1, report->place, 2, GF_COUNTS);
+    GF_SAY(GF_LENGTH(fc, n_patom * n_satom * 9), GF_TABLES_SAID(1024));
+}
+
+static inline uint8_t gft_difference_report_fc2(struct gf_numbers fc, struct gf_report *report, size_t num_atom, struct gf_why *why)
+{
+    const uint8_t answer = gf_difference_report_fc2(GF_SLICE(fc), &report->value, 1, report->place, 2, num_atom);
+    GF_SAY(GF_LENGTH(fc, num_atom * num_atom * 9), GF_COUNT(num_atom, 1024));
+}
+
+static inline uint8_t gft_difference_report_compact_fc3(
+    struct gf_numbers fc, const struct gf_tables *tables, struct gf_report *report, struct gf_why *why)
+{
+    GF_OPEN(tables);
+    const uint8_t answer = gf_difference_report_compact_fc3(GF_SLICE(fc), GF_TABLES, &report->value, 1, report->place, 2, GF_COUNTS);
+    GF_SAY(GF_LENGTH(fc, n_patom * n_satom * n_satom * 27), GF_TABLES_SAID(256));
+}
+
+static inline uint8_t gft_difference_report_fc3(struct gf_numbers fc, struct gf_report *report, size_t num_atom, struct gf_why *why)
+{
+    const uint8_t answer = gf_difference_report_fc3(GF_SLICE(fc), &report->value, 1, report->place, 2, num_atom);
+    GF_SAY(GF_LENGTH(fc, num_atom * num_atom * num_atom * 27), GF_COUNT(num_atom, 256));
+}
+
+static inline uint8_t gft_difference_report_compact_fc4(
+    struct gf_numbers fc, const struct gf_tables *tables, struct gf_report *report, struct gf_why *why)
+{
+    GF_OPEN(tables);
+    const uint8_t answer = gf_difference_report_compact_fc4(GF_SLICE(fc), GF_TABLES, &report->value, 1, report->place, 2, GF_COUNTS);
+    GF_SAY(GF_LENGTH(fc, n_patom * n_satom * n_satom * n_satom * 81), GF_TABLES_SAID(64));
+}
+
+static inline uint8_t gft_difference_report_fc4(struct gf_numbers fc, struct gf_report *report, size_t num_atom, struct gf_why *why)
+{
+    const uint8_t answer = gf_difference_report_fc4(GF_SLICE(fc), &report->value, 1, report->place, 2, num_atom);
+    GF_SAY(GF_LENGTH(fc, num_atom * num_atom * num_atom * num_atom * 81), GF_COUNT(num_atom, 64));
+}
+
+static inline uint8_t gft_crystal_report_compact_fc2(
+    struct gf_numbers fc, const struct gf_tables *tables, struct gf_numbers r_carts, struct gf_indices operations, size_t num_rot,
+    struct gf_report *report, struct gf_why *why)
+{
+    GF_OPEN(tables);
+    const uint8_t answer = gf_crystal_report_compact_fc2(
+        GF_SLICE(fc), GF_TABLES, GF_SLICE(r_carts), GF_SLICE(operations), &report->value, 1, report->place, 2, GF_COUNTS, num_rot);
+    GF_SAY(GF_LENGTH(fc, n_patom * n_satom * 9), GF_TABLES_SAID(1024), GF_LENGTH(r_carts, num_rot * 9),
+           GF_LENGTH(operations, num_rot * n_satom), GF_ENTRIES(operations, n_satom), GF_COUNT(num_rot, 1024));
+}
+
+static inline uint8_t gft_crystal_report_fc2(
+    struct gf_numbers fc, struct gf_numbers r_carts, struct gf_indices operations, size_t num_rot, struct gf_report *report, size_t num_atom,
+    struct gf_why *why)
+{
+    const uint8_t answer = gf_crystal_report_fc2(
+        GF_SLICE(fc), GF_SLICE(r_carts), GF_SLICE(operations), &report->value, 1, report->place, 2, num_atom, num_rot);
+    GF_SAY(GF_LENGTH(fc, num_atom * num_atom * 9), GF_LENGTH(r_carts, num_rot * 9),
+           GF_LENGTH(operations, num_rot * num_atom), GF_ENTRIES(operations, num_atom), GF_COUNT(num_atom, 1024), GF_COUNT(num_rot, 1024));
+}
+
+static inline uint8_t gft_crystal_report_compact_fc3(
+    struct gf_numbers fc, const struct gf_tables *tables, struct gf_numbers r_carts, struct gf_indices operations, size_t num_rot,
+    struct gf_report *report, struct gf_why *why)
+{
+    GF_OPEN(tables);
+    const uint8_t answer = gf_crystal_report_compact_fc3(
+        GF_SLICE(fc), GF_TABLES, GF_SLICE(r_carts), GF_SLICE(operations), &report->value, 1, report->place, 2, GF_COUNTS, num_rot);
+    GF_SAY(GF_LENGTH(fc, n_patom * n_satom * n_satom * 27), GF_TABLES_SAID(256), GF_LENGTH(r_carts, num_rot * 9),
+           GF_LENGTH(operations, num_rot * n_satom), GF_ENTRIES(operations, n_satom), GF_COUNT(num_rot, 1024));
+}
+
+static inline uint8_t gft_crystal_report_fc3(
+    struct gf_numbers fc, struct gf_numbers r_carts, struct gf_indices operations, size_t num_rot, struct gf_report *report, size_t num_atom,
+    struct gf_why *why)
+{
+    const uint8_t answer = gf_crystal_report_fc3(
+        GF_SLICE(fc), GF_SLICE(r_carts), GF_SLICE(operations), &report->value, 1, report->place, 2, num_atom, num_rot);
+    GF_SAY(GF_LENGTH(fc, num_atom * num_atom * num_atom * 27), GF_LENGTH(r_carts, num_rot * 9),
+           GF_LENGTH(operations, num_rot * num_atom), GF_ENTRIES(operations, num_atom), GF_COUNT(num_atom, 256), GF_COUNT(num_rot, 1024));
+}
+
+static inline uint8_t gft_crystal_report_compact_fc4(
+    struct gf_numbers fc, const struct gf_tables *tables, struct gf_numbers r_carts, struct gf_indices operations, size_t num_rot,
+    struct gf_report *report, struct gf_why *why)
+{
+    GF_OPEN(tables);
+    const uint8_t answer = gf_crystal_report_compact_fc4(
+        GF_SLICE(fc), GF_TABLES, GF_SLICE(r_carts), GF_SLICE(operations), &report->value, 1, report->place, 2, GF_COUNTS, num_rot);
+    GF_SAY(GF_LENGTH(fc, n_patom * n_satom * n_satom * n_satom * 81), GF_TABLES_SAID(64), GF_LENGTH(r_carts, num_rot * 9),
+           GF_LENGTH(operations, num_rot * n_satom), GF_ENTRIES(operations, n_satom), GF_COUNT(num_rot, 1024));
+}
+
+static inline uint8_t gft_crystal_report_fc4(
+    struct gf_numbers fc, struct gf_numbers r_carts, struct gf_indices operations, size_t num_rot, struct gf_report *report, size_t num_atom,
+    struct gf_why *why)
+{
+    const uint8_t answer = gf_crystal_report_fc4(
+        GF_SLICE(fc), GF_SLICE(r_carts), GF_SLICE(operations), &report->value, 1, report->place, 2, num_atom, num_rot);
+    GF_SAY(GF_LENGTH(fc, num_atom * num_atom * num_atom * num_atom * 81), GF_LENGTH(r_carts, num_rot * 9),
+           GF_LENGTH(operations, num_rot * num_atom), GF_ENTRIES(operations, num_atom), GF_COUNT(num_atom, 64), GF_COUNT(num_rot, 1024));
+}
+
+static inline uint8_t gft_drift_report_compact_fc3(
+    struct gf_numbers fc, const struct gf_tables *tables, struct gf_report *report, struct gf_why *why)
+{
+    GF_OPEN(tables);
+    const uint8_t answer = gf_drift_report_compact_fc3(GF_SLICE(fc), GF_TABLES, &report->value, 1, report->place, 2, GF_COUNTS);
+    GF_SAY(GF_LENGTH(fc, n_patom * n_satom * n_satom * 27), GF_TABLES_SAID(256));
+}
+
+static inline uint8_t gft_drift_report_compact_fc4(
+    struct gf_numbers fc, const struct gf_tables *tables, struct gf_report *report, struct gf_why *why)
+{
+    GF_OPEN(tables);
+    const uint8_t answer = gf_drift_report_compact_fc4(GF_SLICE(fc), GF_TABLES, &report->value, 1, report->place, 2, GF_COUNTS);
+    GF_SAY(GF_LENGTH(fc, n_patom * n_satom * n_satom * n_satom * 81), GF_TABLES_SAID(64));
+}
+
+static inline uint8_t gft_drift_report_fc4(struct gf_numbers fc, struct gf_report *report, size_t num_atom, struct gf_why *why)
+{
+    const uint8_t answer = gf_drift_report_fc4(GF_SLICE(fc), &report->value, 1, report->place, 2, num_atom);
+    GF_SAY(GF_LENGTH(fc, num_atom * num_atom * num_atom * num_atom * 81), GF_COUNT(num_atom, 64));
+}
+
 /* ---- a delivery roll: the calls that write one keep its count ---- */
 
 static inline bool gft_is_roll(const struct gf_roll *roll)

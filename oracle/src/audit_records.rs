@@ -6,7 +6,7 @@ use crate::makers;
 use crate::record::{counted, float_word, report, Record, Replay};
 use crate::rng::Rng;
 use crate::shifts::Tables;
-use crate::spoil::spoil;
+use crate::spoil::{at_limits, spoil};
 use crate::values;
 
 /// The most numbers of a set, entries of a table and of perms, slots of a place and of numbers.
@@ -113,6 +113,16 @@ fn refused(r: &mut Rng, name: Name) -> Made {
     made
 }
 
+/// Every count at its limit and one above, with the lengths of a small call.
+fn limited(r: &mut Rng, name: Name) -> Vec<Made> {
+    let mut made = make(r, name);
+    while !fits(&made.call) || made.call.set.is_empty() {
+        made = make(r, name);
+    }
+    made.call.set = values::floats(made.call.set.len(), made.seed, made.kind);
+    at_limits(&made.call).into_iter().map(|call| Made { call, seed: made.seed, kind: made.kind, single: vec![] }).collect()
+}
+
 const NAMES: [Name; 9] = [
     Name::SameSet,
     Name::Compact(2),
@@ -142,6 +152,11 @@ pub fn replay() -> Replay {
                     some += 1;
                 }
             }
+        }
+    }
+    for name in NAMES {
+        if name != Name::SameSet {
+            calls.extend(limited(&mut r, name));
         }
     }
     let records: Vec<Record> = calls.iter().map(record).collect();

@@ -163,6 +163,81 @@ extern "C" {
         fc: *const f64, fc_len: usize, place: *mut usize, place_len: usize, numbers: *mut f64, numbers_len: usize,
         num_atom: usize,
     ) -> u8;
+    pub fn gf_set_difference(
+        a: *const f64, a_len: usize, b: *const f64, b_len: usize, value: *mut f64, value_len: usize, place: *mut usize,
+        place_len: usize,
+    ) -> u8;
+    pub fn gf_difference_report_compact_fc2(
+        fc: *const f64, fc_len: usize, p2s: *const i64, p2s_len: usize, s2pp: *const i64, s2pp_len: usize, nsym_list: *const
+        i64, nsym_list_len: usize, perms: *const i64, perms_len: usize, value: *mut f64, value_len: usize, place: *mut usize,
+        place_len: usize, n_satom: usize, n_patom: usize, num_trans: usize,
+    ) -> u8;
+    pub fn gf_difference_report_fc2(
+        fc: *const f64, fc_len: usize, value: *mut f64, value_len: usize, place: *mut usize, place_len: usize, num_atom:
+        usize,
+    ) -> u8;
+    pub fn gf_crystal_report_compact_fc2(
+        fc: *const f64, fc_len: usize, p2s: *const i64, p2s_len: usize, s2pp: *const i64, s2pp_len: usize, nsym_list: *const
+        i64, nsym_list_len: usize, perms: *const i64, perms_len: usize, r_carts: *const f64, r_carts_len: usize, operations:
+        *const i64, operations_len: usize, value: *mut f64, value_len: usize, place: *mut usize, place_len: usize, n_satom:
+        usize, n_patom: usize, num_trans: usize, num_rot: usize,
+    ) -> u8;
+    pub fn gf_crystal_report_fc2(
+        fc: *const f64, fc_len: usize, r_carts: *const f64, r_carts_len: usize, operations: *const i64, operations_len: usize,
+        value: *mut f64, value_len: usize, place: *mut usize, place_len: usize, num_atom: usize, num_rot: usize,
+    ) -> u8;
+    pub fn gf_difference_report_compact_fc3(
+        fc: *const f64, fc_len: usize, p2s: *const i64, p2s_len: usize, s2pp: *const i64, s2pp_len: usize, nsym_list: *const
+        i64, nsym_list_len: usize, perms: *const i64, perms_len: usize, value: *mut f64, value_len: usize, place: *mut usize,
+        place_len: usize, n_satom: usize, n_patom: usize, num_trans: usize,
+    ) -> u8;
+    pub fn gf_difference_report_fc3(
+        fc: *const f64, fc_len: usize, value: *mut f64, value_len: usize, place: *mut usize, place_len: usize, num_atom:
+        usize,
+    ) -> u8;
+    pub fn gf_crystal_report_compact_fc3(
+        fc: *const f64, fc_len: usize, p2s: *const i64, p2s_len: usize, s2pp: *const i64, s2pp_len: usize, nsym_list: *const
+        i64, nsym_list_len: usize, perms: *const i64, perms_len: usize, r_carts: *const f64, r_carts_len: usize, operations:
+        *const i64, operations_len: usize, value: *mut f64, value_len: usize, place: *mut usize, place_len: usize, n_satom:
+        usize, n_patom: usize, num_trans: usize, num_rot: usize,
+    ) -> u8;
+    pub fn gf_crystal_report_fc3(
+        fc: *const f64, fc_len: usize, r_carts: *const f64, r_carts_len: usize, operations: *const i64, operations_len: usize,
+        value: *mut f64, value_len: usize, place: *mut usize, place_len: usize, num_atom: usize, num_rot: usize,
+    ) -> u8;
+    pub fn gf_difference_report_compact_fc4(
+        fc: *const f64, fc_len: usize, p2s: *const i64, p2s_len: usize, s2pp: *const i64, s2pp_len: usize, nsym_list: *const
+        i64, nsym_list_len: usize, perms: *const i64, perms_len: usize, value: *mut f64, value_len: usize, place: *mut usize,
+        place_len: usize, n_satom: usize, n_patom: usize, num_trans: usize,
+    ) -> u8;
+    pub fn gf_difference_report_fc4(
+        fc: *const f64, fc_len: usize, value: *mut f64, value_len: usize, place: *mut usize, place_len: usize, num_atom:
+        usize,
+    ) -> u8;
+    pub fn gf_crystal_report_compact_fc4(
+        fc: *const f64, fc_len: usize, p2s: *const i64, p2s_len: usize, s2pp: *const i64, s2pp_len: usize, nsym_list: *const
+        i64, nsym_list_len: usize, perms: *const i64, perms_len: usize, r_carts: *const f64, r_carts_len: usize, operations:
+        *const i64, operations_len: usize, value: *mut f64, value_len: usize, place: *mut usize, place_len: usize, n_satom:
+        usize, n_patom: usize, num_trans: usize, num_rot: usize,
+    ) -> u8;
+    pub fn gf_crystal_report_fc4(
+        fc: *const f64, fc_len: usize, r_carts: *const f64, r_carts_len: usize, operations: *const i64, operations_len: usize,
+        value: *mut f64, value_len: usize, place: *mut usize, place_len: usize, num_atom: usize, num_rot: usize,
+    ) -> u8;
+    pub fn gf_drift_report_compact_fc3(
+        fc: *const f64, fc_len: usize, p2s: *const i64, p2s_len: usize, s2pp: *const i64, s2pp_len: usize, nsym_list: *const
+        i64, nsym_list_len: usize, perms: *const i64, perms_len: usize, value: *mut f64, value_len: usize, place: *mut usize,
+        place_len: usize, n_satom: usize, n_patom: usize, num_trans: usize,
+    ) -> u8;
+    pub fn gf_drift_report_compact_fc4(
+        fc: *const f64, fc_len: usize, p2s: *const i64, p2s_len: usize, s2pp: *const i64, s2pp_len: usize, nsym_list: *const
+        i64, nsym_list_len: usize, perms: *const i64, perms_len: usize, value: *mut f64, value_len: usize, place: *mut usize,
+        place_len: usize, n_satom: usize, n_patom: usize, num_trans: usize,
+    ) -> u8;
+    pub fn gf_drift_report_fc4(
+        fc: *const f64, fc_len: usize, value: *mut f64, value_len: usize, place: *mut usize, place_len: usize, num_atom:
+        usize,
+    ) -> u8;
     pub fn gf_is_roll(lent: *const u8, lent_len: usize, count: usize) -> bool;
     pub fn gf_read_roll(
         lent: *const u8, lent_len: usize, count: usize, at: usize, slots: *mut usize, slots_len: usize,

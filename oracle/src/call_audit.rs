@@ -53,7 +53,7 @@ pub struct Audit {
 }
 
 /// All orders of 0, 1, .., n - 1, as the Rust lists them: by the first, then by the second, and so on.
-fn orders(n: usize) -> Vec<Vec<usize>> {
+pub fn orders(n: usize) -> Vec<Vec<usize>> {
     let mut all = vec![vec![]];
     for _ in 0..n {
         all = all.into_iter().flat_map(|o: Vec<usize>| (0..n).filter(|k| !o.contains(k)).map(|k| [&o[..], &[k]].concat()).collect::<Vec<_>>()).collect();
@@ -68,12 +68,12 @@ fn stored(t: &Tables, legs: &[(usize, usize)]) -> usize {
     legs.iter().fold(block, |place, leg| place * 3 + leg.1)
 }
 
-fn read_out(t: &Tables, set: &[f64], legs: &[(usize, usize)]) -> f64 {
+pub fn read_out(t: &Tables, set: &[f64], legs: &[(usize, usize)]) -> f64 {
     set[stored(t, legs)]
 }
 
 /// The legs whose number stands at a place: the first atom is the one that stands for the primitive cell's.
-fn legs_at(t: &Tables, order: usize, place: usize) -> Vec<(usize, usize)> {
+pub fn legs_at(t: &Tables, order: usize, place: usize) -> Vec<(usize, usize)> {
     let mut rest = place;
     let mut legs = vec![(0, 0); order];
     for leg in legs.iter_mut().rev() {

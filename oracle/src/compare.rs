@@ -1,13 +1,14 @@
 //! The port against the originals, call by call.
 use crate::call::Call;
 use crate::call_compact::Name;
+use crate::call_report::Family;
 use crate::compare_limits::limits;
 use crate::rng::Rng;
 use crate::tally::Tally;
-use crate::{call_audit, compare_agree, compare_common, compare_lists, compare_roll, compare_row_sums, compare_true, makers, port};
+use crate::{call_audit, call_report, compare_agree, compare_common, compare_lists, compare_roll, compare_row_sums, compare_true, makers, port};
 
 /// Every public call, the lists of transposes, the read-outs of the true ones, the lists of swaps, whole rolls, older rolls, series of edits and the two ways to a full set, in the order in which they are compared.
-pub const CALLS: [&str; 55] = [
+pub const CALLS: [&str; 71] = [
     "nint",
     "round",
     "sqrt",
@@ -63,6 +64,22 @@ pub const CALLS: [&str; 55] = [
     "audit_fc4",
     "drift_report_compact_fc2",
     "drift_report_fc3",
+    "set_difference",
+    "difference_report_compact_fc2",
+    "difference_report_fc2",
+    "difference_report_compact_fc3",
+    "difference_report_fc3",
+    "difference_report_compact_fc4",
+    "difference_report_fc4",
+    "crystal_report_compact_fc2",
+    "crystal_report_fc2",
+    "crystal_report_compact_fc3",
+    "crystal_report_fc3",
+    "crystal_report_compact_fc4",
+    "crystal_report_fc4",
+    "drift_report_compact_fc3",
+    "drift_report_compact_fc4",
+    "drift_report_fc4",
 ];
 
 /// Of nint, round and sqrt so many patterns are tried for each call of the others.
@@ -126,6 +143,22 @@ fn run(tally: &mut Tally, r: &mut Rng, count: u64) {
         "audit_fc4" => beside(tally, r, count, |r| call_audit::make(r, call_audit::Name::Full(4))),
         "drift_report_compact_fc2" => beside(tally, r, count, |r| call_audit::make(r, call_audit::Name::DriftCompact)),
         "drift_report_fc3" => beside(tally, r, count, |r| call_audit::make(r, call_audit::Name::DriftLegs)),
+        "set_difference" => beside(tally, r, count, |r| call_report::make(r, Family::Sets, 2, false)),
+        "difference_report_compact_fc2" => beside(tally, r, count, |r| call_report::make(r, Family::Orders, 2, true)),
+        "difference_report_fc2" => beside(tally, r, count, |r| call_report::make(r, Family::Orders, 2, false)),
+        "difference_report_compact_fc3" => beside(tally, r, count, |r| call_report::make(r, Family::Orders, 3, true)),
+        "difference_report_fc3" => beside(tally, r, count, |r| call_report::make(r, Family::Orders, 3, false)),
+        "difference_report_compact_fc4" => beside(tally, r, count, |r| call_report::make(r, Family::Orders, 4, true)),
+        "difference_report_fc4" => beside(tally, r, count, |r| call_report::make(r, Family::Orders, 4, false)),
+        "crystal_report_compact_fc2" => beside(tally, r, count, |r| call_report::make(r, Family::Crystal, 2, true)),
+        "crystal_report_fc2" => beside(tally, r, count, |r| call_report::make(r, Family::Crystal, 2, false)),
+        "crystal_report_compact_fc3" => beside(tally, r, count, |r| call_report::make(r, Family::Crystal, 3, true)),
+        "crystal_report_fc3" => beside(tally, r, count, |r| call_report::make(r, Family::Crystal, 3, false)),
+        "crystal_report_compact_fc4" => beside(tally, r, count, |r| call_report::make(r, Family::Crystal, 4, true)),
+        "crystal_report_fc4" => beside(tally, r, count, |r| call_report::make(r, Family::Crystal, 4, false)),
+        "drift_report_compact_fc3" => beside(tally, r, count, |r| call_report::make(r, Family::Legs, 3, true)),
+        "drift_report_compact_fc4" => beside(tally, r, count, |r| call_report::make(r, Family::Legs, 4, true)),
+        "drift_report_fc4" => beside(tally, r, count, |r| call_report::make(r, Family::Legs, 4, false)),
         _ => compare_lists::same_order(tally, r, count),
     }
 }

@@ -319,6 +319,18 @@ fn refused(order: u32, r: &mut Rng) -> Vec<Call> {
     calls
 }
 
+/// Each count at its limit and one above, with the lengths as they were.
+fn at_limits(base: &Call) -> Vec<Call> {
+    let n = limit(base.order);
+    let changes: [fn(&mut Tables, usize); 3] = [|t, n| t.n_satom = n, |t, n| t.n_patom = n, |t, n| t.num_trans = n];
+    let changed = |change: &fn(&mut Tables, usize), n: usize| {
+        let mut call = base.clone();
+        change(&mut call.tables, n);
+        call
+    };
+    changes.iter().flat_map(|change| [changed(change, n), changed(change, n + 1)]).collect()
+}
+
 /// Lists of transposes: each call is lent the set as the call before left it; every third is refused.
 fn lists(order: u32, name: Name, r: &mut Rng) -> Vec<Call> {
     let mut calls = vec![];
@@ -383,6 +395,7 @@ fn true_calls(order: u32, r: &mut Rng) -> Vec<Call> {
     let mut call = Call::new(order, Name::True, if order == 2 { 0 } else { 7 }, 0, tables(&cyclic(3), 1, Some(r)));
     call.tables.nsym_list.swap(0, 1);
     calls.push(call);
+    calls.extend(at_limits(&Call::new(order, Name::True, 0, 0, tables(&z2, 1, Some(r)))));
     calls.extend(lists(order, Name::True, r));
     calls
 }
@@ -398,6 +411,8 @@ fn swap_calls(r: &mut Rng) -> Vec<Call> {
         calls.extend((0..16).map(|k| Call::new(4, Name::Swap, legs(k / 4, k % 4), k as u64 % KINDS, t.clone())));
     }
     let base = Call::new(4, Name::Swap, legs(2, 0), 0, tables(&z2, 2, Some(r)));
+    calls.extend((0..16).map(|k| Call { t_type: legs(k / 4, k % 4), kind: k as u64 % KINDS, ..base.clone() }));
+    calls.extend(at_limits(&base));
     calls.extend(damaged(&base, r));
     for (a, b) in [(4, 0), (0, 4), (4, 4), (7, 3), (1, 6)] {
         let call = Call { t_type: legs(a, b), ..base.clone() };

@@ -21,6 +21,7 @@ mod call_finding;
 mod call_full;
 mod call_matching;
 mod call_read_out;
+mod call_report;
 mod call_slabs;
 mod call_tables;
 #[cfg(test)]

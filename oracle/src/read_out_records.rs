@@ -4,7 +4,8 @@ use crate::call_read_out::ReadOut;
 use crate::groups::random_tables;
 use crate::record::{counted, report, Record, Replay};
 use crate::rng::Rng;
-use crate::spoil::perhaps_spoilt;
+use crate::shifts::{cyclic, tables};
+use crate::spoil::{at_limits, perhaps_spoilt};
 use crate::values::{fill, sum, KINDS};
 
 /// The words of a record: what document 01 answers and what the full slice holds then, as a checksum; the call. Both sets are made from seeds.
@@ -40,6 +41,7 @@ pub fn replay() -> Replay {
             perhaps_spoilt(&mut r, call)
         };
         calls.extend((0..4000).map(|_| make()).filter(small).take(120));
+        calls.extend(at_limits(&ReadOut::new(order, tables(&cyclic(2), 1, None))));
     }
     let records: Vec<Record> = calls.iter_mut().enumerate().map(|(k, call)| record(call, 11000 + k as u64)).collect();
     let stdout = report("full sets", &records, 1);

@@ -28,6 +28,17 @@ fn count<C: Call>(r: &mut Rng, call: &mut C) {
     }
 }
 
+/// The call with each of its counts at its limit and one above, and every length as it was: 2 and 1.
+pub fn at_limits<C: Call>(call: &C) -> Vec<C> {
+    let limits: Vec<usize> = call.clone().parts().counts.iter().map(|(_, limit)| *limit).collect();
+    let changed = |k: usize, n: usize| {
+        let mut call = call.clone();
+        *call.parts().counts[k].0 = n;
+        call
+    };
+    limits.iter().enumerate().flat_map(|(k, limit)| [changed(k, *limit), changed(k, limit + 1)]).collect()
+}
+
 /// All counts zero but one, which is at its limit or next to it; the lengths follow.
 fn at_limit<C: Call>(r: &mut Rng, call: &mut C) {
     let mut parts = call.parts();

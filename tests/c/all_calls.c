@@ -946,6 +946,92 @@ static void stated_permutations(void) {
     }
 }
 
+/* reports: the worst of all differences and the first place that has it; a refused call leaves the slots */
+static void set_differences(void) {
+    double a[] = {1.0, -0.0, 3.0}, b[] = {1.0, 0.0, 3.0}, value[1] = {7.0};
+    size_t place[2] = {5, 6};
+    CHECK(gf_set_difference(S(a), b, 2, S(value), S(place)) == GF_WRONG_LENGTH && place[0] == 5 && value[0] == 7.0);
+    CHECK(gf_set_difference(S(a), S(b), value, 0, S(place)) == GF_WRONG_LENGTH && gf_set_difference(S(a), S(b), S(value), place, 1) == GF_WRONG_LENGTH);
+    CHECK(gf_set_difference(S(a), S(b), S(value), S(place)) == GF_DRIFT_STILL && same_bits(value[0], 0.0) && place[0] == 0 && place[1] == 0);
+    b[0] = 0.5, b[2] = 3.5;
+    CHECK(gf_set_difference(S(a), S(b), S(value), S(place)) == GF_DRIFT_WORST && value[0] == 0.5 && place[0] == 0 && place[1] == 0);
+    b[2] = 4.0;
+    CHECK(gf_set_difference(S(a), S(b), S(value), S(place)) == GF_DRIFT_WORST && value[0] == 1.0 && place[0] == 2);
+    a[1] = b[1] = INFINITY;
+    CHECK(gf_set_difference(S(a), S(b), S(value), S(place)) == GF_DRIFT_NO_NUMBER && isnan(value[0]) && place[0] == 1);
+    CHECK(gf_set_difference(a, 0, b, 0, S(value), S(place)) == GF_DRIFT_STILL);
+}
+
+static void difference_reports(void) {
+    double value[1] = {7.0}, fc[36] = {0}, three[27] = {0}, fc3[27], fc4[81];
+    size_t place[2] = {5, 6};
+    fc[10] = 2.0, fc[21] = 2.5; /* (0, x), (1, y) and (1, y), (0, x) */
+    CHECK(gf_difference_report_fc2(S(fc), S(value), S(place), 1025) == GF_COUNT_ABOVE_LIMIT && gf_difference_report_fc2(S(fc), S(value), place, 1, 1025) == GF_COUNT_ABOVE_LIMIT);
+    CHECK(gf_difference_report_fc2(S(fc), S(value), place, 1, 2) == GF_WRONG_LENGTH && gf_difference_report_fc2(fc, 35, S(value), S(place), 2) == GF_WRONG_LENGTH);
+    CHECK(place[0] == 5 && value[0] == 7.0);
+    CHECK(gf_difference_report_fc2(S(fc), S(value), S(place), 2) == GF_DRIFT_WORST && value[0] == 0.5 && place[0] == 10 && place[1] == 1);
+    fc[21] = 2.0;
+    CHECK(gf_difference_report_fc2(S(fc), S(value), S(place), 2) == GF_DRIFT_STILL && value[0] == 0.0 && place[0] == 0);
+    fc[35] = INFINITY;
+    CHECK(gf_difference_report_fc2(S(fc), S(value), S(place), 2) == GF_DRIFT_NO_NUMBER && place[0] == 35 && place[1] == 0);
+    CHECK(gf_difference_report_fc2(fc, 0, S(value), S(place), 0) == GF_DRIFT_STILL);
+    three[13] = 1.0, three[22] = -1.0; /* blocks (0, 1) and (0, 2) are each other's exchange */
+    CHECK(gf_difference_report_compact_fc2(S(three), THREE, S(value), S(place), 3, 1, 3) == GF_DRIFT_WORST && value[0] == 2.0 && place[0] == 13 && place[1] == 1);
+    CHECK(gf_difference_report_compact_fc2(S(three), S(three_p2s), S(three_s2pp), S(three_wrong), S(three_perms), S(value), S(place), 3, 1, 3) == GF_BAD_SHIFT_TABLES);
+    CHECK(gf_difference_report_compact_fc2(S(three), S(beyond), S(three_s2pp), S(three_nsym), S(three_perms), S(value), S(place), 3, 1, 3) == GF_INDEX_OUT_OF_RANGE);
+    CHECK(gf_difference_report_compact_fc2(S(three), THREE, S(value), place, 3, 3, 1, 1025) == GF_COUNT_ABOVE_LIMIT && place[0] == 13);
+    count_up(fc3, 27), count_up(fc4, 81);
+    CHECK(gf_difference_report_fc3(S(fc3), S(value), S(place), 1) == GF_DRIFT_WORST && value[0] == 16.0 && place[0] == 2 && place[1] == 4);
+    CHECK(gf_difference_report_compact_fc3(S(fc3), ONE, S(value), S(place), 1, 1, 1) == GF_DRIFT_WORST && value[0] == 16.0);
+    CHECK(gf_difference_report_fc3(S(fc3), S(value), S(place), 257) == GF_COUNT_ABOVE_LIMIT && gf_difference_report_compact_fc3(S(fc3), ONE, S(value), S(place), 1, 1, 257) == GF_COUNT_ABOVE_LIMIT);
+    CHECK(gf_difference_report_fc4(S(fc4), S(value), S(place), 1) == GF_DRIFT_WORST && value[0] == 64.0);
+    CHECK(gf_difference_report_compact_fc4(S(fc4), ONE, S(value), S(place), 1, 1, 1) == GF_DRIFT_WORST && value[0] == 64.0);
+    CHECK(gf_difference_report_fc4(S(fc4), S(value), S(place), 65) == GF_COUNT_ABOVE_LIMIT && gf_difference_report_compact_fc4(S(fc4), ONE, S(value), S(place), 65, 1, 1) == GF_COUNT_ABOVE_LIMIT);
+}
+
+static void crystal_reports(void) {
+    /* a quarter turn about z, and a mirror; both leave the one atom where it is */
+    double r_carts[] = {0, -1, 0, 1, 0, 0, 0, 0, 1, 1, 0, 0, 0, -1, 0, 0, 0, 1};
+    int64_t operations[] = {0, 0}, outside[] = {0, 1};
+    double value[1] = {7.0}, fc[9] = {2, 0, 0, 0, 2, 0, 0, 0, 3}, fc3[27] = {0}, fc4[81] = {0};
+    size_t place[2] = {5, 6};
+    CHECK(gf_crystal_report_fc2(S(fc), S(r_carts), S(operations), S(value), S(place), 1, 2) == GF_DRIFT_STILL && place[0] == 0);
+    fc[4] = 2.5;
+    CHECK(gf_crystal_report_fc2(S(fc), S(r_carts), S(operations), S(value), S(place), 1, 2) == GF_DRIFT_WORST && value[0] == 0.5 && place[0] == 0 && place[1] == 0);
+    fc[4] = 2, fc[2] = 1;
+    CHECK(gf_crystal_report_compact_fc2(S(fc), ONE, S(r_carts), S(operations), S(value), S(place), 1, 1, 1, 2) == GF_DRIFT_WORST && value[0] == 1.0 && place[1] == 2);
+    fc[2] = 0, fc[1] = fc[3] = 1; /* the mirror changes its sign, the turn too */
+    CHECK(gf_crystal_report_compact_fc2(S(fc), ONE, S(r_carts), S(operations), S(value), S(place), 1, 1, 1, 2) == GF_DRIFT_WORST && value[0] == 2.0 && place[0] == 0);
+    CHECK(gf_crystal_report_fc2(S(fc), S(r_carts), S(outside), S(value), S(place), 1, 2) == GF_INDEX_OUT_OF_RANGE && value[0] == 2.0);
+    CHECK(gf_crystal_report_fc2(S(fc), r_carts, 9, S(operations), S(value), S(place), 1, 2) == GF_WRONG_LENGTH);
+    CHECK(gf_crystal_report_fc2(S(fc), S(r_carts), operations, 1, S(value), S(place), 1, 2) == GF_WRONG_LENGTH);
+    CHECK(gf_crystal_report_fc2(S(fc), S(r_carts), S(operations), S(value), place, 1, 1, 1025) == GF_COUNT_ABOVE_LIMIT);
+    CHECK(gf_crystal_report_fc2(S(fc), S(r_carts), S(operations), S(value), S(place), 1, 1025) == GF_COUNT_ABOVE_LIMIT);
+    CHECK(gf_crystal_report_fc2(S(fc), r_carts, 0, operations, 0, S(value), S(place), 1, 0) == GF_DRIFT_STILL);
+    CHECK(gf_crystal_report_fc3(S(fc3), S(r_carts), S(operations), S(value), S(place), 1, 2) == GF_DRIFT_STILL);
+    CHECK(gf_crystal_report_compact_fc3(S(fc3), ONE, S(r_carts), S(operations), S(value), S(place), 1, 1, 1, 2) == GF_DRIFT_STILL);
+    fc3[13] = 1; /* y y y: the turn makes it x x x, the mirror changes its sign */
+    CHECK(gf_crystal_report_fc3(S(fc3), S(r_carts), S(operations), S(value), S(place), 1, 2) == GF_DRIFT_WORST && value[0] == 2.0 && place[0] == 1 && place[1] == 13);
+    CHECK(gf_crystal_report_compact_fc3(S(fc3), ONE, S(r_carts), S(operations), S(value), S(place), 257, 1, 1, 2) == GF_COUNT_ABOVE_LIMIT);
+    CHECK(gf_crystal_report_fc4(S(fc4), S(r_carts), S(operations), S(value), S(place), 1, 2) == GF_DRIFT_STILL);
+    fc4[0] = 1;
+    CHECK(gf_crystal_report_compact_fc4(S(fc4), ONE, S(r_carts), S(operations), S(value), S(place), 1, 1, 1, 2) == GF_DRIFT_WORST && value[0] == 1.0);
+    CHECK(gf_crystal_report_compact_fc4(S(fc4), ONE, S(r_carts), S(outside), S(value), S(place), 1, 1, 1, 2) == GF_INDEX_OUT_OF_RANGE);
+}
+
+static void leg_sums(void) {
+    double value[1] = {7.0}, fc3[27] = {0}, fc4[81] = {0};
+    size_t place[2] = {5, 6};
+    CHECK(gf_drift_report_compact_fc3(S(fc3), ONE, S(value), S(place), 1, 1, 1) == GF_DRIFT_STILL && place[0] == 0 && place[1] == 0);
+    fc3[5] = 2.0;
+    CHECK(gf_drift_report_compact_fc3(S(fc3), ONE, S(value), S(place), 1, 1, 1) == GF_DRIFT_WORST && value[0] == 2.0 && place[0] == 0 && place[1] == 5);
+    CHECK(gf_drift_report_compact_fc3(S(fc3), ONE, S(value), S(place), 1, 1, 257) == GF_COUNT_ABOVE_LIMIT && place[1] == 5);
+    fc4[80] = -3.0;
+    CHECK(gf_drift_report_fc4(S(fc4), S(value), S(place), 1) == GF_DRIFT_WORST && value[0] == 3.0 && place[0] == 0 && place[1] == 80);
+    CHECK(gf_drift_report_compact_fc4(S(fc4), ONE, S(value), S(place), 1, 1, 1) == GF_DRIFT_WORST && value[0] == 3.0);
+    CHECK(gf_drift_report_fc4(S(fc4), S(value), S(place), 65) == GF_COUNT_ABOVE_LIMIT && gf_drift_report_fc4(S(fc4), S(value), S(place), 2) == GF_WRONG_LENGTH);
+}
+
 int main(void) {
     about();
     stated_distances();
@@ -980,6 +1066,10 @@ int main(void) {
     audits_second_order();
     audits_third_order();
     audits_fourth_order();
+    set_differences();
+    difference_reports();
+    crystal_reports();
+    leg_sums();
     printf("%d of %d hold\n", checks - failures, checks);
     return failures != 0;
 }

@@ -19,7 +19,7 @@
     SLICE(double, pos) SLICE(double, rot_pos) SLICE(int64_t, p2s) SLICE(int64_t, s2pp) SLICE(int64_t, nsym_list) SLICE(int64_t, perms) \
     SLICE(int64_t, atom_list) SLICE(int64_t, fc_indices_of_atom_list) SLICE(int64_t, permutations) SLICE(int64_t, map_atoms) \
     SLICE(int64_t, map_syms) SLICE(int64_t, atom_mapping) SLICE(int64_t, rot_map_syms) SLICE(int64_t, rot_atom) \
-    SLICE(int64_t, atom_list_reverse) SLICE(uint8_t, done) SLICE(uint8_t, marks)
+    SLICE(int64_t, operations) SLICE(int64_t, atom_list_reverse) SLICE(uint8_t, done) SLICE(uint8_t, marks)
 
 /* what a call may be given; each slice has one element more than its length, so that a length that is one too large can be tried */
 struct input {
@@ -135,6 +135,29 @@ CALL(audit_fc3, (r->full_len = FULL3), (S(full), FOUND, r->num_atom), (NUMBERS(f
 CALL(audit_compact_fc4, (r->set_len = COMPACT4), (S(set), T, FOUND, N), (NUMBERS(set), TABLES, &r->found, why))
 CALL(audit_fc4, (r->full_len = FULL4), (S(full), FOUND, r->num_atom), (NUMBERS(full), &r->found, r->num_atom, why))
 
+CALL(set_difference, (r->set_len = r->other_len = COMPACT2), (S(set), S(other), REPORT(2)), (NUMBERS(set), NUMBERS(other), &r->report, why))
+CALL(difference_report_compact_fc2, (r->set_len = COMPACT2), (S(set), T, REPORT(2), N), (NUMBERS(set), TABLES, &r->report, why))
+CALL(difference_report_fc2, (r->full_len = FULL2), (S(full), REPORT(2), r->num_atom), (NUMBERS(full), &r->report, r->num_atom, why))
+CALL(difference_report_compact_fc3, (r->set_len = COMPACT3), (S(set), T, REPORT(2), N), (NUMBERS(set), TABLES, &r->report, why))
+CALL(difference_report_fc3, (r->full_len = FULL3), (S(full), REPORT(2), r->num_atom), (NUMBERS(full), &r->report, r->num_atom, why))
+CALL(difference_report_compact_fc4, (r->set_len = COMPACT4), (S(set), T, REPORT(2), N), (NUMBERS(set), TABLES, &r->report, why))
+CALL(difference_report_fc4, (r->full_len = FULL4), (S(full), REPORT(2), r->num_atom), (NUMBERS(full), &r->report, r->num_atom, why))
+CALL(crystal_report_compact_fc2, (r->set_len = COMPACT2, r->operations_len = r->num_rot * r->n_satom), (S(set), T, S(r_carts), S(operations), REPORT(2), N, r->num_rot),
+     (NUMBERS(set), TABLES, NUMBERS(r_carts), INDICES(operations), r->num_rot, &r->report, why))
+CALL(crystal_report_fc2, (r->full_len = FULL2, r->operations_len = r->num_rot * r->num_atom), (S(full), S(r_carts), S(operations), REPORT(2), r->num_atom, r->num_rot),
+     (NUMBERS(full), NUMBERS(r_carts), INDICES(operations), r->num_rot, &r->report, r->num_atom, why))
+CALL(crystal_report_compact_fc3, (r->set_len = COMPACT3, r->operations_len = r->num_rot * r->n_satom), (S(set), T, S(r_carts), S(operations), REPORT(2), N, r->num_rot),
+     (NUMBERS(set), TABLES, NUMBERS(r_carts), INDICES(operations), r->num_rot, &r->report, why))
+CALL(crystal_report_fc3, (r->full_len = FULL3, r->operations_len = r->num_rot * r->num_atom), (S(full), S(r_carts), S(operations), REPORT(2), r->num_atom, r->num_rot),
+     (NUMBERS(full), NUMBERS(r_carts), INDICES(operations), r->num_rot, &r->report, r->num_atom, why))
+CALL(crystal_report_compact_fc4, (r->set_len = COMPACT4, r->operations_len = r->num_rot * r->n_satom), (S(set), T, S(r_carts), S(operations), REPORT(2), N, r->num_rot),
+     (NUMBERS(set), TABLES, NUMBERS(r_carts), INDICES(operations), r->num_rot, &r->report, why))
+CALL(crystal_report_fc4, (r->full_len = FULL4, r->operations_len = r->num_rot * r->num_atom), (S(full), S(r_carts), S(operations), REPORT(2), r->num_atom, r->num_rot),
+     (NUMBERS(full), NUMBERS(r_carts), INDICES(operations), r->num_rot, &r->report, r->num_atom, why))
+CALL(drift_report_compact_fc3, (r->set_len = COMPACT3), (S(set), T, REPORT(2), N), (NUMBERS(set), TABLES, &r->report, why))
+CALL(drift_report_compact_fc4, (r->set_len = COMPACT4), (S(set), T, REPORT(2), N), (NUMBERS(set), TABLES, &r->report, why))
+CALL(drift_report_fc4, (r->full_len = FULL4), (S(full), REPORT(2), r->num_atom), (NUMBERS(full), &r->report, r->num_atom, why))
+
 /* ---- what is stated of the arguments ---- */
 
 /* an argument: the refusal that it is the reason of if it is wrong, its name, where its length, count, index or table is, its limit, and
@@ -222,6 +245,28 @@ static const struct call calls[] = {
     {NAMED(audit_fc3), 3, false, {LENGTH(full, "fc"), COUNT(num_atom, 256)}},
     {NAMED(audit_compact_fc4), 4, true, {LENGTH(set, "fc"), TABLES_SAID(64)}},
     {NAMED(audit_fc4), 4, false, {LENGTH(full, "fc"), COUNT(num_atom, 64)}},
+    {NAMED(set_difference), 2, true, {LENGTH(other, "b")}},
+    {NAMED(difference_report_compact_fc2), 2, true, {LENGTH(set, "fc"), TABLES_SAID(1024)}},
+    {NAMED(difference_report_fc2), 2, false, {LENGTH(full, "fc"), COUNT(num_atom, 1024)}},
+    {NAMED(difference_report_compact_fc3), 3, true, {LENGTH(set, "fc"), TABLES_SAID(256)}},
+    {NAMED(difference_report_fc3), 3, false, {LENGTH(full, "fc"), COUNT(num_atom, 256)}},
+    {NAMED(difference_report_compact_fc4), 4, true, {LENGTH(set, "fc"), TABLES_SAID(64)}},
+    {NAMED(difference_report_fc4), 4, false, {LENGTH(full, "fc"), COUNT(num_atom, 64)}},
+    {NAMED(crystal_report_compact_fc2), 2, true,
+     {LENGTH(set, "fc"), TABLES_SAID(1024), LENGTH(r_carts, "r_carts"), LENGTH(operations, "operations"), ENTRIES(operations, n_satom), COUNT(num_rot, 1024)}},
+    {NAMED(crystal_report_fc2), 2, false,
+     {LENGTH(full, "fc"), LENGTH(r_carts, "r_carts"), LENGTH(operations, "operations"), ENTRIES(operations, num_atom), COUNT(num_atom, 1024), COUNT(num_rot, 1024)}},
+    {NAMED(crystal_report_compact_fc3), 3, true,
+     {LENGTH(set, "fc"), TABLES_SAID(256), LENGTH(r_carts, "r_carts"), LENGTH(operations, "operations"), ENTRIES(operations, n_satom), COUNT(num_rot, 1024)}},
+    {NAMED(crystal_report_fc3), 3, false,
+     {LENGTH(full, "fc"), LENGTH(r_carts, "r_carts"), LENGTH(operations, "operations"), ENTRIES(operations, num_atom), COUNT(num_atom, 256), COUNT(num_rot, 1024)}},
+    {NAMED(crystal_report_compact_fc4), 4, true,
+     {LENGTH(set, "fc"), TABLES_SAID(64), LENGTH(r_carts, "r_carts"), LENGTH(operations, "operations"), ENTRIES(operations, n_satom), COUNT(num_rot, 1024)}},
+    {NAMED(crystal_report_fc4), 4, false,
+     {LENGTH(full, "fc"), LENGTH(r_carts, "r_carts"), LENGTH(operations, "operations"), ENTRIES(operations, num_atom), COUNT(num_atom, 64), COUNT(num_rot, 1024)}},
+    {NAMED(drift_report_compact_fc3), 3, true, {LENGTH(set, "fc"), TABLES_SAID(256)}},
+    {NAMED(drift_report_compact_fc4), 4, true, {LENGTH(set, "fc"), TABLES_SAID(64)}},
+    {NAMED(drift_report_fc4), 4, false, {LENGTH(full, "fc"), COUNT(num_atom, 64)}},
 };
 
 enum { CALLS = sizeof calls / sizeof *calls };
@@ -299,6 +344,8 @@ static struct input input_of(const struct call *c, struct size size)
     fill_positions(r, size.staircase);
     for (size_t k = 0; k < r->atom_list_len; k++)
         r->atom_list[k] = (int64_t)(k % r->num_pos), r->fc_indices_of_atom_list[k] = (int64_t)(k % r->num_first);
+    for (size_t k = 0; k < r->operations_len; k++)
+        r->operations[k] = (int64_t)(k % (r->operations_len / r->num_rot));
     for (size_t k = 0; k < r->num_pos; k++)
         r->permutations[k] = (int64_t)k, r->permutations[r->num_pos + k] = (int64_t)(r->num_pos - 1 - k), r->map_syms[k] = (int64_t)(k % 2);
     memset(r->done, 7, r->done_len), memset(r->marks, 7, r->marks_len);

@@ -10,7 +10,7 @@
 #include <stdio.h>
 #include <ucontext.h>
 
-enum { STACK = 1 << 20, PAINT = 0xA5, NAMES = 64 };
+enum { STACK = 1 << 20, PAINT = 0xA5, NAMES = 96 };
 
 static ucontext_t caller, callee;
 static void (*todo)(void);

@@ -102,7 +102,7 @@ static void other_refusals(void)
         struct input r = input_of(call, small), before = input_of(call, small);
         r.nsym_list[1] = before.nsym_list[1] = 0, r.map_atoms[0] = before.map_atoms[0] = 4;
         r.block[0] = before.block[0] = 0.1;
-        const uint8_t answer = call->layer(&r, &why), tables = strcmp(call->name, "same_set") != 0 && call->compact;
+        const uint8_t answer = call->layer(&r, &why), tables = strcmp(call->name, "same_set") != 0 && strcmp(call->name, "set_difference") != 0 && call->compact;
         const uint8_t refusal = tables                                         ? GF_BAD_SHIFT_TABLES
                               : strcmp(call->name, "distribute_fc2") == 0    ? GF_BAD_REPRESENTATIVE
                               : strcmp(call->name, "replace_block_fc2") == 0 ? GF_OFF_GRID

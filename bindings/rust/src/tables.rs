@@ -33,6 +33,7 @@ use crate::fc3::{self, LegReport};
 use crate::fc4;
 use crate::ffi::call;
 use crate::refused::{count, entries, index, length, refused, slab, Refused, Stated};
+use crate::report::{self, CrystalReport, LegSums, Report};
 use crate::{answer, Refusal};
 
 /// Whether shift tables keep every rule, as every compact call of second order judges them: row t of `perms` sends atom a to
@@ -624,4 +625,167 @@ pub fn audit_compact_fc4(fc: &[f64], tables: &Tables) -> Result<Audit, Refused> 
 pub fn audit_fc4(fc: &[f64], num_atom: usize) -> Result<Audit, Refused> {
     audit::audit_fc4(fc, num_atom)
         .map_err(|r| refused(r, "audit_fc4", &[length!(fc, num_atom * num_atom * num_atom * num_atom * 81), count!(num_atom, 64)]))
+}
+
+// ---- reports
+
+/// [`report::set_difference`].
+pub fn set_difference(a: &[f64], b: &[f64]) -> Result<Report, Refused> {
+    report::set_difference(a, b).map_err(|r| refused(r, "set_difference", &[length!(b, a.len())]))
+}
+
+/// [`report::difference_report_compact_fc2`].
+pub fn difference_report_compact_fc2(fc: &[f64], tables: &Tables) -> Result<Report, Refused> {
+    open!(tables, p2s, s2pp, nsym_list, perms, n_satom, n_patom);
+    report::difference_report_compact_fc2(fc, p2s, s2pp, nsym_list, perms, n_satom, n_patom)
+        .map_err(|r| tables.refused(r, "difference_report_compact_fc2", 1024, &[length!(fc, n_patom * n_satom * 9)]))
+}
+
+/// [`report::difference_report_fc2`].
+pub fn difference_report_fc2(fc: &[f64], num_atom: usize) -> Result<Report, Refused> {
+    report::difference_report_fc2(fc, num_atom)
+        .map_err(|r| refused(r, "difference_report_fc2", &[length!(fc, num_atom * num_atom * 9), count!(num_atom, 1024)]))
+}
+
+/// [`report::difference_report_compact_fc3`].
+pub fn difference_report_compact_fc3(fc: &[f64], tables: &Tables) -> Result<Report, Refused> {
+    open!(tables, p2s, s2pp, nsym_list, perms, n_satom, n_patom);
+    report::difference_report_compact_fc3(fc, p2s, s2pp, nsym_list, perms, n_satom, n_patom)
+        .map_err(|r| tables.refused(r, "difference_report_compact_fc3", 256, &[length!(fc, n_patom * n_satom * n_satom * 27)]))
+}
+
+/// [`report::difference_report_fc3`].
+pub fn difference_report_fc3(fc: &[f64], num_atom: usize) -> Result<Report, Refused> {
+    report::difference_report_fc3(fc, num_atom)
+        .map_err(|r| refused(r, "difference_report_fc3", &[length!(fc, num_atom * num_atom * num_atom * 27), count!(num_atom, 256)]))
+}
+
+/// [`report::difference_report_compact_fc4`].
+pub fn difference_report_compact_fc4(fc: &[f64], tables: &Tables) -> Result<Report, Refused> {
+    open!(tables, p2s, s2pp, nsym_list, perms, n_satom, n_patom);
+    report::difference_report_compact_fc4(fc, p2s, s2pp, nsym_list, perms, n_satom, n_patom)
+        .map_err(|r| tables.refused(r, "difference_report_compact_fc4", 64, &[length!(fc, n_patom * n_satom * n_satom * n_satom * 81)]))
+}
+
+/// [`report::difference_report_fc4`].
+pub fn difference_report_fc4(fc: &[f64], num_atom: usize) -> Result<Report, Refused> {
+    report::difference_report_fc4(fc, num_atom).map_err(|r| {
+        refused(r, "difference_report_fc4", &[length!(fc, num_atom * num_atom * num_atom * num_atom * 81), count!(num_atom, 64)])
+    })
+}
+
+/// [`report::crystal_report_compact_fc2`].
+pub fn crystal_report_compact_fc2(fc: &[f64], tables: &Tables, r_carts: &[f64], operations: &[i64]) -> Result<CrystalReport, Refused> {
+    open!(tables, p2s, s2pp, nsym_list, perms, n_satom, n_patom);
+    report::crystal_report_compact_fc2(fc, p2s, s2pp, nsym_list, perms, r_carts, operations, n_satom, n_patom).map_err(|r| {
+        let num_rot = r_carts.len() / 9;
+        let stated = [
+            length!(fc, n_patom * n_satom * 9),
+            length!(r_carts, num_rot * 9),
+            length!(operations, num_rot * n_satom),
+            entries!(operations, n_satom),
+            count!(num_rot, 1024),
+        ];
+        tables.refused(r, "crystal_report_compact_fc2", 1024, &stated)
+    })
+}
+
+/// [`report::crystal_report_fc2`].
+pub fn crystal_report_fc2(fc: &[f64], r_carts: &[f64], operations: &[i64], num_atom: usize) -> Result<CrystalReport, Refused> {
+    report::crystal_report_fc2(fc, r_carts, operations, num_atom).map_err(|r| {
+        let num_rot = r_carts.len() / 9;
+        let stated = [
+            length!(fc, num_atom * num_atom * 9),
+            length!(r_carts, num_rot * 9),
+            length!(operations, num_rot * num_atom),
+            entries!(operations, num_atom),
+            count!(num_atom, 1024),
+            count!(num_rot, 1024),
+        ];
+        refused(r, "crystal_report_fc2", &stated)
+    })
+}
+
+/// [`report::crystal_report_compact_fc3`].
+pub fn crystal_report_compact_fc3(fc: &[f64], tables: &Tables, r_carts: &[f64], operations: &[i64]) -> Result<CrystalReport, Refused> {
+    open!(tables, p2s, s2pp, nsym_list, perms, n_satom, n_patom);
+    report::crystal_report_compact_fc3(fc, p2s, s2pp, nsym_list, perms, r_carts, operations, n_satom, n_patom).map_err(|r| {
+        let num_rot = r_carts.len() / 9;
+        let stated = [
+            length!(fc, n_patom * n_satom * n_satom * 27),
+            length!(r_carts, num_rot * 9),
+            length!(operations, num_rot * n_satom),
+            entries!(operations, n_satom),
+            count!(num_rot, 1024),
+        ];
+        tables.refused(r, "crystal_report_compact_fc3", 256, &stated)
+    })
+}
+
+/// [`report::crystal_report_fc3`].
+pub fn crystal_report_fc3(fc: &[f64], r_carts: &[f64], operations: &[i64], num_atom: usize) -> Result<CrystalReport, Refused> {
+    report::crystal_report_fc3(fc, r_carts, operations, num_atom).map_err(|r| {
+        let num_rot = r_carts.len() / 9;
+        let stated = [
+            length!(fc, num_atom * num_atom * num_atom * 27),
+            length!(r_carts, num_rot * 9),
+            length!(operations, num_rot * num_atom),
+            entries!(operations, num_atom),
+            count!(num_atom, 256),
+            count!(num_rot, 1024),
+        ];
+        refused(r, "crystal_report_fc3", &stated)
+    })
+}
+
+/// [`report::crystal_report_compact_fc4`].
+pub fn crystal_report_compact_fc4(fc: &[f64], tables: &Tables, r_carts: &[f64], operations: &[i64]) -> Result<CrystalReport, Refused> {
+    open!(tables, p2s, s2pp, nsym_list, perms, n_satom, n_patom);
+    report::crystal_report_compact_fc4(fc, p2s, s2pp, nsym_list, perms, r_carts, operations, n_satom, n_patom).map_err(|r| {
+        let num_rot = r_carts.len() / 9;
+        let stated = [
+            length!(fc, n_patom * n_satom * n_satom * n_satom * 81),
+            length!(r_carts, num_rot * 9),
+            length!(operations, num_rot * n_satom),
+            entries!(operations, n_satom),
+            count!(num_rot, 1024),
+        ];
+        tables.refused(r, "crystal_report_compact_fc4", 64, &stated)
+    })
+}
+
+/// [`report::crystal_report_fc4`].
+pub fn crystal_report_fc4(fc: &[f64], r_carts: &[f64], operations: &[i64], num_atom: usize) -> Result<CrystalReport, Refused> {
+    report::crystal_report_fc4(fc, r_carts, operations, num_atom).map_err(|r| {
+        let num_rot = r_carts.len() / 9;
+        let stated = [
+            length!(fc, num_atom * num_atom * num_atom * num_atom * 81),
+            length!(r_carts, num_rot * 9),
+            length!(operations, num_rot * num_atom),
+            entries!(operations, num_atom),
+            count!(num_atom, 64),
+            count!(num_rot, 1024),
+        ];
+        refused(r, "crystal_report_fc4", &stated)
+    })
+}
+
+/// [`report::drift_report_compact_fc3`].
+pub fn drift_report_compact_fc3(fc: &[f64], tables: &Tables) -> Result<LegSums, Refused> {
+    open!(tables, p2s, s2pp, nsym_list, perms, n_satom, n_patom);
+    report::drift_report_compact_fc3(fc, p2s, s2pp, nsym_list, perms, n_satom, n_patom)
+        .map_err(|r| tables.refused(r, "drift_report_compact_fc3", 256, &[length!(fc, n_patom * n_satom * n_satom * 27)]))
+}
+
+/// [`report::drift_report_compact_fc4`].
+pub fn drift_report_compact_fc4(fc: &[f64], tables: &Tables) -> Result<LegSums, Refused> {
+    open!(tables, p2s, s2pp, nsym_list, perms, n_satom, n_patom);
+    report::drift_report_compact_fc4(fc, p2s, s2pp, nsym_list, perms, n_satom, n_patom)
+        .map_err(|r| tables.refused(r, "drift_report_compact_fc4", 64, &[length!(fc, n_patom * n_satom * n_satom * n_satom * 81)]))
+}
+
+/// [`report::drift_report_fc4`].
+pub fn drift_report_fc4(fc: &[f64], num_atom: usize) -> Result<LegSums, Refused> {
+    report::drift_report_fc4(fc, num_atom)
+        .map_err(|r| refused(r, "drift_report_fc4", &[length!(fc, num_atom * num_atom * num_atom * num_atom * 81), count!(num_atom, 64)]))
 }

@@ -1,5 +1,5 @@
 //! Refused calls leave every slice, counts beyond every limit cost no memory, and work memory has no influence and ends in zeros.
-use gullyfork::{audit, audit::Audit, cells, cells::MatchError, fc2, fc3, fc4, roll, tables, Refusal};
+use gullyfork::{audit, audit::Audit, cells, cells::MatchError, fc2, fc3, fc4, report, roll, tables, Refusal};
 
 const HUGE: usize = usize::MAX;
 const IDENTITY: [f64; 9] = [1.0, 0.0, 0.0, 0.0, 1.0, 0.0, 0.0, 0.0, 1.0];
@@ -58,6 +58,14 @@ fn audits_and_drifts_refuse_as_the_calls_of_their_order() {
     assert_eq!(audit::audit_fc3(&set[..26], 1), Err(wrong));
     assert_eq!(fc3::drift_report_fc3(&set[..26], 1), Err(wrong));
     assert_eq!(audit::same_set(&set, &set[..26]), Err(wrong));
+    assert_eq!(report::set_difference(&set, &set[..26]), Err(wrong));
+    assert_eq!(report::difference_report_fc2(&set, 1025), Err(above));
+    assert_eq!(report::difference_report_fc3(&set[..26], 1), Err(wrong));
+    assert_eq!(report::difference_report_compact_fc2(&set, &[0], &[0; 3], &[0, 1, 2], &ROWS, 3, 1), Err(Refusal::BadShiftTables));
+    assert_eq!(report::crystal_report_fc3(&set, &[0.0; 9], &[1], 1), Err(Refusal::IndexOutOfRange));
+    assert_eq!(report::crystal_report_fc4(&set, &[0.0; 9], &[0], 65), Err(above));
+    assert_eq!(report::drift_report_fc4(&set, 65), Err(above));
+    assert_eq!(report::drift_report_compact_fc3(&set, &[], &[], &[], &[], 1, 257), Err(above));
     assert_eq!(audit::audit_compact_fc2(&set, &[0], &[0; 3], &[0, 1, 2], &ROWS, 3, 1), Err(Refusal::BadShiftTables));
     assert_eq!(fc2::drift_report_compact_fc2(&set, &[3], &[0; 3], &[0, 2, 1], &ROWS, 3, 1), Err(Refusal::IndexOutOfRange));
 }

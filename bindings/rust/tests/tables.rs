@@ -2,7 +2,7 @@
 //! slices, and the error names the argument that is wrong. Each slice is tried one element short and one too long, each count above its
 //! limit, each index table with an entry below and one above its range.
 use gullyfork::tables::{self, Cell, Displaced, Listed, Match, Tables};
-use gullyfork::{audit, cells, cells::MatchError, fc2, fc3, fc4, Argument, Refusal, Refused};
+use gullyfork::{audit, cells, cells::MatchError, fc2, fc3, fc4, report, Argument, Refusal, Refused};
 use std::fmt::Debug;
 
 /// What a call may be given. Compact sets have two atoms in the primitive cell and four shifts in a circle, one of them a half shift.
@@ -303,6 +303,11 @@ fn compact_sets_that_are_read() {
     reading!(audit::audit_compact_fc2, C2, 1024);
     reading!(audit::audit_compact_fc3, C3, 256);
     reading!(audit::audit_compact_fc4, C4, 64);
+    reading!(report::difference_report_compact_fc2, C2, 1024);
+    reading!(report::difference_report_compact_fc3, C3, 256);
+    reading!(report::difference_report_compact_fc4, C4, 64);
+    reading!(report::drift_report_compact_fc3, C3, 256);
+    reading!(report::drift_report_compact_fc4, C4, 64);
     read_out!(fc2::compact_to_full_fc2, "fc2" C2, 8 * 8 * 9, 1024);
     read_out!(fc3::compact_to_full_fc3, "fc3" C3, 8 * 8 * 8 * 27, 256);
     read_out!(fc4::compact_to_full_fc4, "fc4" C4, 8 * 8 * 8 * 8 * 81, 64);
@@ -343,6 +348,10 @@ fn full_sets() {
     whole!(audit::audit_fc2(&full, num_atom), "fc" 144, 1024);
     whole!(audit::audit_fc3(&full, num_atom), "fc" 64 * 27, 256);
     whole!(audit::audit_fc4(&full, num_atom), "fc" 256 * 81, 64);
+    whole!(report::difference_report_fc2(&full, num_atom), "fc" 144, 1024);
+    whole!(report::difference_report_fc3(&full, num_atom), "fc" 64 * 27, 256);
+    whole!(report::difference_report_fc4(&full, num_atom), "fc" 256 * 81, 64);
+    whole!(report::drift_report_fc4(&full, num_atom), "fc" 256 * 81, 64);
     beside(
         "perm_trans_symmetrize_fc",
         input(0, 576, 0),
@@ -378,6 +387,59 @@ fn full_sets() {
         |w| said(audit::same_set(&w.set, &w.other)),
         |w| said(tables::same_set(&w.set, &w.other)),
     );
+    beside(
+        "set_difference",
+        input(30, 0, 0),
+        vec![lengths!("b" other)],
+        |w| said(report::set_difference(&w.set, &w.other)),
+        |w| said(tables::set_difference(&w.set, &w.other)),
+    );
+}
+
+/// The crystal's operations: their number follows from the length of the matrices.
+#[test]
+fn crystal_operations() {
+    macro_rules! of_operations {
+        ($atoms:literal) => {
+            vec![
+                ("num_rot", Refusal::CountAboveLimit, (|w: &mut Input| w.r_carts = vec![0.0; 9 * 1025]) as fn(&mut Input)),
+                ("operations", Refusal::IndexOutOfRange, |w: &mut Input| w.permutations[0] = -1),
+                ("operations", Refusal::IndexOutOfRange, |w: &mut Input| w.permutations[2 * $atoms - 1] = $atoms),
+            ]
+        };
+    }
+    macro_rules! compact_crystal {
+        ($name:ident, $len:expr, $limit:literal) => {{
+            let mut good = input($len, 0, 0);
+            good.permutations = good.perms[..12].to_vec();
+            beside(
+                stringify!($name),
+                good,
+                vec![lengths!("fc" set, "r_carts" r_carts, "operations" permutations), of_tables!($limit), of_operations!(6)],
+                |w| said(report::$name(&w.set, &w.p2s, &w.s2pp, &w.nsym_list, &w.perms, &w.r_carts, &w.permutations, w.n_satom, w.n_patom)),
+                |w| said(tables::$name(&w.set, &w.tables()?, &w.r_carts, &w.permutations)),
+            )
+        }};
+    }
+    macro_rules! full_crystal {
+        ($name:ident, $len:expr, $limit:literal) => {{
+            let mut good = input(0, $len, 0);
+            good.permutations = vec![0, 1, 2, 3, 1, 2, 3, 0];
+            beside(
+                stringify!($name),
+                good,
+                vec![lengths!("fc" full, "r_carts" r_carts, "operations" permutations), counts!($limit: num_atom), of_operations!(4)],
+                |w| said(report::$name(&w.full, &w.r_carts, &w.permutations, w.num_atom)),
+                |w| said(tables::$name(&w.full, &w.r_carts, &w.permutations, w.num_atom)),
+            )
+        }};
+    }
+    compact_crystal!(crystal_report_compact_fc2, C2, 1024);
+    compact_crystal!(crystal_report_compact_fc3, C3, 256);
+    compact_crystal!(crystal_report_compact_fc4, C4, 64);
+    full_crystal!(crystal_report_fc2, 144, 1024);
+    full_crystal!(crystal_report_fc3, 64 * 27, 256);
+    full_crystal!(crystal_report_fc4, 256 * 81, 64);
 }
 
 #[test]
@@ -534,7 +596,9 @@ fn every_call_is_here() {
         }
         assert!(functions.contains(&format!("pub fn {name}(")), "src/tables.rs has no {name}");
         assert!(
-            [format!("::{name}("), format!("::{name},"), format!(", {name}("), format!(", {name},")].iter().any(|n| tried.contains(n)),
+            [format!("::{name}("), format!("::{name},"), format!(", {name}("), format!(", {name},"), format!("_crystal!({name},")]
+                .iter()
+                .any(|n| tried.contains(n)),
             "{name} is not tried"
         );
         seen += 1;

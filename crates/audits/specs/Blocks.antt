@@ -106,7 +106,7 @@ module _ (S : Shifts) (L : Laws S) (m : ℕ) (os : List (List ℕ)) (t : List �
     at-bs : (i : ℕ) → i < length os → getD bs i 0 ≡ counterpart S m (getD os i []) b
     at-bs i h = ap (λ l. getD l i 0) eb ∙ (unfold groupBlocks in getD-map (λ σ. counterpart S m σ b) os i [] 0 h)
 
-    there-is : (i k : ℕ) → i < length os → k < c → there c bs t set i k ≡ reads S m os set (b * c + k) (getD os i [])
+    pub there-is : (i k : ℕ) → i < length os → k < c → there c bs t set i k ≡ reads S m os set (b * c + k) (getD os i [])
     unfolding there
     there-is i k hi hk =
         ap₂ (λ a p. getD set (a * c + p) nan) (at-bs i hi) (O .entry i k hi hk) ∙ sym (reads-block S L m os (O .group) set b k hb hk (getD os i []) (each i hi))

@@ -2,8 +2,8 @@
 use mathlib.Core.Path.{_≡_, sym, ap, ap₂, _∙_, subst}
 use mathlib.Core.Bool.{Bool, false, not, _||_}
 use mathlib.Core.List.{List, [], _∷_, map}
-use Prim.Native.Nat.{ℕ, _+_, _*_, _-_, _/_, _≤_, _<_}
-use native.Mathlib.Nat.{le-trans, mul-div-cancel}
+use Prim.Native.Nat.{ℕ, zero, suc, _+_, _*_, _-_, _/_, _≤_, _<_}
+use native.Mathlib.Nat.{le-trans, mul-le-mul, mul-div-cancel}
 use native.Mathlib.Omega.{arith}
 use lib.Dec.{eqb}
 use lib.IntN.{ℤ, pos}
@@ -42,6 +42,26 @@ pub record Ready (limit m len : ℕ) (T : ShiftTables) : Type 0 where
 pub block-count : (limit m len : ℕ) (T : ShiftTables) → Ready limit m len T → (w : ℕ) → inBlock m ≡ w → len / w ≡ timesPower (T .nSatom) m (T .nPatom)
 block-count limit m len T R w e =
     ap (λ c. len / c) (sym e) ∙ ap (λ l. l / inBlock m) (R .set-length ∙ size-blocks (shiftsOf T) m) ∙ mul-div-cancel (timesPower (T .nSatom) m (T .nPatom)) (in-block-pos m)
+
+-- which are few enough to be counted
+rooms-below : (b k n c : ℕ) → b ≤ 1024 → n ≤ c → timesPower b k n ≤ timesPower 1024 k c
+unfolding timesPower
+rooms-below b zero n c h l = l
+rooms-below b (suc k) n c h l = rooms-below b k (n * b) (c * 1024) h (mul-le-mul l h)
+
+few-rooms : (m x : ℕ) → m ≤ 3 → x ≤ timesPower 1024 m 1024 → x * inBlock m < 281474976710656
+unfolding timesPower inBlock
+few-rooms zero x h l = omega arith
+few-rooms (suc zero) x h l = omega arith
+few-rooms (suc (suc zero)) x h l = omega arith
+few-rooms (suc (suc (suc zero))) x h l = omega arith
+few-rooms (suc (suc (suc (suc m)))) x h l = absurd (omega arith)
+
+pub few-numbers : (limit m len : ℕ) (T : ShiftTables) → limit ≤ 1024 → m ≤ 3 → Ready limit m len T → len < 281474976710656
+few-numbers limit m len T h l R =
+    let n = le-trans (R .fit .satoms) h in
+    let p = le-trans (R .fit .patoms) h in
+    rw (R .set-length, size-blocks (shiftsOf T) m) (few-rooms m (timesPower (T .nSatom) m (T .nPatom)) l (rooms-below (T .nSatom) m (T .nPatom) 1024 n p))
 
 -- and each lies inside it
 pub block-inside : (limit m len : ℕ) (T : ShiftTables) → Ready limit m len T → (w : ℕ) → inBlock m ≡ w → (b : ℕ) → b < timesPower (T .nSatom) m (T .nPatom) → b * w + w ≤ len

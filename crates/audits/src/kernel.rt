@@ -13,7 +13,7 @@ ghost use Rattle.lists.specs.Lowest.{lowest};
 ghost use Rattle.audits.specs.Kernel.{BlocksFit, there, another, firstPosition, seenBefore, looked, differenceIn};
 
 // The number at position k of block b.
-fn own(fc: &[f64], width: usize, b: usize, k: usize) -> f64
+pub fn own(fc: &[f64], width: usize, b: usize, k: usize) -> f64
     requires { ⌜ b * width + k < length (now fc) ⌝ }
     ensures { λ r. ⌜ r ≡ getD (now (fc .entry)) (b * width + k) nan ⌝ }
 {
@@ -29,7 +29,7 @@ fn position(t: &[u8], width: usize, i: usize, k: usize) -> usize
 }
 
 // The number that permutation i reads at position k.
-fn read(fc: &[f64], bs: &[usize], t: &[u8], width: usize, i: usize, k: usize) -> f64
+pub fn read(fc: &[f64], bs: &[usize], t: &[u8], width: usize, i: usize, k: usize) -> f64
     requires { ⌜
         (i < length (now bs))
         × (length (now t) ≤ 1944)

@@ -1,5 +1,4 @@
-// What an audit says of a set, the comparison of two sets, and the parts that the audits of every order share.
-// The audits of second order; the audits of third order; the audits of fourth order.
+// What an audit says of a set, the comparison of two sets, and the audits of second, third and fourth order.
 pub mod fourth;
 pub mod guard;
 pub mod kernel;

@@ -49,14 +49,14 @@ const POSITIONS: [u8; 18] = [
     8,
 ];
 
-fn positions() -> [u8; 18]
+pub fn positions() -> [u8; 18]
     ensures { λ r. ⌜ r ≡ positionTable 1 perms2 ⌝ }
 {
     POSITIONS
 }
 
 // The blocks of the group of block b, one for each permutation.
-fn group_blocks(
+pub fn group_blocks(
     p2s: &[i64],
     s2pp: &[i64],
     nsym_list: &[i64],

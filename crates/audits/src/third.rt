@@ -197,14 +197,14 @@ const POSITIONS: [u8; 162] = [
     26,
 ];
 
-fn positions() -> [u8; 162]
+pub fn positions() -> [u8; 162]
     ensures { λ r. ⌜ r ≡ positionTable 2 perms3 ⌝ }
 {
     POSITIONS
 }
 
 // The blocks of the group of block b, one for each permutation.
-fn group_blocks(
+pub fn group_blocks(
     p2s: &[i64],
     s2pp: &[i64],
     nsym_list: &[i64],

@@ -1,4 +1,4 @@
-// C names over the crates common, tables and cells. A slice is passed as a pointer and its length; include/gullyfork.h says the rest.
+// C names of rounding, shift tables and matching. A slice is passed as a pointer and its length; include/gullyfork.h says the rest.
 pub mod capi_finding;
 
 ghost use mathlib.Core.Path.{_≡_};

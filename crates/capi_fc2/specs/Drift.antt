@@ -15,16 +15,17 @@ use Rattle.tables.specs.declared.Refusal.the-variants.{CountAboveLimit, WrongLe
 use Rattle.tables.specs.Answers.{refusalNumber, numberOf, refuseIf}
 use Rattle.tables.specs.Limits.{limit2}
 use Rattle.tables.specs.Conditions.{anyAbove}
-use Rattle.drift.specs.declared.Drift.{Drift}
-use Rattle.drift.specs.declared.Drift.the-variants.{Still, Worst, NoNumber}
+use Rattle.reports.specs.declared.Deviation.{Deviation}
+use Rattle.reports.specs.declared.Deviation.the-variants.{Still, Worst, NoNumber}
 use Rattle.drift.specs.declared.DriftReport.{DriftReport}
 use Rattle.drift.specs.declared.DriftAnswer.{DriftAnswer}
 use Rattle.drift.specs.declared.DriftAnswer.the-variants.{Report, Refused}
-use Rattle.drift.specs.Drift.{driftNumber, valueOf, alongNumber, driftReport}
+use Rattle.drift.specs.Drift.{alongNumber, driftReport}
+use Rattle.reports.specs.Report.{deviationNumber, valueOf}
 
 -- An answer as C gets it: 65 still, 66 worst, 67 no number, with the value and the place in the slots; or the number of a refusal, which leaves the slots.
 unfoldable pub driftSlots : DriftAnswer → List Float → List ℕ → ℕ × List Float × List ℕ
-driftSlots (Report r) value place = (65 + driftNumber (r .drift), valueOf (r .drift) ∷ [], alongNumber (r .along) ∷ r .atom ∷ r .k ∷ r .l ∷ [])
+driftSlots (Report r) value place = (65 + deviationNumber (r .drift), valueOf (r .drift) ∷ [], alongNumber (r .along) ∷ r .atom ∷ r .k ∷ r .l ∷ [])
 driftSlots (Refused r) value place = (refusalNumber r, value, place)
 
 -- one slot for the value, four for the place: 0 for rows or 1 for columns, the atom and two directions
@@ -40,7 +41,7 @@ driftCall fc n value place =
 
 -- ---- laws
 
-pub few : (d : Drift) → driftNumber d ≤ 2
+pub few : (d : Deviation) → deviationNumber d ≤ 2
 few Still = omega arith
 few (Worst x) = omega arith
 few NoNumber = omega arith
@@ -65,7 +66,7 @@ four-slots (_ ∷ (_ ∷ (_ ∷ (_ ∷ (_ ∷ _))))) w a k l e = absurd (omega (
 module _ (value : List Float) (place : List ℕ) where
   -- a report, written: x is its value, k its number, and w says rows or columns
   pub put : (q : DriftReport) (a : DriftAnswer) (x : Float) (w k : ℕ) → (length value ≡ 1) × (length place ≡ 4) → a ≡ Report q
-      → x ≡ valueOf (q .drift) → w ≡ alongNumber (q .along) → k ≡ driftNumber (q .drift)
+      → x ≡ valueOf (q .drift) → w ≡ alongNumber (q .along) → k ≡ deviationNumber (q .drift)
       → (65 + k, set value 0 x, set (set (set (set place 0 w) 1 (q .atom)) 2 (q .k)) 3 (q .l)) ≡ driftSlots a value place
   unfolding driftSlots
   put q a x w k (hv, hp) e ex ew ek =

@@ -135,12 +135,12 @@ pub fn report(a: DriftAnswer, value: &mut [f64], place: &mut [usize]) -> u8
         DriftAnswer::Report(q) => {
             let d = q.drift;
             let along = q.along;
-            value[0] = drift::value(d);
+            value[0] = reports::value(d);
             place[0] = drift::along_number(along);
             place[1] = q.atom;
             place[2] = q.k;
             place[3] = q.l;
-            65 + drift::number(d)
+            65 + reports::number(d)
         }
         DriftAnswer::Refused(r) => tables::refusal_number(r),
     }

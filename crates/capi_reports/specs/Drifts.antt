@@ -15,7 +15,7 @@ use Rattle.tables.specs.Limits.{limit2, limit3}
 use Rattle.tables.specs.Conditions.{anyAbove}
 use Rattle.tables.specs.Compact.{ShiftTables}
 use Rattle.drift.specs.declared.DriftAnswer.{DriftAnswer}
-use Rattle.drift.specs.Drift.{driftNumber, valueOf}
+use Rattle.reports.specs.Report.{deviationNumber, valueOf}
 use Rattle.drift.specs.CompactReport.{driftReportCompactFc2}
 use Rattle.drift.specs.declared.third.LegReport.{LegReport}
 use Rattle.drift.specs.declared.third.LegAnswer.{LegAnswer}
@@ -32,7 +32,7 @@ compactDriftCall fc T value place =
 
 -- third order: one slot for the value, six for the place, the leg that is summed over, two atoms and three directions
 unfoldable pub legReported : LegAnswer → List Float → List ℕ → ℕ × List Float × List ℕ
-legReported (Report r) value place = (65 + driftNumber (r .drift), valueOf (r .drift) ∷ [], r .leg ∷ r .first ∷ r .second ∷ r .k ∷ r .l ∷ r .m ∷ [])
+legReported (Report r) value place = (65 + deviationNumber (r .drift), valueOf (r .drift) ∷ [], r .leg ∷ r .first ∷ r .second ∷ r .k ∷ r .l ∷ r .m ∷ [])
 legReported (Refused r) value place = (refusalNumber r, value, place)
 
 abbrev pub legSlotsFit : ℕ → ℕ → Bool
@@ -62,7 +62,7 @@ six-slots (_ ∷ (_ ∷ (_ ∷ (_ ∷ (_ ∷ (_ ∷ (_ ∷ _))))))) a b c d e f 
 
 module _ (value : List Float) (place : List ℕ) where
   -- a report, written: x is its value, k its number
-  pub leg-put : (q : LegReport) (a : LegAnswer) (x : Float) (k : ℕ) → (length value ≡ 1) × (length place ≡ 6) → a ≡ Report q → x ≡ valueOf (q .drift) → k ≡ driftNumber (q .drift)
+  pub leg-put : (q : LegReport) (a : LegAnswer) (x : Float) (k : ℕ) → (length value ≡ 1) × (length place ≡ 6) → a ≡ Report q → x ≡ valueOf (q .drift) → k ≡ deviationNumber (q .drift)
       → (65 + k, set value 0 x, set (set (set (set (set (set place 0 (q .leg)) 1 (q .first)) 2 (q .second)) 3 (q .k)) 4 (q .l)) 5 (q .m)) ≡ legReported a value place
   unfolding legReported
   leg-put q a x k (hv, hp) e ex ek =

@@ -59,14 +59,14 @@ fn leg_report(a: LegAnswer, value: &mut [f64], place: &mut [usize]) -> u8
     match a {
         LegAnswer::Report(q) => {
             let d = q.drift;
-            value[0] = drift::value(d);
+            value[0] = reports::value(d);
             place[0] = q.leg;
             place[1] = q.first;
             place[2] = q.second;
             place[3] = q.k;
             place[4] = q.l;
             place[5] = q.m;
-            65 + drift::number(d)
+            65 + reports::number(d)
         }
         LegAnswer::Refused(r) => tables::refusal_number(r),
     }

@@ -1,4 +1,4 @@
-// C names of the audits; C names of the drift reports of compact sets and of third order; C names of reading compact sets out.
+// C names of audits, of drift reports of compact sets and of third order, and of read-outs.
 pub mod auditing;
 pub mod drifts;
 pub mod full;

@@ -1,4 +1,4 @@
-// C names over the crates roll, roll_read, roll_append, standing and retire. A slice is passed as a pointer and its length; include/gullyfork.h says the rest.
+// C names of a delivery roll and of what it says. A slice is passed as a pointer and its length; include/gullyfork.h says the rest.
 ghost use mathlib.Core.Path.{_≡_};
 ghost use mathlib.Core.List.{[], _∷_};
 ghost use Prim.Native.Nat.{_+_};

@@ -27,11 +27,12 @@ use Rattle.lists.specs.Floats.{plusZero}
 use Rattle.lines.specs.Sums3x3.{Sums, zeros, sumIn, more, sum-in}
 use Rattle.lines.specs.DriftLaws.{zeros-in}
 use Rattle.fc2.specs.Full.{fullEntry, rowSum, columnSum}
-use Rattle.drift.specs.declared.seen.Seen.{Seen}
+use Rattle.reports.specs.declared.seen.Seen.{Seen}
 use Rattle.drift.specs.declared.DriftAnswer.the-variants.{Report, Refused}
 use Rattle.drift.specs.Drift.{sumAt, sumCount, driftOf, reportAt, stillReport, placedReport, reportedAfter, driftReport}
-use Rattle.drift.specs.Loops.{look, lookLine, nothingSeen, concluded}
-use Rattle.drift.specs.Seen.{State, all-seen, reported}
+use Rattle.drift.specs.Loops.{lookLine, concluded}
+use Rattle.reports.specs.Loops.{look, nothingSeen}
+use Rattle.reports.specs.Seen.{State, all-seen, reported}
 use Rattle.drift.specs.Laws.{lineOf, by-sums, at-row, at-column}
 use Rattle.audits.specs.Guard.{Ready, ready-compact, block-inside, stored-within}
 use Rattle.read_out.specs.FullSet.{fullSet, length-full, read-full}

@@ -1,37 +1,25 @@
 -- The drift report of a full set (document 01, "Drift report"; document 02, A.4). Definitions only.
 use mathlib.Core.List.{List, []}
-use mathlib.Core.Bool.{Bool, false, cond}
-use Prim.Native.Nat.{ℕ, zero, suc, _-_, _*_, _/_, _%_}
-use lib.Dec.{eqb, ltb}
+use mathlib.Core.Bool.{cond}
+use Prim.Native.Nat.{ℕ, _-_, _*_, _/_, _%_}
+use lib.Dec.{ltb}
 use lib.ListN.{length}
-use lib.Ieee.{Float, nan, inf, fin, lt, eq, isNan}
-use Rattle.lists.specs.Tab.{times}
-use Rattle.lists.specs.Tests.{every, some}
+use lib.Ieee.{Float}
 use Rattle.tables.specs.declared.Answer.{Answer}
 use Rattle.tables.specs.declared.Answer.the-variants.{Done, Refused as RefusedBy}
 use Rattle.tables.specs.Full.{judgedFull}
 use Rattle.tables.specs.Limits.{limit2}
-use Rattle.lists.specs.Floats.{plusZero}
 use Rattle.fc2.specs.Full.{rowSum, columnSum}
-use Rattle.drift.specs.declared.Drift.{Drift}
-use Rattle.drift.specs.declared.Drift.the-variants.{Still, Worst, NoNumber}
+use Rattle.reports.specs.Report.{deviationIn, placedBy}
+use Rattle.reports.specs.declared.Deviation.{Deviation}
+use Rattle.reports.specs.declared.Deviation.the-variants.{Still}
 use Rattle.drift.specs.declared.Along.{Along}
 use Rattle.drift.specs.declared.Along.the-variants.{Rows, Columns}
 use Rattle.drift.specs.declared.DriftReport.{DriftReport}
 use Rattle.drift.specs.declared.DriftAnswer.{DriftAnswer}
 use Rattle.drift.specs.declared.DriftAnswer.the-variants.{Report, Refused}
 
--- ---- the cases: a number for each, and its value
-
-abbrev pub driftNumber : Drift → ℕ
-driftNumber Still = 0
-driftNumber (Worst x) = 1
-driftNumber NoNumber = 2
-
-abbrev pub valueOf : Drift → Float
-valueOf Still = plusZero
-valueOf (Worst x) = x
-valueOf NoNumber = nan
+-- ---- the cases
 
 abbrev pub alongNumber : Along → ℕ
 alongNumber Rows = 0
@@ -46,24 +34,6 @@ answerOf (Refused r) = RefusedBy r
 abbrev pub reportedAfter : Answer → DriftReport → DriftAnswer
 reportedAfter Done r = Report r
 reportedAfter (RefusedBy a) r = Refused a
-
--- ---- floats
-
--- the absolute value
-unfoldable pub absolute : Float → Float
-absolute nan = nan
-absolute (inf s) = inf false
-absolute (fin s m e) = fin false m e
-
--- zero, of either sign
-unfoldable pub isZero : Float → Bool
-isZero nan = false
-isZero (inf s) = false
-isZero (fin s m e) = eqb m 0
-
--- the larger of two; the first where they are equal or the second is no number
-abbrev pub larger : Float → Float → Float
-larger x y = cond (lt x y) y x
 
 -- ---- the sums, in the order of their places
 
@@ -86,42 +56,19 @@ sumAt n xs r = lineSum n xs (alongOf n (r / 9)) (atomOf n (r / 9)) (r % 9 / 3) (
 abbrev pub sumCount : ℕ → ℕ
 sumCount n = n * 2 * 9
 
--- the first number below n that passes the test, where one does
-unfoldable pub firstOf : ℕ → (ℕ → Bool) → ℕ
-firstOf zero f = 0
-firstOf (suc n) f = cond (some n f) (firstOf n f) n
-
--- ---- the rule of a report, whatever is summed: c sums, S r the one at place r
-
--- the largest absolute value
-unfoldable pub worstOf : ℕ → (ℕ → Float) → Float
-worstOf c S = times c (λ r w. larger w (absolute (S r))) plusZero
-
-unfoldable pub driftIn : ℕ → (ℕ → Float) → Drift
-driftIn c S =
-    cond (some c (λ r. isNan (S r))) NoNumber
-    (cond (every c (λ r. isZero (S r))) Still
-    (Worst (worstOf c S)))
-
--- a drift with its place: of the worst the first sum that has its absolute value, of no number the first sum that is none; `at` makes the report
-abbrev pub placedBy : {R : Type 0} → R → (Drift → ℕ → R) → ℕ → (ℕ → Float) → Drift → R
-placedBy still at c S Still = still
-placedBy still at c S (Worst x) = at (Worst x) (firstOf c (λ r. eq (absolute (S r)) x))
-placedBy still at c S NoNumber = at NoNumber (firstOf c (λ r. isNan (S r)))
-
 -- ---- the report of a full set of second order
 
-abbrev pub driftOf : ℕ → List Float → Drift
-driftOf n xs = driftIn (sumCount n) (sumAt n xs)
+abbrev pub driftOf : ℕ → List Float → Deviation
+driftOf n xs = deviationIn (sumCount n) (sumAt n xs)
 
 -- the report whose place is that of sum r
-abbrev pub reportAt : ℕ → Drift → ℕ → DriftReport
+abbrev pub reportAt : ℕ → Deviation → ℕ → DriftReport
 reportAt n d r = record { drift = d; along = alongOf n (r / 9); atom = atomOf n (r / 9); k = r % 9 / 3; l = r % 9 % 3 }
 
 abbrev pub stillReport : DriftReport
 stillReport = record { drift = Still; along = Rows; atom = 0; k = 0; l = 0 }
 
-abbrev pub placedReport : ℕ → List Float → Drift → DriftReport
+abbrev pub placedReport : ℕ → List Float → Deviation → DriftReport
 placedReport n xs d = placedBy stillReport (reportAt n) (sumCount n) (sumAt n xs) d
 
 -- the call's answer

@@ -1,6 +1,6 @@
 -- The sums that the loops make are those of the definition, one after another, and so is the call's answer. Assumes nothing.
 use mathlib.Core.Path.{_≡_, sym, ap, ap₂, _∙_, subst}
-use mathlib.Core.Bool.{cond}
+use mathlib.Core.Bool.{true, cond}
 use mathlib.Core.List.{List, []}
 use Prim.Native.Nat.{ℕ, _+_, _-_, _*_, _/_, _%_, _<_}
 use native.Mathlib.Nat.{div-add-mod'}
@@ -8,6 +8,7 @@ use native.Mathlib.Omega.{arith}
 use lib.ListN.{length, getD}
 use lib.Ieee.{Float, nan, add, binary64}
 use borrow.Author.Tests.{lt-ltb, le-ltb}
+use Rattle.lists.specs.Tests.{every, every-at}
 use Rattle.lists.specs.Tab.{times, times-same, times-add, times-nest}
 use Rattle.blocks.specs.Block.{block-of, place-of}
 use Rattle.tables.specs.declared.Answer.the-variants.{Done, Refused as RefusedBy}
@@ -24,10 +25,20 @@ use Rattle.fc2.specs.FullPlaceLaws.{entry-at}
 use Rattle.fc2.specs.FullDriftLaws.{row-sum}
 use Rattle.drift.specs.declared.Along.the-variants.{Rows, Columns}
 use Rattle.drift.specs.declared.DriftAnswer.the-variants.{Report, Refused}
-use Rattle.drift.specs.declared.seen.Seen.{Seen}
+use Rattle.reports.specs.declared.seen.Seen.{Seen}
 use Rattle.drift.specs.Drift.{lineSum, alongOf, atomOf, sumAt, sumCount, driftOf, reportAt, stillReport, placedReport, reportedAfter, driftReport}
-use Rattle.drift.specs.Loops.{look, nothingSeen, lookLine, lookLines, scanned, concluded}
-use Rattle.drift.specs.Seen.{State, all-seen, reported}
+use Rattle.drift.specs.Loops.{lookLine, lookLines, scanned, concluded}
+use Rattle.reports.specs.Loops.{look, nothingSeen}
+use Rattle.reports.specs.Floats.{atMost, at-most-says}
+use Rattle.reports.specs.Seen.{State, all-seen, reported, still-times, look-within}
+
+-- ---- a line that brings nothing new
+
+pub line-calm : (q : ℕ) (s : Sums) (c : Seen) → every 9 (λ p. atMost (c .worst) (sumIn s p)) ≡ true → c ≡ lookLine q s c
+unfolding lookLine
+line-calm q s c h =
+    sym (still-times 9 (λ p. look (q * 9 + p) (sumIn s p)) c (λ p l.
+    look-within (q * 9 + p) (sumIn s p) c (at-most-says (c .worst) (sumIn s p) (every-at 9 (λ p. atMost (c .worst) (sumIn s p)) h p l))))
 
 -- ---- the sums of a line by directions
 

@@ -11,8 +11,9 @@ use Rattle.lists.specs.Tab.{times}
 use Rattle.lists.specs.Digits.{in-row, pos-of}
 use Rattle.lines.specs.Sums3x3.{zeros}
 use Rattle.lines.specs.Lines.{lineSums, Line}
-use Rattle.drift.specs.declared.seen.Seen.{Seen}
-use Rattle.drift.specs.Loops.{lookLine, nothingSeen}
+use Rattle.reports.specs.declared.seen.Seen.{Seen}
+use Rattle.drift.specs.Loops.{lookLine}
+use Rattle.reports.specs.Loops.{nothingSeen}
 
 -- Line e of a leg whose atoms stand `step` blocks apart: e counts the atoms of the two other legs and the direction of the first leg.
 unfoldable pub firstNine : ℕ → ℕ → ℕ → ℕ

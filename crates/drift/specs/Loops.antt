@@ -1,29 +1,16 @@
 -- What the functions compute, as their loops run. Definitions only.
 use mathlib.Core.Path.{_≡_}
 use mathlib.Core.List.{List, []}
-use mathlib.Core.Bool.{true, false, cond}
 use Prim.Native.Nat.{ℕ, _+_, _*_, _≤_, _<_}
 use lib.ListN.{length, getD}
-use lib.Ieee.{Float, lt, ne, eq}
+use lib.Ieee.{Float}
 use Rattle.lists.specs.Tab.{times}
-use Rattle.lists.specs.Floats.{plusZero}
 use Rattle.lines.specs.Sums3x3.{Sums, zeros, sumIn}
 use Rattle.lines.specs.Lines.{lineSums}
-use Rattle.drift.specs.declared.Drift.{Drift}
-use Rattle.drift.specs.declared.Drift.the-variants.{Worst, NoNumber}
 use Rattle.drift.specs.declared.DriftReport.{DriftReport}
-use Rattle.drift.specs.declared.seen.Seen.{Seen}
-use Rattle.drift.specs.Drift.{absolute, reportAt, stillReport}
-
--- sum r, x, is looked at
-abbrev pub look : ℕ → Float → Seen → Seen
-look r x c =
-    cond (ne x x)
-    (cond (c .none) c (record { none = true; first = r; worst = c .worst; at = c .at }))
-    (cond (lt (c .worst) (absolute x)) (record { none = c .none; first = c .first; worst = absolute x; at = r }) c)
-
-abbrev pub nothingSeen : Seen
-nothingSeen = record { none = false; first = 0; worst = plusZero; at = 0 }
+use Rattle.reports.specs.declared.seen.Seen.{Seen}
+use Rattle.drift.specs.Drift.{reportAt, stillReport}
+use Rattle.reports.specs.Loops.{look, nothingSeen, concludedBy}
 
 -- the nine sums of line q are looked at
 unfoldable pub lookLine : ℕ → Sums → Seen → Seen
@@ -46,10 +33,6 @@ pub record Summed (n m i : ℕ) (xs : List Float) (cs : List Sums) : Type 0 wher
   pub fits : n ≤ m
   pub long : length cs ≡ m
   pub column : (j : ℕ) → j < n → getD cs j [] ≡ lineSums j n i xs zeros
-
--- what is concluded from what was seen, whatever was summed; `at` makes the report
-abbrev pub concludedBy : {R : Type 0} → R → (Drift → ℕ → R) → Seen → R
-concludedBy still at c = cond (c .none) (at NoNumber (c .first)) (cond (eq (c .worst) plusZero) still (at (Worst (c .worst)) (c .at)))
 
 abbrev pub concluded : ℕ → Seen → DriftReport
 concluded n c = concludedBy stillReport (reportAt n) c

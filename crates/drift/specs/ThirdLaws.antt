@@ -22,11 +22,12 @@ use Rattle.lists.specs.Floats.{plusZero}
 use Rattle.lines.specs.Sums3x3.{zeros, sumIn}
 use Rattle.lines.specs.Lines.{lineSums}
 use Rattle.lines.specs.DriftLaws.{line-sum, zeros-in}
-use Rattle.drift.specs.declared.seen.Seen.{Seen}
-use Rattle.drift.specs.declared.Drift.the-variants.{Still}
-use Rattle.drift.specs.Drift.{driftIn, placedBy}
-use Rattle.drift.specs.Loops.{look, lookLine, nothingSeen, concludedBy}
-use Rattle.drift.specs.Seen.{State, all-seen, reported}
+use Rattle.reports.specs.declared.seen.Seen.{Seen}
+use Rattle.reports.specs.declared.Deviation.the-variants.{Still}
+use Rattle.reports.specs.Report.{deviationIn, placedBy}
+use Rattle.drift.specs.Loops.{lookLine}
+use Rattle.reports.specs.Loops.{look, nothingSeen, concludedBy}
+use Rattle.reports.specs.Seen.{State, all-seen, reported}
 use Rattle.drift.specs.Laws.{lineOf, by-sums}
 use Rattle.drift.specs.declared.third.LegReport.{LegReport}
 use Rattle.drift.specs.declared.third.LegAnswer.the-variants.{Report, Refused}
@@ -235,7 +236,7 @@ apart-first {n} f l = record { outer = 1; few = f; squares = omega arith; long =
 
 module _ (xs : List Float) (n : ℕ) where
   abbrev report : LegReport
-  report = placedBy stillReport3 (reportAt3 n) (sums3 n) (sumAt3 n xs) (driftIn (sums3 n) (sumAt3 n xs))
+  report = placedBy stillReport3 (reportAt3 n) (sums3 n) (sumAt3 n xs) (deviationIn (sums3 n) (sumAt3 n xs))
 
   pub few-atoms : judgedFull limit3 2 (length xs) [] n ≡ Done → n ≤ 256
   few-atoms e = done-full limit3 2 (length xs) [] n e .0
@@ -254,13 +255,13 @@ module _ (xs : List Float) (n : ℕ) where
       ap Report (reported (sums3 n) (sumAt3 n xs) c st stillReport3 (reportAt3 n)) ∙ sym (ap (λ h. reportedAfter3 h report) e)
 
 -- no atoms, no sums
-none-still : (S : ℕ → Float) → driftIn 0 S ≡ Still
-unfolding driftIn some every
+none-still : (S : ℕ → Float) → deviationIn 0 S ≡ Still
+unfolding deviationIn some every
 none-still S = refl
 
 pub report-none : (xs : List Float) (n : ℕ) → n ≡ 0 → judgedFull limit3 2 (length xs) [] n ≡ Done → Report stillReport3 ≡ driftReportFc3 xs n
 unfolding driftReportFc3
 report-none xs n z e =
     let c : sums3 n ≡ 0 = ap sums3 z in
-    let d : driftIn (sums3 n) (sumAt3 n xs) ≡ Still = ap (λ m. driftIn m (sumAt3 n xs)) c ∙ none-still (sumAt3 n xs) in
+    let d : deviationIn (sums3 n) (sumAt3 n xs) ≡ Still = ap (λ m. deviationIn m (sumAt3 n xs)) c ∙ none-still (sumAt3 n xs) in
     ap (λ d. Report (placedBy stillReport3 (reportAt3 n) (sums3 n) (sumAt3 n xs) d)) (sym d) ∙ sym (ap (λ h. reportedAfter3 h (report xs n)) e)

@@ -12,9 +12,9 @@ use Rattle.tables.specs.Limits.{limit3}
 use Rattle.places.specs.Places.{at}
 use Rattle.places.specs.WholeLaws.{fullShifts}
 use Rattle.lists.specs.Floats.{plusZero}
-use Rattle.drift.specs.declared.Drift.{Drift}
-use Rattle.drift.specs.declared.Drift.the-variants.{Still}
-use Rattle.drift.specs.Drift.{driftIn, placedBy}
+use Rattle.reports.specs.declared.Deviation.{Deviation}
+use Rattle.reports.specs.declared.Deviation.the-variants.{Still}
+use Rattle.reports.specs.Report.{deviationIn, placedBy}
 use Rattle.tables.specs.Full.{judgedFull}
 use Rattle.drift.specs.declared.third.LegReport.{LegReport}
 use Rattle.drift.specs.declared.third.LegAnswer.{LegAnswer}
@@ -41,7 +41,7 @@ unfoldable pub sumAt3 : ℕ → List Float → ℕ → Float
 sumAt3 n xs r = legSum n xs (legOf (r / 27 / n / n)) (r / 27 / n % n) (r / 27 % n) (r % 27 / 9) (r % 9 / 3) (r % 3)
 
 -- the report whose place is that of sum r
-abbrev pub reportAt3 : ℕ → Drift → ℕ → LegReport
+abbrev pub reportAt3 : ℕ → Deviation → ℕ → LegReport
 reportAt3 n d r = record { drift = d; leg = legOf (r / 27 / n / n); first = r / 27 / n % n; second = r / 27 % n; k = r % 27 / 9; l = r % 9 / 3; m = r % 3 }
 
 abbrev pub stillReport3 : LegReport
@@ -56,4 +56,4 @@ reportedAfter3 (RefusedBy a) r = Refused a
 unfoldable pub driftReportFc3 : List Float → ℕ → LegAnswer
 driftReportFc3 xs n =
     let S = sumAt3 n xs in
-    reportedAfter3 (judgedFull limit3 2 (length xs) [] n) (placedBy stillReport3 (reportAt3 n) (sums3 n) S (driftIn (sums3 n) S))
+    reportedAfter3 (judgedFull limit3 2 (length xs) [] n) (placedBy stillReport3 (reportAt3 n) (sums3 n) S (deviationIn (sums3 n) S))

@@ -16,11 +16,12 @@ use Rattle.lists.specs.Floats.{plusZero}
 use Rattle.places.specs.Places.{at, address}
 use Rattle.places.specs.WholeLaws.{fullShifts}
 use Rattle.fc2.specs.Full.{fullEntry, rowSum, columnSum}
-use Rattle.drift.specs.declared.Drift.the-variants.{Still, Worst, NoNumber}
+use Rattle.reports.specs.declared.Deviation.the-variants.{Still, Worst, NoNumber}
 use Rattle.drift.specs.declared.Along.the-variants.{Rows, Columns}
 use Rattle.drift.specs.declared.DriftReport.{DriftReport}
 use Rattle.drift.specs.declared.DriftAnswer.the-variants.{Report}
-use Rattle.drift.specs.Drift.{absolute, isZero, lineSum, sumAt, firstOf, worstOf, driftIn, driftReport}
+use Rattle.drift.specs.Drift.{lineSum, sumAt, driftReport}
+use Rattle.reports.specs.Report.{absolute, isZero, firstOf, worstOf, deviationIn}
 use Rattle.drift.specs.Worst.{rank, worst-named, none-named, none-due}
 
 abbrev one : Float
@@ -38,22 +39,22 @@ withBoth r x q y = set (with r x) q y
 
 -- no atoms, and no drift: a still report says rows
 none-still : driftReport [] 0 ≡ Report (record { drift = Still; along = Rows; atom = 0; k = 0; l = 0 })
-unfolding driftReport judgedFull setLength driftIn some every
+unfolding driftReport judgedFull setLength deviationIn some every
 none-still = refl
 
 -- 1 in blocks (0, 0) and (1, 0), at directions 1 and 2: both row sums are 1, the sum of column 0 is 2
 column-worst : driftReport (withBoth 5 one 23 one) 2 ≡ Report (record { drift = Worst two; along = Columns; atom = 0; k = 1; l = 2 })
-unfolding driftReport judgedFull setLength driftIn some every worstOf firstOf times sumAt lineSum rowSum columnSum fullEntry at address horner fullShifts absolute isZero isNan lt eq add ofBits
+unfolding driftReport judgedFull setLength deviationIn some every worstOf firstOf times sumAt lineSum rowSum columnSum fullEntry at address horner fullShifts absolute isZero isNan lt eq add ofBits
 column-worst = refl
 
 -- 1 in block (1, 0): row 1 and column 0 share the worst, and the row goes first
 row-first : driftReport (with 22 one) 2 ≡ Report (record { drift = Worst one; along = Rows; atom = 1; k = 1; l = 1 })
-unfolding driftReport judgedFull setLength driftIn some every worstOf firstOf times sumAt lineSum rowSum columnSum fullEntry at address horner fullShifts absolute isZero isNan lt eq add ofBits
+unfolding driftReport judgedFull setLength deviationIn some every worstOf firstOf times sumAt lineSum rowSum columnSum fullEntry at address horner fullShifts absolute isZero isNan lt eq add ofBits
 row-first = refl
 
 -- NaN in block (1, 0): the row goes first, although the column's atom is lower
 none-first : driftReport (withBoth 22 nan 0 two) 2 ≡ Report (record { drift = NoNumber; along = Rows; atom = 1; k = 1; l = 1 })
-unfolding driftReport judgedFull setLength driftIn some every worstOf firstOf times sumAt lineSum rowSum columnSum fullEntry at address horner fullShifts absolute isZero isNan lt eq add ofBits
+unfolding driftReport judgedFull setLength deviationIn some every worstOf firstOf times sumAt lineSum rowSum columnSum fullEntry at address horner fullShifts absolute isZero isNan lt eq add ofBits
 none-first = refl
 
 -- ---- the laws used, where two places qualify

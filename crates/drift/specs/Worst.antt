@@ -17,17 +17,18 @@ use Rattle.tables.specs.declared.Answer.{Answer}
 use Rattle.tables.specs.declared.Answer.the-variants.{Done, Refused as RefusedBy}
 use Rattle.tables.specs.Full.{judgedFull}
 use Rattle.tables.specs.Limits.{limit2}
-use Rattle.drift.specs.declared.Drift.{Drift}
-use Rattle.drift.specs.declared.Drift.the-variants.{Still, Worst, NoNumber}
+use Rattle.reports.specs.declared.Deviation.{Deviation}
+use Rattle.reports.specs.declared.Deviation.the-variants.{Still, Worst, NoNumber}
 use Rattle.drift.specs.declared.Along.{Along}
 use Rattle.drift.specs.declared.Along.the-variants.{Rows, Columns}
 use Rattle.drift.specs.declared.DriftReport.{DriftReport}
 use Rattle.drift.specs.declared.DriftAnswer.{DriftAnswer}
 use Rattle.drift.specs.declared.DriftAnswer.the-variants.{Report, Refused}
-use Rattle.drift.specs.declared.seen.Seen.{Seen}
-use Rattle.drift.specs.Drift.{driftNumber, valueOf, alongNumber, absolute, isZero, lineSum, alongOf, atomOf, sumAt, sumCount, firstOf, worstOf, driftIn, driftOf, reportAt, stillReport, placedReport, reportedAfter, driftReport}
-use Rattle.drift.specs.Loops.{look, nothingSeen}
-use Rattle.drift.specs.Seen.{first-passes, first-least, hits, State, all-seen, found-worst, tested}
+use Rattle.reports.specs.declared.seen.Seen.{Seen}
+use Rattle.drift.specs.Drift.{alongNumber, lineSum, alongOf, atomOf, sumAt, sumCount, driftOf, reportAt, stillReport, placedReport, reportedAfter, driftReport}
+use Rattle.reports.specs.Report.{deviationNumber, valueOf, absolute, isZero, firstOf, worstOf, deviationIn}
+use Rattle.reports.specs.Loops.{look, nothingSeen}
+use Rattle.reports.specs.Seen.{first-passes, first-least, hits, State, all-seen, found-worst, tested}
 
 -- ---- the order of places
 
@@ -106,7 +107,7 @@ pub record FirstPlace (n : ℕ) (xs : List Float) (test : Float → Bool) (q : D
   pub passes : test (lineSum n xs (q .along) (q .atom) (q .k) (q .l)) ≡ true
   pub none-before : (w : Along) (i k l : ℕ) → SumPlace n i k l → rank n w i k l < rank n (q .along) (q .atom) (q .k) (q .l) → test (lineSum n xs w i k l) ≡ false
 
-first-place : (n : ℕ) (xs : List Float) (test : Float → Bool) (d : Drift) → some (sumCount n) (λ r. test (sumAt n xs r)) ≡ true
+first-place : (n : ℕ) (xs : List Float) (test : Float → Bool) (d : Deviation) → some (sumCount n) (λ r. test (sumAt n xs r)) ≡ true
     → FirstPlace n xs test (reportAt n d (firstOf (sumCount n) (λ r. test (sumAt n xs r))))
 first-place n xs test d h =
     let f : ℕ → Bool = λ r. test (sumAt n xs r) in
@@ -137,13 +138,13 @@ module _ (xs : List Float) (n : ℕ) where
   still = every (sumCount n) (λ r. isZero (sumAt n xs r))
 
   -- which test a drift comes from
-  record Cause (d : Drift) : Type 0 where
+  record Cause (d : Deviation) : Type 0 where
     pub no-number : d ≡ NoNumber → none ≡ true
     pub all-zero : d ≡ Still → (none ≡ false) × (still ≡ true)
     pub not-zero : (v : Float) → d ≡ Worst v → (none ≡ false) × (still ≡ false) × (worstOf (sumCount n) (sumAt n xs) ≡ v)
 
-  different : {a b : Drift} → (driftNumber a ≡ driftNumber b → ⊥) → a ≡ b → ⊥
-  different h e = h (ap driftNumber e)
+  different : {a b : Deviation} → (deviationNumber a ≡ deviationNumber b → ⊥) → a ≡ b → ⊥
+  different h e = h (ap deviationNumber e)
 
   cause-by : (a b : Bool) → none ≡ a → still ≡ b → Cause (cond a NoNumber (cond b Still (Worst (worstOf (sumCount n) (sumAt n xs)))))
   cause-by true b h g =
@@ -166,7 +167,7 @@ module _ (xs : List Float) (n : ℕ) where
       }
 
   cause : Cause (driftOf n xs)
-  unfolding driftIn
+  unfolding deviationIn
   cause = cause-by none still refl refl
 
   -- all sums, looked at one after another
@@ -189,7 +190,7 @@ module _ (xs : List Float) (n : ℕ) where
       isReport (Report r) = 1
       isReport (Refused a) = 0
 
-  placed-drift : (d : Drift) → placedReport n xs d .drift ≡ d
+  placed-drift : (d : Deviation) → placedReport n xs d .drift ≡ d
   placed-drift Still = refl
   placed-drift (Worst v) = refl
   placed-drift NoNumber = refl
@@ -202,7 +203,7 @@ module _ (xs : List Float) (n : ℕ) where
     drift-is : driftOf n xs ≡ q .drift
     drift-is = sym (ap (λ r. r .drift) report-is ∙ placed-drift (driftOf n xs))
 
-    placed-as : (d : Drift) → q .drift ≡ d → placedReport n xs d ≡ q
+    placed-as : (d : Deviation) → q .drift ≡ d → placedReport n xs d ≡ q
     placed-as d e = ap (placedReport n xs) (sym (drift-is ∙ e)) ∙ sym report-is
 
     -- Beside a worst drift no sum's absolute value exceeds it, the place that is named has it, and no earlier one has.
@@ -231,14 +232,14 @@ module _ (xs : List Float) (n : ℕ) where
 
     -- No number goes before worst and before still: a sum that is no number makes the report no number, whatever the others are.
     pub none-due : (w : Along) (i k l : ℕ) → SumPlace n i k l → isNan (lineSum n xs w i k l) ≡ true → q .drift ≡ NoNumber
-    unfolding driftIn
+    unfolding deviationIn
     none-due w i k l p h =
         let e : none ≡ true = some-of (sumCount n) (λ r. isNan (sumAt n xs r)) (rank n w i k l) (rank-below n w i k l p) (ap isNan (sum-at-rank n xs w i k l p) ∙ h) in
         sym drift-is ∙ ap (λ b. cond b NoNumber (cond still Still (Worst (worstOf (sumCount n) (sumAt n xs))))) e
 
     -- Where every sum is a zero the report is still.
     pub still-due : ((w : Along) (i k l : ℕ) → SumPlace n i k l → isZero (lineSum n xs w i k l) ≡ true) → q .drift ≡ Still
-    unfolding driftIn
+    unfolding deviationIn
     still-due h =
         let z : (r : ℕ) → r < sumCount n → isZero (sumAt n xs r) ≡ true = λ r b.
         let w = alongOf n (r / 9) in

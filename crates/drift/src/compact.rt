@@ -2,12 +2,12 @@
 // blocks is read where it is stored.
 use crate::DriftAnswer;
 use crate::conclude;
-use crate::seen::Seen;
 use crate::seen::calm;
 use crate::seen::look_line;
-use crate::seen::start;
 use lines::nine::more;
 use places::stored_block2;
+use reports::seen::Seen;
+use reports::seen::start;
 use shifts::judge_set;
 use tables::Answer;
 use tables::atoms::SuperAtom;

@@ -3,13 +3,13 @@
 // column. Most lines bring nothing new, and nothing is done for them but the test whether they do.
 use crate::DriftAnswer;
 use crate::conclude;
-use crate::seen::Seen;
 use crate::seen::calm;
 use crate::seen::look_line;
-use crate::seen::start;
 use lines::line_sums;
 use lines::nine::more;
 use places::index_of;
+use reports::seen::Seen;
+use reports::seen::start;
 use tables::Answer;
 ghost use mathlib.Core.Path.{_≡_};
 ghost use Prim.Native.Nat.{ℕ, _+_, _*_, _-_, _≤_, _<_};

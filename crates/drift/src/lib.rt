@@ -7,19 +7,13 @@ pub mod third;
 
 use places::column_of;
 use places::row_of;
-use seen::Seen;
+use reports::Deviation;
+use reports::seen::Seen;
 use tables::Answer;
 use tables::Refusal;
 ghost use mathlib.Core.Path.{_≡_};
-ghost use Rattle.drift.specs.Drift.{driftNumber, valueOf, alongNumber, answerOf, alongOf, atomOf, reportAt, stillReport};
+ghost use Rattle.drift.specs.Drift.{alongNumber, answerOf, alongOf, atomOf, reportAt, stillReport};
 ghost use Rattle.drift.specs.Loops as loops;
-
-// Still: all sums are zero. Worst: the largest absolute value of a sum. NoNumber: a sum is NaN.
-pub enum Drift {
-    Still,
-    Worst(f64),
-    NoNumber,
-}
 
 // Which sums a report names: that of a row, over the second atom, or that of a column, over the first.
 pub enum Along {
@@ -29,7 +23,7 @@ pub enum Along {
 
 // The drift and its place: a row or a column, its atom, and the directions.
 pub struct DriftReport {
-    pub drift: Drift,
+    pub drift: Deviation,
     pub along: Along,
     pub atom: usize,
     pub k: usize,
@@ -39,28 +33,6 @@ pub struct DriftReport {
 pub enum DriftAnswer {
     Report(DriftReport),
     Refused(Refusal),
-}
-
-// A number for each case.
-pub fn number(d: Drift) -> u8
-    ensures { λ r. ⌜ r ≡ driftNumber d ⌝ }
-{
-    match d {
-        Drift::Still => 0,
-        Drift::Worst(_) => 1,
-        Drift::NoNumber => 2,
-    }
-}
-
-// The value of each case: 0.0, the worst absolute value, NaN.
-pub fn value(d: Drift) -> f64
-    ensures { λ r. ⌜ r ≡ valueOf d ⌝ }
-{
-    match d {
-        Drift::Still => 0.0,
-        Drift::Worst(x) => x,
-        Drift::NoNumber => 0.0 / 0.0,
-    }
 }
 
 // A number for rows and for columns.
@@ -103,7 +75,7 @@ fn atom_of(n: usize, q: usize) -> usize
 }
 
 // The report whose place is that of sum r.
-fn report_at(n: usize, d: Drift, r: usize) -> DriftReport
+fn report_at(n: usize, d: Deviation, r: usize) -> DriftReport
     ensures { λ q. ⌜ q ≡ reportAt n d r ⌝ }
 {
     let line = row_of(r, 9);
@@ -122,7 +94,7 @@ fn still() -> DriftReport
     ensures { λ q. ⌜ q ≡ stillReport ⌝ }
 {
     DriftReport {
-        drift: Drift::Still,
+        drift: Deviation::Still,
         along: Along::Rows,
         atom: 0,
         k: 0,
@@ -135,10 +107,10 @@ pub fn conclude(n: usize, c: Seen) -> DriftReport
     ensures { λ r. ⌜ r ≡ loops.concluded n c ⌝ }
 {
     if c.none {
-        return report_at(n, Drift::NoNumber, c.first);
+        return report_at(n, Deviation::NoNumber, c.first);
     }
     if c.worst == 0.0 {
         return still();
     }
-    report_at(n, Drift::Worst(c.worst), c.at)
+    report_at(n, Deviation::Worst(c.worst), c.at)
 }

@@ -1,14 +1,14 @@
 // The drift report of a full set of third order: how far the sums over each of its legs are from zero. A block of 27 numbers is three blocks of nine,
 // one for each direction of the first leg, so the sums over a leg are those of lines of such blocks, as at second order.
-use crate::Drift;
-use crate::seen::Seen;
 use crate::seen::calm;
 use crate::seen::look_line;
-use crate::seen::start;
 use lines::line_sums;
 use places::column_of;
 use places::index_of;
 use places::row_of;
+use reports::Deviation;
+use reports::seen::Seen;
+use reports::seen::start;
 use tables::Answer;
 use tables::Refusal;
 use tables::limits::LIMIT3;
@@ -16,13 +16,13 @@ use tables::sets::judge_full;
 ghost use mathlib.Core.Path.{_≡_};
 ghost use Prim.Native.Nat.{_+_, _*_, _/_, _%_, _≤_, _<_};
 ghost use lib.ListN.{length};
-ghost use Rattle.drift.specs.Loops.{concludedBy};
+ghost use Rattle.reports.specs.Loops.{concludedBy};
 ghost use Rattle.drift.specs.ThirdReport.{legOf, reportAt3, stillReport3, driftReportFc3};
 ghost use Rattle.drift.specs.Lines.{Apart, firstNine, lookLeg, scanned3};
 
 // The drift and its place: the leg that is summed over, 0, 1 or 2, the atoms of the two others, and the directions.
 pub struct LegReport {
-    pub drift: Drift,
+    pub drift: Deviation,
     pub leg: usize,
     pub first: usize,
     pub second: usize,
@@ -50,7 +50,7 @@ fn leg_of(t: usize) -> usize
 }
 
 // The report whose place is that of sum r.
-fn report_at(n: usize, d: Drift, r: usize) -> LegReport
+fn report_at(n: usize, d: Deviation, r: usize) -> LegReport
     requires { ⌜ 0 < n ⌝ }
     ensures { λ q. ⌜ q ≡ reportAt3 n d r ⌝ }
 {
@@ -74,7 +74,7 @@ fn still() -> LegReport
     ensures { λ q. ⌜ q ≡ stillReport3 ⌝ }
 {
     LegReport {
-        drift: Drift::Still,
+        drift: Deviation::Still,
         leg: 2,
         first: 0,
         second: 0,
@@ -89,12 +89,12 @@ fn conclude(n: usize, c: Seen) -> LegReport
     ensures { λ r. ⌜ r ≡ concludedBy stillReport3 (reportAt3 n) c ⌝ }
 {
     if c.none {
-        return report_at(n, Drift::NoNumber, c.first);
+        return report_at(n, Deviation::NoNumber, c.first);
     }
     if c.worst == 0.0 {
         return still();
     }
-    report_at(n, Drift::Worst(c.worst), c.at)
+    report_at(n, Deviation::Worst(c.worst), c.at)
 }
 
 // The first block of nine of line e of a leg whose atoms stand step blocks of 27 apart.

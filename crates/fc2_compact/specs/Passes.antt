@@ -28,7 +28,7 @@ unfoldable pub transposed : Shifts → List Float → List Float
 transposed S set = transposed2 nan S set
 
 -- no transpose: each number becomes the mean of itself and its counterpart, in blocks that are their own counterpart too.
--- The Rust takes the mean of such a block's numbers more than once, but for its diagonal: Means.antt has why the second mean changes nothing.
+-- The Rust takes the mean of such a block's numbers more than once, but for its diagonal: MeanLaws.antt has why the second mean changes nothing.
 unfoldable pub averagedCompact : Shifts → List Float → List Float
 averagedCompact S set = fill S 1 (λ ys. mean (at2 S set ys) (at2 S set (source S order2 ys)))
 

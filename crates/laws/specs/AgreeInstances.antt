@@ -1,5 +1,5 @@
--- The law of the calls at tables that exist, so that its hypotheses can be met: two atoms in the primitive cell and a half
--- shift, any slices of the stated lengths, and any set on the grid, one of which is named. And why the law asks for the grid: off it the mean of six turns on the order of its terms. Assumes nothing.
+-- The law of the calls used at tables and a set that exist: two atoms in the primitive cell and a half shift, any slices of the stated lengths, any set on
+-- the grid, and one that is named. And why the law asks for the grid: off it the mean of six turns on the order of its terms. Assumes nothing.
 use mathlib.Core.Path.{_≡_, refl, ap, _∙_}
 use mathlib.Core.List.{List, [], _∷_}
 use Prim.Native.Nat.{ℕ}

@@ -1,3 +1,2 @@
-// Results about the specification are in specs/: demand 3 of the request, and the starred sheets. There is no code here.
-// Results about the audits; see specs/.
-// Compact and full agree on the grid (document 02, A.11): laws only, in specs/. No code.
+// Results about the specification, in specs/: demand 3, lists of transposes and swaps, compact and full on the grid (document 02, A.11), what a
+// symmetrizer leaves is alike, the worked examples. There is no code here.

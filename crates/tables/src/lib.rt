@@ -1,5 +1,5 @@
-// Refusals, limits, index tables and the two kinds of atom number. specs/ has the rules of shift tables too, which crate shifts tests.
-// The answer of a call as the number that C gets: definitions and laws, in specs/. No code.
+// Refusals and answers with their numbers, limits, index tables, the two kinds of atom number, the guard of full sets. specs/ has the rules of
+// shift tables too, which crate shifts tests.
 ghost use mathlib.Core.Path.{_≡_};
 ghost use Rattle.tables.specs.Answers.{refusalNumber, numberOf, isRefusal};
 

@@ -18,7 +18,9 @@ Calls, by what they do (the number is the order):
     exchange atoms  true_transpose_compact_fc2, .._fc3, .._fc4, swap_pairs_compact_fc4 (any two of four); as phonopy and phono3py have
                     it, half shifts left out: transpose_compact_fc3, .._fc4
     report          drift_report, drift_report_compact_fc2, drift_report_fc3; audit_fc2, .._fc3, .._fc4, audit_compact_fc2, .._fc3,
-                    .._fc4; same_set; row_sums_fc2
+                    .._fc4; same_set; row_sums_fc2; set_difference; drift_report_compact_fc3, .._fc4, drift_report_fc4;
+                    difference_report_fc2, .._fc3, .._fc4, difference_report_compact_fc2, .._fc3, .._fc4;
+                    crystal_report_fc2, .._fc3, .._fc4, crystal_report_compact_fc2, .._fc3, .._fc4
     make            distribute_fc2, .._fc3, .._fc4; rotate_delta_fc2s, rotate_delta_fc3s; compact_to_full_fc2, .._fc3, .._fc4;
                     replace_block_fc2
     match atoms     compute_permutation, find_permutation
@@ -49,7 +51,7 @@ The library has no state, and a call gives the interpreter's lock up: threads ma
 """
 from __future__ import annotations
 
-from . import audit, cells, common, fc2, fc3, fc4, roll, tables
+from . import audit, cells, common, fc2, fc3, fc4, report, roll, tables
 from ._library import version, words
 from ._refused import Refused
 from .audit import Audit, audit_compact_fc2, audit_compact_fc3, audit_compact_fc4, audit_fc2, audit_fc3, audit_fc4, same_set
@@ -67,6 +69,12 @@ from .fc4 import (
     compact_to_full_fc4, distribute_fc4, rotate_delta_fc3s, set_permutation_symmetry_compact_fc4, set_permutation_symmetry_fc4,
     swap_pairs_compact_fc4, transpose_compact_fc4, true_transpose_compact_fc4,
 )
+from .report import (
+    CrystalReport, LegSums, Report, crystal_report_compact_fc2, crystal_report_compact_fc3, crystal_report_compact_fc4,
+    crystal_report_fc2, crystal_report_fc3, crystal_report_fc4, difference_report_compact_fc2, difference_report_compact_fc3,
+    difference_report_compact_fc4, difference_report_fc2, difference_report_fc3, difference_report_fc4, drift_report_compact_fc3,
+    drift_report_compact_fc4, drift_report_fc4, set_difference,
+)
 from .roll import append_roll, is_roll, is_roll_former, read_roll, read_roll_former, retire_all, stands_now
 from .tables import Tables, check_shift_tables
 
@@ -75,15 +83,19 @@ from . import certificate, check, crystal, files, picture  # isort: skip  # they
 __version__ = version()
 # a plain list: type checkers read no other, and take a name that it leaves out for private
 __all__ = [
-    "Along", "Audit", "Drift", "DriftKind", "LegDrift", "Match", "Pairing", "Refused", "Tables", "append_roll", "audit",
-    "audit_compact_fc2", "audit_compact_fc3", "audit_compact_fc4", "audit_fc2", "audit_fc3", "audit_fc4", "cells", "certificate",
-    "check", "check_shift_tables", "common", "compact_to_full_fc2", "compact_to_full_fc3", "compact_to_full_fc4", "compute_permutation",
-    "crystal", "distribute_fc2", "distribute_fc3", "distribute_fc4", "drift_report", "drift_report_compact_fc2", "drift_report_fc3",
+    "Along", "Audit", "CrystalReport", "Drift", "DriftKind", "LegDrift", "LegSums", "Match", "Pairing", "Refused", "Report",
+    "Tables", "append_roll", "audit", "audit_compact_fc2", "audit_compact_fc3", "audit_compact_fc4", "audit_fc2", "audit_fc3",
+    "audit_fc4", "cells", "certificate", "check", "check_shift_tables", "common", "compact_to_full_fc2", "compact_to_full_fc3",
+    "compact_to_full_fc4", "compute_permutation", "crystal", "crystal_report_compact_fc2", "crystal_report_compact_fc3",
+    "crystal_report_compact_fc4", "crystal_report_fc2", "crystal_report_fc3", "crystal_report_fc4",
+    "difference_report_compact_fc2", "difference_report_compact_fc3", "difference_report_compact_fc4", "difference_report_fc2",
+    "difference_report_fc3", "difference_report_fc4", "distribute_fc2", "distribute_fc3", "distribute_fc4", "drift_report",
+    "drift_report_compact_fc2", "drift_report_compact_fc3", "drift_report_compact_fc4", "drift_report_fc3", "drift_report_fc4",
     "fc2", "fc3", "fc4", "files", "find_permutation", "is_roll", "is_roll_former", "nint", "perm_trans_symmetrize_compact_fc",
     "perm_trans_symmetrize_fc", "picture", "read_roll", "read_roll_former", "replace_block_fc2", "retire_all", "roll",
-    "rotate_delta_fc2s", "rotate_delta_fc3s", "row_sums_fc2", "same_set", "set_index_permutation_symmetry_compact_fc",
-    "set_permutation_symmetry_compact_fc3", "set_permutation_symmetry_compact_fc4", "set_permutation_symmetry_fc3",
-    "set_permutation_symmetry_fc4", "sqrt", "stands_now", "swap_pairs_compact_fc4", "tables", "transpose_compact_fc3",
-    "transpose_compact_fc4", "true_transpose_compact_fc2", "true_transpose_compact_fc3", "true_transpose_compact_fc4", "version",
-    "words",
+    "rotate_delta_fc2s", "rotate_delta_fc3s", "row_sums_fc2", "same_set", "set_difference",
+    "set_index_permutation_symmetry_compact_fc", "set_permutation_symmetry_compact_fc3", "set_permutation_symmetry_compact_fc4",
+    "set_permutation_symmetry_fc3", "set_permutation_symmetry_fc4", "sqrt", "stands_now", "swap_pairs_compact_fc4", "tables",
+    "transpose_compact_fc3", "transpose_compact_fc4", "true_transpose_compact_fc2", "true_transpose_compact_fc3",
+    "true_transpose_compact_fc4", "version", "words",
 ]

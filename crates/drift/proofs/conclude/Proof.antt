@@ -1,4 +1,4 @@
-use Rattle.drift.specs.Seen.{conclude-none, conclude-still, conclude-worst}
+use Rattle.reports.specs.Seen.{conclude-none, conclude-still, conclude-worst}
 use Rattle.drift.specs.Drift.{reportAt, stillReport}
 use mathlib.Core.Path.{_∙_}
 use borrow.Author.Needs.{needs}

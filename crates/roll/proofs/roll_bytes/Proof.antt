@@ -5,19 +5,15 @@ use borrow.Author.Needs.{needs}
 use Rattle.roll.proofs.roll_bytes.Statement.{statement}
 use Rattle.roll.proofs.roll_bytes.Tie as tie
 
--- src/lib.rt:13:9
 slice-aggregate-result : tie.Need-slice-aggregate-result
 slice-aggregate-result c = search needs
 
--- src/lib.rt:13:9
 returns : tie.Need-returns
 returns c = let a = c .before .before .args in bytes-past (a .lent .now) (a .count) (c .before .if1 .taken)
 
--- src/lib.rt:15:5
 slice-aggregate-result-2 : tie.Need-slice-aggregate-result-2
 slice-aggregate-result-2 c = sym (length-take-le _ _ (c .before .if1 .left))
 
--- src/lib.rt:9:1
 returns-2 : tie.Need-returns-2
 returns-2 c = let a = c .before .before .args in bytes-there (a .lent .now) (a .count) (c .before .if1 .left)
 

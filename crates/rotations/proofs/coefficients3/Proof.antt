@@ -6,23 +6,18 @@ use borrow.Author.Needs.{needs}
 use Rattle.rotations.proofs.coefficients3.Statement.{statement}
 use Rattle.rotations.proofs.coefficients3.Tie as tie
 
--- src/lib.rt:95:13
 coefficients2-requires : tie.Need-coefficients2-requires
 coefficients2-requires c κs = search needs
 
--- src/lib.rt:97:11
 slice-aggregate-widen : tie.Need-slice-aggregate-widen
 slice-aggregate-widen c = search needs
 
--- src/lib.rt:97:19
 slice-aggregate-widen-2 : tie.Need-slice-aggregate-widen-2
 slice-aggregate-widen-2 c = search needs
 
--- src/lib.rt:97:5
 widen-requires : tie.Need-widen-requires
 widen-requires c κs = search needs
 
--- src/lib.rt:92:1
 returns : tie.Need-returns
 returns c =
     let s = c .before .before .before .before .before in

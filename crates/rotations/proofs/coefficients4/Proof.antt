@@ -6,23 +6,18 @@ use borrow.Author.Needs.{needs}
 use Rattle.rotations.proofs.coefficients4.Statement.{statement}
 use Rattle.rotations.proofs.coefficients4.Tie as tie
 
--- src/lib.rt:105:13
 coefficients3-requires : tie.Need-coefficients3-requires
 coefficients3-requires c κs = search needs
 
--- src/lib.rt:107:11
 slice-aggregate-widen : tie.Need-slice-aggregate-widen
 slice-aggregate-widen c = search needs
 
--- src/lib.rt:107:19
 slice-aggregate-widen-2 : tie.Need-slice-aggregate-widen-2
 slice-aggregate-widen-2 c = search needs
 
--- src/lib.rt:107:5
 widen-requires : tie.Need-widen-requires
 widen-requires c κs = search needs
 
--- src/lib.rt:102:1
 returns : tie.Need-returns
 returns c =
     let s = c .before .before .before .before .before in

@@ -7,7 +7,7 @@ use Rattle.lines.specs.Lines.{lineSums}
 use Rattle.drift.specs.Loops.{lookLine, lookLines}
 use mathlib.Core.Logic.{⊎-elim}
 use borrow.Author.Tests.{not-false}
-use Rattle.drift.specs.Seen.{line-calm}
+use Rattle.drift.specs.Laws.{line-calm}
 use borrow.Author.Needs.{needs}
 use Rattle.drift.proofs.full.look_lines.Statement.{statement}
 use Rattle.drift.proofs.full.look_lines.Tie as tie

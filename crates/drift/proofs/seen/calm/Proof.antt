@@ -4,7 +4,7 @@ use mathlib.Core.Bool.{Bool, true}
 use mathlib.Core.Path.{_≡_, sym, _∙_}
 use Rattle.lists.specs.Tests.{every, every-at, every-of, refuted, not-both}
 use Rattle.lines.specs.Sums3x3.{sumIn}
-use Rattle.drift.specs.Floats.{atMost}
+use Rattle.reports.specs.Floats.{atMost}
 use borrow.Author.Tests.{not-false, not-true}
 use borrow.Author.Count.{below-more}
 use borrow.Author.Needs.{needs}

@@ -3,7 +3,8 @@ use native.Mathlib.Omega.{arith}
 use mathlib.Core.Path.{_≡_, _∙_}
 use Rattle.lists.specs.Tab.{times, times-none, times-more}
 use Rattle.lines.specs.Sums3x3.{sumIn}
-use Rattle.drift.specs.Loops.{look, lookLine}
+use Rattle.drift.specs.Loops.{lookLine}
+use Rattle.reports.specs.Loops.{look}
 use borrow.Author.Needs.{needs}
 use Rattle.drift.proofs.seen.look_line.Statement.{statement}
 use Rattle.drift.proofs.seen.look_line.Tie as tie

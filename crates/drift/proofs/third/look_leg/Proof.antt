@@ -8,7 +8,7 @@ use Rattle.lists.specs.Tab.{times, times-none, times-more}
 use Rattle.lines.specs.Sums3x3.{zeros}
 use Rattle.lines.specs.Lines.{lineSums}
 use Rattle.drift.specs.Loops.{lookLine}
-use Rattle.drift.specs.Seen.{line-calm}
+use Rattle.drift.specs.Laws.{line-calm}
 use Rattle.drift.specs.Lines.{firstNine, lookLeg, square, step-pos, line-in, first-small}
 use Rattle.drift.proofs.third.look_leg.Statement.{statement}
 use Rattle.drift.proofs.third.look_leg.Tie as tie

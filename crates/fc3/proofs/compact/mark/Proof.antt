@@ -6,35 +6,27 @@ use Rattle.orbits.specs.Spread.{setAll}
 use Rattle.fc3.proofs.compact.mark.Statement.{statement}
 use Rattle.fc3.proofs.compact.mark.Tie as tie
 
--- src/compact.rt:27:5
 slice-write-done : tie.Need-slice-write-done
 slice-write-done c = search needs
 
--- src/compact.rt:28:5
 slice-write-done-2 : tie.Need-slice-write-done-2
 slice-write-done-2 c = simp length-set (omega arith)
 
--- src/compact.rt:29:5
 slice-write-done-3 : tie.Need-slice-write-done-3
 slice-write-done-3 c = simp length-set (omega arith)
 
--- src/compact.rt:30:5
 slice-write-done-4 : tie.Need-slice-write-done-4
 slice-write-done-4 c = simp length-set (omega arith)
 
--- src/compact.rt:31:5
 slice-write-done-5 : tie.Need-slice-write-done-5
 slice-write-done-5 c = simp length-set (omega arith)
 
--- src/compact.rt:32:5
 slice-write-done-6 : tie.Need-slice-write-done-6
 slice-write-done-6 c = simp length-set (omega arith)
 
--- src/compact.rt:23:1
 same-length : tie.Need-same-length
 same-length c = simp length-set
 
--- src/compact.rt:23:1
 returns : tie.Need-returns
 unfolding setAll
 returns c = refl

@@ -4,26 +4,21 @@ use Rattle.fc3.specs.Loops.{symmetrize-refused, symmetrize-ready, symmet
 use Rattle.fc3.proofs.compact.set_permutation_symmetry_compact_fc3.Statement.{statement}
 use Rattle.fc3.proofs.compact.set_permutation_symmetry_compact_fc3.Tie as tie
 
--- src/compact.rt:176:9
 judge-compact-requires : tie.Need-judge-compact-requires
 judge-compact-requires c κs = search needs
 
--- src/compact.rt:177:8
 is-refusal-requires : tie.Need-is-refusal-requires
 is-refusal-requires c κs = search needs
 
--- src/compact.rt:178:9
 returns : tie.Need-returns
 returns c =
     let j = c .before .before in
     let a = j .before .before .before .args in
     symmetrize-refused (a .fc3 .now) _ (a .done .now) (j .judge-compact .result) (j .judge-compact .ensures) (sym (c .before .is-refusal .ensures) ∙ c .if1 .taken)
 
--- src/compact.rt:180:5
 clear-bytes-requires : tie.Need-clear-bytes-requires
 clear-bytes-requires c κs = search needs
 
--- src/compact.rt:181:5
 slabs-requires : tie.Need-slabs-requires
 slabs-requires c κs =
     let k = c .before .before .before .before in
@@ -32,19 +27,15 @@ slabs-requires c κs =
     let a = j .before .before .before .args in
     rw (k .clear-bytes .kept .0) (symmetrize-ready (a .fc3 .now) _ (a .done .now) (j .judge-compact .result) (j .judge-compact .ensures) (sym (i .before .is-refusal .ensures) ∙ i .if1 .left))
 
--- src/compact.rt:182:5
 clear-bytes-requires-2 : tie.Need-clear-bytes-requires-2
 clear-bytes-requires-2 c κs = search needs
 
--- src/compact.rt:163:1
 same-length : tie.Need-same-length
 same-length c = search needs
 
--- src/compact.rt:163:1
 same-length-2 : tie.Need-same-length-2
 same-length-2 c = search needs
 
--- src/compact.rt:163:1
 returns-2 : tie.Need-returns-2
 returns-2 c =
     let z = c .before .before in

@@ -19,41 +19,33 @@ Inv-loop fc3₀ p2s s2pp nsym-list perms done₀ n-satom n-patom num-trans p₀ 
 abbrev μ-loop : tie.MeasureT-loop
 μ-loop fc3₀ p2s s2pp nsym-list perms done₀ n-satom n-patom num-trans p₀ fc3 done p = n-patom - p
 
--- src/compact.rt:156:5
 loop-holds : tie.Need-loop-holds Inv-loop μ-loop
 loop-holds c = (omega arith, refl, refl, times-none _ _)
 
--- src/compact.rt:157:9
 slab-requires : tie.Need-slab-requires Inv-loop μ-loop
 slab-requires c κs =
     let l = c .before .before .before .loop in
     let s = c .before .before .before .before .before .before in
     (rw (l .inv .1, l .inv .2) (s .pre), omega arith)
 
--- src/compact.rt:158:9
 add-p : tie.Need-add-p Inv-loop μ-loop
 add-p c = search needs
 
--- src/compact.rt:156:5
 loop-less : tie.Need-loop-less Inv-loop μ-loop
 loop-less c = search needs
 
--- src/compact.rt:156:5
 loop-again : tie.Need-loop-again Inv-loop μ-loop
 loop-again c =
     let v = c .before .before .before .before in
     let l = v .before .before .before .before .loop in
     (omega arith, v .slab .kept .0 ∙ l .inv .1, v .slab .kept .1 .1 .1 .1 .1 .0 ∙ l .inv .2, times-more (l .p) _ _ (l .inv .3) (v .slab .ensures))
 
--- src/compact.rt:141:1
 same-length : tie.Need-same-length Inv-loop μ-loop
 same-length c = search needs
 
--- src/compact.rt:141:1
 same-length-2 : tie.Need-same-length-2 Inv-loop μ-loop
 same-length-2 c = search needs
 
--- src/compact.rt:141:1
 returns : tie.Need-returns Inv-loop μ-loop
 unfolding all3
 returns c =

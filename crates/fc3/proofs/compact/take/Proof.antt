@@ -4,21 +4,17 @@ use Rattle.fc3.specs.Loops.{p2s-read, read-tables, Found, all-in, marks-
 use Rattle.fc3.proofs.compact.take.Statement.{statement}
 use Rattle.fc3.proofs.compact.take.Tie as tie
 
--- src/compact.rt:49:9
 p2s-at-requires : tie.Need-p2s-at-requires
 p2s-at-requires c κs =
     let s = c .before .before in
     p2s-read _ _ _ _ (s .pre .0) (s .args .p .0) (s .args .j .0) (s .args .k .0) (s .pre .1) .0
 
--- src/compact.rt:50:9
 block3-requires : tie.Need-block3-requires
 block3-requires c κs = search needs
 
--- src/compact.rt:51:9
 block3-requires-2 : tie.Need-block3-requires-2
 block3-requires-2 c κs = search needs
 
--- src/compact.rt:52:9
 stored-block3-requires : tie.Need-stored-block3-requires
 stored-block3-requires c κs =
     let g = c .before .before in
@@ -26,7 +22,6 @@ stored-block3-requires c κs =
     let v : g .p2s-at .result .0 < s .args .n-satom = rw (g .p2s-at .ensures) (p2s-read _ _ _ _ (s .pre .0) (s .args .p .0) (s .args .j .0) (s .args .k .0) (s .pre .1) .1) in
     (read-tables _ _ _ _ (s .pre .0), s .pre .1 .1, v, s .pre .1 .2)
 
--- src/compact.rt:53:9
 stored-block3-requires-2 : tie.Need-stored-block3-requires-2
 stored-block3-requires-2 c κs =
     let g = c .before .before .before in
@@ -34,7 +29,6 @@ stored-block3-requires-2 c κs =
     let v : g .p2s-at .result .0 < s .args .n-satom = rw (g .p2s-at .ensures) (p2s-read _ _ _ _ (s .pre .0) (s .args .p .0) (s .args .j .0) (s .args .k .0) (s .pre .1) .1) in
     (read-tables _ _ _ _ (s .pre .0), s .pre .1 .1, s .pre .1 .2, v)
 
--- src/compact.rt:54:9
 stored-block3-requires-3 : tie.Need-stored-block3-requires-3
 stored-block3-requires-3 c κs =
     let g = c .before .before .before .before in
@@ -42,7 +36,6 @@ stored-block3-requires-3 c κs =
     let v : g .p2s-at .result .0 < s .args .n-satom = rw (g .p2s-at .ensures) (p2s-read _ _ _ _ (s .pre .0) (s .args .p .0) (s .args .j .0) (s .args .k .0) (s .pre .1) .1) in
     (read-tables _ _ _ _ (s .pre .0), s .pre .1 .2, v, s .pre .1 .1)
 
--- src/compact.rt:55:9
 stored-block3-requires-4 : tie.Need-stored-block3-requires-4
 stored-block3-requires-4 c κs =
     let g = c .before .before .before .before .before in
@@ -50,7 +43,6 @@ stored-block3-requires-4 c κs =
     let v : g .p2s-at .result .0 < s .args .n-satom = rw (g .p2s-at .ensures) (p2s-read _ _ _ _ (s .pre .0) (s .args .p .0) (s .args .j .0) (s .args .k .0) (s .pre .1) .1) in
     (read-tables _ _ _ _ (s .pre .0), s .pre .1 .2, s .pre .1 .1, v)
 
--- src/compact.rt:56:5
 mark-requires : tie.Need-mark-requires
 mark-requires c κs =
     let o4 = c .before in
@@ -67,7 +59,6 @@ mark-requires c κs =
     rw (s .pre .0 .work-length)
     (marks-in _ _ _ _ (s .pre .0) (a .p .0) (a .j .0) (a .k .0) (s .pre .1) _ _ _ _ _ _ _ f)
 
--- src/compact.rt:57:5
 work-group-requires : tie.Need-work-group-requires
 work-group-requires c κs =
     let o4 = c .before .before .before .before .before in
@@ -83,15 +74,12 @@ work-group-requires c κs =
     record { rep = g .p2s-at .ensures; ijk = k1 .block3 .ensures; ikj = k2 .block32 .ensures; jik = o1 .stored-block3 .ensures; jki = o2 .stored-block32 .ensures; kij = o3 .stored-block33 .ensures; kji = o4 .stored-block34 .ensures } in
     all-in _ _ _ _ (s .pre .0) (a .p .0) (a .j .0) (a .k .0) (s .pre .1) _ _ _ _ _ _ _ f
 
--- src/compact.rt:31:1
 same-length : tie.Need-same-length
 same-length c = search needs
 
--- src/compact.rt:31:1
 same-length-2 : tie.Need-same-length-2
 same-length-2 c = search needs
 
--- src/compact.rt:31:1
 returns : tie.Need-returns
 returns c =
     let w = c .before .before in

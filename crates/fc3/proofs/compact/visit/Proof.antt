@@ -5,11 +5,9 @@ use Rattle.fc3.specs.Loops.{at-below, plain3, visit-free, visit-met}
 use Rattle.fc3.proofs.compact.visit.Statement.{statement}
 use Rattle.fc3.proofs.compact.visit.Tie as tie
 
--- src/compact.rt:85:9
 block3-requires : tie.Need-block3-requires
 block3-requires c κs = search needs
 
--- src/compact.rt:86:8
 slice-read-if1 : tie.Need-slice-read-if1
 slice-read-if1 c =
     let b = c .before in
@@ -17,19 +15,15 @@ slice-read-if1 c =
     let a = s .args in
     rw (b .block3 .ensures ∙ plain3 _ _ _ _) (rw (s .pre .0 .work-length) (at-below _ _ _ _ (s .pre .0) (a .p .0) (a .j .0) (a .k .0) (s .pre .1)))
 
--- src/compact.rt:87:9
 take-requires : tie.Need-take-requires
 take-requires c κs = search needs
 
--- src/compact.rt:67:1
 same-length : tie.Need-same-length
 same-length c = search needs
 
--- src/compact.rt:67:1
 same-length-2 : tie.Need-same-length-2
 same-length-2 c = search needs
 
--- src/compact.rt:67:1
 returns : tie.Need-returns
 returns c =
     let t = c .before .before .before .before in
@@ -38,7 +32,6 @@ returns c =
     let a = b .before .before .before .args in
     t .take .ensures ∙ sym (visit-free _ _ (a .fc3 .now, a .done .now) (ap (λ n. getD (a .done .now) n 0) (sym (b .block3 .ensures ∙ plain3 _ _ _ _)) ∙ i .if1 .taken))
 
--- src/compact.rt:67:1
 returns-2 : tie.Need-returns-2
 returns-2 c =
     let b = c .before .before in

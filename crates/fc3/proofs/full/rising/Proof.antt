@@ -3,11 +3,9 @@ use borrow.Author.Tests.{ltb-true}
 use Rattle.fc3.proofs.full.rising.Statement.{statement}
 use Rattle.fc3.proofs.full.rising.Tie as tie
 
--- src/full.rt:21:9
 returns : tie.Need-returns
 returns c = λ e. (c .before .before .if1 .taken, ltb-true _ _ e)
 
--- src/full.rt:17:1
 returns-2 : tie.Need-returns-2
 returns-2 c = λ e. absurd (false≢true e)
 

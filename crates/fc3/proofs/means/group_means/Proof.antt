@@ -4,75 +4,57 @@ use borrow.Author.Needs.{needs}
 use Rattle.fc3.proofs.means.group_means.Statement.{statement}
 use Rattle.fc3.proofs.means.group_means.Tie as tie
 
--- src/mean.rt:51:9
 read27-requires : tie.Need-read27-requires
 read27-requires c κs = search needs
 
--- src/mean.rt:52:40
 read27-requires-2 : tie.Need-read27-requires-2
 read27-requires-2 c κs = search needs
 
--- src/mean.rt:52:25
 permute-lnm-requires : tie.Need-permute-lnm-requires
 permute-lnm-requires c κs = search needs
 
--- src/mean.rt:52:9
 plus-requires : tie.Need-plus-requires
 plus-requires c κs = search needs
 
--- src/mean.rt:53:40
 read27-requires-3 : tie.Need-read27-requires-3
 read27-requires-3 c κs = search needs
 
--- src/mean.rt:53:25
 permute-mln-requires : tie.Need-permute-mln-requires
 permute-mln-requires c κs = search needs
 
--- src/mean.rt:53:9
 plus-requires-2 : tie.Need-plus-requires-2
 plus-requires-2 c κs = search needs
 
--- src/mean.rt:54:40
 read27-requires-4 : tie.Need-read27-requires-4
 read27-requires-4 c κs = search needs
 
--- src/mean.rt:54:25
 permute-mnl-requires : tie.Need-permute-mnl-requires
 permute-mnl-requires c κs = search needs
 
--- src/mean.rt:54:9
 plus-requires-3 : tie.Need-plus-requires-3
 plus-requires-3 c κs = search needs
 
--- src/mean.rt:55:40
 read27-requires-5 : tie.Need-read27-requires-5
 read27-requires-5 c κs = search needs
 
--- src/mean.rt:55:25
 permute-nlm-requires : tie.Need-permute-nlm-requires
 permute-nlm-requires c κs = search needs
 
--- src/mean.rt:55:9
 plus-requires-4 : tie.Need-plus-requires-4
 plus-requires-4 c κs = search needs
 
--- src/mean.rt:56:40
 read27-requires-6 : tie.Need-read27-requires-6
 read27-requires-6 c κs = search needs
 
--- src/mean.rt:56:25
 permute-nml-requires : tie.Need-permute-nml-requires
 permute-nml-requires c κs = search needs
 
--- src/mean.rt:56:9
 plus-requires-5 : tie.Need-plus-requires-5
 plus-requires-5 c κs = search needs
 
--- src/mean.rt:57:5
 sixths-requires : tie.Need-sixths-requires
 sixths-requires c κs = search needs
 
--- src/mean.rt:39:1
 returns : tie.Need-returns
 returns c =
     let f = c .before in

@@ -4,23 +4,18 @@ use borrow.Author.Tests.{eqb-false, not-true}
 use Rattle.fc3.proofs.spread.apart.Statement.{statement}
 use Rattle.fc3.proofs.spread.apart.Tie as tie
 
--- src/spread.rt:71:9
 returns : tie.Need-returns
 returns c = λ e. absurd (false≢true e)
 
--- src/spread.rt:74:9
 returns-2 : tie.Need-returns-2
 returns-2 c = λ e. absurd (false≢true e)
 
--- src/spread.rt:77:9
 returns-3 : tie.Need-returns-3
 returns-3 c = λ e. absurd (false≢true e)
 
--- src/spread.rt:80:9
 returns-4 : tie.Need-returns-4
 returns-4 c = λ e. absurd (false≢true e)
 
--- src/spread.rt:67:1
 returns-5 : tie.Need-returns-5
 returns-5 c = λ e. (
   λ q. c .before .before .before .if1 .left (sym q),

@@ -5,23 +5,18 @@ use borrow.Author.Needs.{needs}
 use Rattle.fc3.proofs.spread.distinct.Statement.{statement}
 use Rattle.fc3.proofs.spread.distinct.Tie as tie
 
--- src/spread.rt:89:8
 apart-requires : tie.Need-apart-requires
 apart-requires c κs = search needs
 
--- src/spread.rt:90:12
 apart-requires-2 : tie.Need-apart-requires-2
 apart-requires-2 c κs = search needs
 
--- src/spread.rt:91:16
 apart-requires-3 : tie.Need-apart-requires-3
 apart-requires-3 c κs = search needs
 
--- src/spread.rt:92:20
 apart-requires-4 : tie.Need-apart-requires-4
 apart-requires-4 c κs = search needs
 
--- src/spread.rt:93:21
 returns : tie.Need-returns
 returns c = λ e.
     let d = c .before .apart4 .ensures (c .if4 .taken) in
@@ -30,19 +25,15 @@ returns c = λ e.
     let n = c .before .before .before .before .before .before .before .apart .ensures (c .before .before .before .before .before .before .if1 .taken) in
     (n, ((m .0, (m .1 .0, (m .1 .1 .0, (m .1 .1 .1 .0, tt)))), ((k .0, (k .1 .0, (k .1 .1 .0, tt))), ((d .0, (d .1 .0, tt)), ((λ q. eqb-false _ _ (not-true _ e) (sym q), tt), (tt, tt))))))
 
--- src/spread.rt:86:1
 returns-2 : tie.Need-returns-2
 returns-2 c = λ e. absurd (false≢true e)
 
--- src/spread.rt:86:1
 returns-3 : tie.Need-returns-3
 returns-3 c = λ e. absurd (false≢true e)
 
--- src/spread.rt:86:1
 returns-4 : tie.Need-returns-4
 returns-4 c = λ e. absurd (false≢true e)
 
--- src/spread.rt:86:1
 returns-5 : tie.Need-returns-5
 returns-5 c = λ e. absurd (false≢true e)
 
