@@ -1,9 +1,9 @@
-// C name of the matcher that knows when there is no match. A slice is passed as a pointer and its length; include/gullyfork.h says the rest.
+// C name of `find_permutation`. A slice is passed as a pointer and its length; include/gullyfork.h says the rest.
 ghost use Rattle.capi_cells.specs.Finding.{Finds};
 use tables::limits::LIMIT2;
 
-// Which position each rotated position comes from: 0 if a bijection of near pairs was found, 72 if none exists, and then marks has 1 for each member of a group of
-// positions that has fewer near slots than members; or document 01's number of the refusal.
+// Which position each rotated position comes from: 0 if a bijection of near pairs was found, 72 if none exists, and then the positions that marks
+// has a 1 for have fewer near slots between them than they are; or document 01's number of the refusal.
 #[no_mangle]
 pub extern "C" fn gf_find_permutation(
     rot_atom: &mut [i64],

@@ -1,4 +1,5 @@
 // C names of rounding, shift tables and matching. A slice is passed as a pointer and its length; include/gullyfork.h says the rest.
+pub mod capi_explaining;
 pub mod capi_finding;
 
 ghost use mathlib.Core.Path.{_≡_};

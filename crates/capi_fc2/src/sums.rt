@@ -14,7 +14,7 @@ pub extern "C" fn gf_row_sums_fc2(sums: &mut [f64], fc: &[f64], n_satom: usize) 
     tables::number(a)
 }
 
-// Replaces block (i, j) of a full set and corrects the nine sums of atom i. The block comes as a slice of nine numbers.
+// Replaces block (i, j) of a full set and brings the sums of atom i up to date. The block comes as a slice of nine numbers.
 #[no_mangle]
 pub extern "C" fn gf_replace_block_fc2(
     fc: &mut [f64],

@@ -186,7 +186,7 @@ pub extern "C" fn gf_stands_now(lent: &[u8], count: usize, set: u32, slot: &mut 
     seven_or_two(standing::standing_number(a))
 }
 
-// Retires a set and every set linked to it by replacements: 0 done, 7, 9, 11 or 8. new_count has one slot, for how many bytes the roll has
+// Retires a set and all sets that replacements link with it: 0 done, 7, 9, 11 or 8. new_count has one slot, for how many bytes the roll has
 // then.
 #[no_mangle]
 pub extern "C" fn gf_retire_all(

@@ -13,7 +13,7 @@ f64 b = ofBits binary64 b
 abbrev pub rootBits : ℕ → ℕ
 rootBits b = toBits binary64 (sqrt binary64 (f64 b))
 
--- Sheet 1. `nint`: 2.5 gives 3, -0.5 gives -1, 0.49999999999999994 gives 0.
+-- Sheet 1: `nint` of 2.5, -0.5 and 0.49999999999999994.
 pub sheet1 : (nint (f64 0x4004_0000_0000_0000) ≡ pos 3) × (nint (f64 0xbfe0_0000_0000_0000) ≡ negsuc 0) × (nint (f64 0x3fdf_ffff_ffff_ffff) ≡ pos 0)
 unfolding nint ofBits toSigned round
 sheet1 = (refl, refl, refl)

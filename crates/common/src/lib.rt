@@ -63,7 +63,7 @@ pub fn nint(x: f64) -> i64
     if b >= 0x8000_0000_0000_0000 { -z } else { z }
 }
 
-// The square root of x, to the nearest, ties to even: -0.0 gives -0.0, other negatives NaN.
+// The square root of x as IEEE 754 rounds it, ties to even; of -0.0 it is -0.0, of any other negative number NaN.
 pub fn sqrt(x: f64) -> f64
     ensures { λ r. ⌜ r ≡ rootOf binary64 x ⌝ }
 {

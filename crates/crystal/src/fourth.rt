@@ -71,7 +71,8 @@ fn image_block(
 // Looks at block `to` minus block `from` rotated by the matrix whose coefficients c has.
 fn look_block(fc: &[f64], c: &[f64; 6561], to: usize, from: usize, first: usize, seen: Seen) -> Seen
     requires { ⌜ (to * 81 + 81 ≤ length (now fc)) × (from * 81 + 81 ≤ length (now fc)) × (first + 81 < 4611686018427387904) ⌝ }
-    ensures { λ r. ⌜ ((m : List Float) → now (c .entry) ≡ coefficients m 4 81 → r ≡ lookDifferences first (block 81 to (now (fc .entry))) (rotated m 4 (block 81 from (now (fc .entry)))) seen) ⌝ }
+    ensures { λ r. ⌜ ((m : List Float) → now (c .entry) ≡ coefficients m 4 81
+        → r ≡ lookDifferences first (block 81 to (now (fc .entry))) (rotated m 4 (block 81 from (now (fc .entry)))) seen) ⌝ }
 {
     let x = blocks::read81(fc, to);
     let y = rotated81(c, blocks::read81(fc, from));
@@ -96,7 +97,8 @@ fn look_operation(
     ghost { ShiftTables }
     requires { λ T. ⌜ shiftTables (now p2s) (now s2pp) (now «nsym_list») (now perms) «n_satom» «n_patom» «num_trans» ≡ T ⌝ }
     requires { λ T. ⌜ Ready limit4 3 (length (now fc)) T × Sends «n_satom» (now operations) r × (r < 1024) ⌝ }
-    ensures { λ T q. ⌜ ((carts : List Float) → now (c .entry) ≡ coefficients (block 9 r carts) 4 81 → q ≡ operationSeen (shiftsOf T) 3 carts (now (operations .entry)) (now (fc .entry)) 81 (timesPower «n_satom» 3 «n_patom») r seen0) ⌝ }
+    ensures { λ T q. ⌜ ((carts : List Float) → now (c .entry) ≡ coefficients (block 9 r carts) 4 81
+        → q ≡ operationSeen (shiftsOf T) 3 carts (now (operations .entry)) (now (fc .entry)) 81 (timesPower «n_satom» 3 «n_patom») r seen0) ⌝ }
 {
     let count = row_of(fc.len(), 81);
     let mut seen = seen0;
@@ -175,7 +177,9 @@ pub fn crystal_report_compact_fc4(
     num_trans: usize,
     num_rot: usize,
 ) -> ReportAnswer
-    ensures { λ r. ⌜ r ≡ crystalReportCompact limit4 3 (now (fc .entry)) (now («r_carts» .entry)) (now (operations .entry)) (shiftTables (now (p2s .entry)) (now (s2pp .entry)) (now («nsym_list» .entry)) (now (perms .entry)) «n_satom» «n_patom» «num_trans») «num_rot» ⌝ }
+    ensures { λ r. ⌜
+        (let T = shiftTables (now (p2s .entry)) (now (s2pp .entry)) (now («nsym_list» .entry)) (now (perms .entry)) «n_satom» «n_patom» «num_trans» in
+        r ≡ crystalReportCompact limit4 3 (now (fc .entry)) (now («r_carts» .entry)) (now (operations .entry)) T «num_rot») ⌝ }
 {
     let s = judge_set(
         LIMIT4,

@@ -65,7 +65,8 @@ fn image_block(
 // Looks at block `to` minus block `from` rotated by the matrix whose coefficients c has.
 fn look_block(fc: &[f64], c: &[f64; 81], to: usize, from: usize, first: usize, seen: Seen) -> Seen
     requires { ⌜ (to * 9 + 9 ≤ length (now fc)) × (from * 9 + 9 ≤ length (now fc)) × (first + 9 < 4611686018427387904) ⌝ }
-    ensures { λ r. ⌜ ((m : List Float) → now (c .entry) ≡ coefficients m 2 9 → r ≡ lookDifferences first (block 9 to (now (fc .entry))) (rotated m 2 (block 9 from (now (fc .entry)))) seen) ⌝ }
+    ensures { λ r. ⌜ ((m : List Float) → now (c .entry) ≡ coefficients m 2 9
+        → r ≡ lookDifferences first (block 9 to (now (fc .entry))) (rotated m 2 (block 9 from (now (fc .entry)))) seen) ⌝ }
 {
     let x = blocks::read9(fc, to);
     let y = rotated9(c, blocks::read9(fc, from));
@@ -90,7 +91,8 @@ fn look_operation(
     ghost { ShiftTables }
     requires { λ T. ⌜ shiftTables (now p2s) (now s2pp) (now «nsym_list») (now perms) «n_satom» «n_patom» «num_trans» ≡ T ⌝ }
     requires { λ T. ⌜ Ready limit2 1 (length (now fc)) T × Sends «n_satom» (now operations) r × (r < 1024) ⌝ }
-    ensures { λ T q. ⌜ ((carts : List Float) → now (c .entry) ≡ coefficients (block 9 r carts) 2 9 → q ≡ operationSeen (shiftsOf T) 1 carts (now (operations .entry)) (now (fc .entry)) 9 (timesPower «n_satom» 1 «n_patom») r seen0) ⌝ }
+    ensures { λ T q. ⌜ ((carts : List Float) → now (c .entry) ≡ coefficients (block 9 r carts) 2 9
+        → q ≡ operationSeen (shiftsOf T) 1 carts (now (operations .entry)) (now (fc .entry)) 9 (timesPower «n_satom» 1 «n_patom») r seen0) ⌝ }
 {
     let count = row_of(fc.len(), 9);
     let mut seen = seen0;
@@ -169,7 +171,9 @@ pub fn crystal_report_compact_fc2(
     num_trans: usize,
     num_rot: usize,
 ) -> ReportAnswer
-    ensures { λ r. ⌜ r ≡ crystalReportCompact limit2 1 (now (fc .entry)) (now («r_carts» .entry)) (now (operations .entry)) (shiftTables (now (p2s .entry)) (now (s2pp .entry)) (now («nsym_list» .entry)) (now (perms .entry)) «n_satom» «n_patom» «num_trans») «num_rot» ⌝ }
+    ensures { λ r. ⌜
+        (let T = shiftTables (now (p2s .entry)) (now (s2pp .entry)) (now («nsym_list» .entry)) (now (perms .entry)) «n_satom» «n_patom» «num_trans» in
+        r ≡ crystalReportCompact limit2 1 (now (fc .entry)) (now («r_carts» .entry)) (now (operations .entry)) T «num_rot») ⌝ }
 {
     let s = judge_set(
         LIMIT2,

@@ -68,7 +68,8 @@ fn image_block(
 // Looks at block `to` minus block `from` rotated by the matrix whose coefficients c has.
 fn look_block(fc: &[f64], c: &[f64; 729], to: usize, from: usize, first: usize, seen: Seen) -> Seen
     requires { ⌜ (to * 27 + 27 ≤ length (now fc)) × (from * 27 + 27 ≤ length (now fc)) × (first + 27 < 4611686018427387904) ⌝ }
-    ensures { λ r. ⌜ ((m : List Float) → now (c .entry) ≡ coefficients m 3 27 → r ≡ lookDifferences first (block 27 to (now (fc .entry))) (rotated m 3 (block 27 from (now (fc .entry)))) seen) ⌝ }
+    ensures { λ r. ⌜ ((m : List Float) → now (c .entry) ≡ coefficients m 3 27
+        → r ≡ lookDifferences first (block 27 to (now (fc .entry))) (rotated m 3 (block 27 from (now (fc .entry)))) seen) ⌝ }
 {
     let x = blocks::read27(fc, to);
     let y = rotated27(c, blocks::read27(fc, from));
@@ -93,7 +94,8 @@ fn look_operation(
     ghost { ShiftTables }
     requires { λ T. ⌜ shiftTables (now p2s) (now s2pp) (now «nsym_list») (now perms) «n_satom» «n_patom» «num_trans» ≡ T ⌝ }
     requires { λ T. ⌜ Ready limit3 2 (length (now fc)) T × Sends «n_satom» (now operations) r × (r < 1024) ⌝ }
-    ensures { λ T q. ⌜ ((carts : List Float) → now (c .entry) ≡ coefficients (block 9 r carts) 3 27 → q ≡ operationSeen (shiftsOf T) 2 carts (now (operations .entry)) (now (fc .entry)) 27 (timesPower «n_satom» 2 «n_patom») r seen0) ⌝ }
+    ensures { λ T q. ⌜ ((carts : List Float) → now (c .entry) ≡ coefficients (block 9 r carts) 3 27
+        → q ≡ operationSeen (shiftsOf T) 2 carts (now (operations .entry)) (now (fc .entry)) 27 (timesPower «n_satom» 2 «n_patom») r seen0) ⌝ }
 {
     let count = row_of(fc.len(), 27);
     let mut seen = seen0;
@@ -172,7 +174,9 @@ pub fn crystal_report_compact_fc3(
     num_trans: usize,
     num_rot: usize,
 ) -> ReportAnswer
-    ensures { λ r. ⌜ r ≡ crystalReportCompact limit3 2 (now (fc .entry)) (now («r_carts» .entry)) (now (operations .entry)) (shiftTables (now (p2s .entry)) (now (s2pp .entry)) (now («nsym_list» .entry)) (now (perms .entry)) «n_satom» «n_patom» «num_trans») «num_rot» ⌝ }
+    ensures { λ r. ⌜
+        (let T = shiftTables (now (p2s .entry)) (now (s2pp .entry)) (now («nsym_list» .entry)) (now (perms .entry)) «n_satom» «n_patom» «num_trans» in
+        r ≡ crystalReportCompact limit3 2 (now (fc .entry)) (now («r_carts» .entry)) (now (operations .entry)) T «num_rot») ⌝ }
 {
     let s = judge_set(
         LIMIT3,

@@ -1,5 +1,5 @@
--- What the distance of two positions is to the tolerance, modulo the lattice (document 01, "Matched atoms"; document 02, A.3): near if the root of the summed
--- squares is below the tolerance, no number if the root is NaN. Assumes nothing.
+-- What the distance of two positions is to the tolerance, modulo the lattice (document 01, "Matched atoms"; document 02, A.3): near if the root of the sum
+-- of the squares is less than it, no number if the root is NaN. Assumes nothing.
 use mathlib.Core.Bool.{Bool, true, false, cond}
 use mathlib.Core.List.{List}
 use Prim.Native.Nat.{ℕ, _+_, _*_}

@@ -15,7 +15,7 @@ abbrev rest : List Float → List Float → ℕ → ℕ → ℕ → Float
 rest p q i j k = wrapped (getD p (i * 3 + k) nan) (getD q (j * 3 + k) nan)
 
 module _ (l : List Float) (symprec : Float) (p q : List Float) (i j : ℕ) where
-  -- "on an unflagged axis the difference is taken without subtracting its rounding": flag k decides of coordinate k, and of no other
+  -- along an axis without a flag the whole difference counts: flag k decides of coordinate k, and of no other
   pub by-axis : (a b c : Bool)
       → distance2 (record { lattice = l; symprec = symprec; periodic = a ∷ b ∷ c ∷ [] }) p q i j
       ≡ squares l (cond a (rest p q i j 0) (apart p q i j 0)) (cond b (rest p q i j 1) (apart p q i j 1)) (cond c (rest p q i j 2) (apart p q i j 2))

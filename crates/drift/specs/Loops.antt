@@ -1,8 +1,6 @@
 -- What the functions compute, as their loops run. Definitions only.
-use mathlib.Core.Path.{_≡_}
-use mathlib.Core.List.{List, []}
-use Prim.Native.Nat.{ℕ, _+_, _*_, _≤_, _<_}
-use lib.ListN.{length, getD}
+use mathlib.Core.List.{List}
+use Prim.Native.Nat.{ℕ, _+_, _*_}
 use lib.Ieee.{Float}
 use Rattle.lists.specs.Tab.{times}
 use Rattle.lines.specs.Sums3x3.{Sums, zeros, sumIn}
@@ -20,19 +18,9 @@ lookLine q s c = times 9 (λ p. look (q * 9 + p) (sumIn s p)) c
 unfoldable pub lookLines : ℕ → ℕ → ℕ → ℕ → List Float → Seen → Seen
 lookLines first apart step n xs c = times n (λ i. lookLine (first + i) (lineSums (i * apart) step n xs zeros)) c
 
--- row i
-abbrev pub lookRow : ℕ → List Float → ℕ → Seen → Seen
-lookRow n xs i c = lookLine (0 + i) (lineSums (i * n) 1 n xs zeros) c
-
 -- the rows, and then the columns
 unfoldable pub scanned : ℕ → List Float → Seen
 scanned n xs = lookLines n 1 n n xs (lookLines 0 n 1 n xs nothingSeen)
-
--- cs, which has m places, holds the sums of the n columns over the first i rows
-pub record Summed (n m i : ℕ) (xs : List Float) (cs : List Sums) : Type 0 where
-  pub fits : n ≤ m
-  pub long : length cs ≡ m
-  pub column : (j : ℕ) → j < n → getD cs j [] ≡ lineSums j n i xs zeros
 
 abbrev pub concluded : ℕ → Seen → DriftReport
 concluded n c = concludedBy stillReport (reportAt n) c

@@ -1,8 +1,7 @@
 -- An on-site block's means, and the places of a full set of n atoms and m numbers. Assumes nothing.
 use mathlib.Core.Path.{_≡_, refl}
 use mathlib.Core.List.{List, [], _∷_}
-use Prim.Native.Nat.{ℕ, _+_, _*_, _<_, _≤_}
-use native.Mathlib.Nat.{mul-le-mul}
+use Prim.Native.Nat.{ℕ, _+_, _*_, _<_}
 use native.Mathlib.Omega.{arith}
 use lib.ListN.{getD}
 use lib.Ieee.{Float, nan, binary64, add}
@@ -20,9 +19,6 @@ pub evened-once : (b : List Float)
     (getD b 0 nan ∷ x ∷ y ∷ x ∷ getD b 4 nan ∷ z ∷ y ∷ z ∷ getD b 8 nan ∷ []) ≡ evened b
 evened-once b =
     rw (add-commutes binary64 (getD b 3 nan) (getD b 1 nan), add-commutes binary64 (getD b 6 nan) (getD b 2 nan), add-commutes binary64 (getD b 7 nan) (getD b 5 nan)) refl
-
-pub square : (n : ℕ) → n ≤ 1024 → n * n ≤ 1048576
-square n h = mul-le-mul h h
 
 -- the number of a block as it is worked out
 pub full-is : {b : ℕ} (n i j : ℕ) → b ≡ horner n i (j ∷ []) → b ≡ i * n + j

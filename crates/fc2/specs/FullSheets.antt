@@ -57,7 +57,7 @@ sums4 : fromOther sheet4-given ≡ sheet4-wanted
 unfolding fromOther ofBits div neg add
 sums4 = refl
 
--- 4: two atoms, level 0, block (0, 1) zero but [0][1] = 2 and [1][0] = 4, the others of any content: block (0, 0) gets -3 at both, -0.0 elsewhere
+-- 4: level 0 on two atoms, where block (0, 1) has 2 at [0][1], 4 at [1][0] and else zeros, the other blocks anything: block (0, 0) is -3 there, else -0.0
 pub sheet4 : (xs : List Float) → length xs ≡ 36 → block 9 1 xs ≡ sheet4-given
     → (permTransSymmetrizeFc xs 2 0 .0 ≡ Done) × (block 9 0 (permTransSymmetrizeFc xs 2 0 .1) ≡ sheet4-wanted)
 sheet4 xs e g =

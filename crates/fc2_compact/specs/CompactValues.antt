@@ -22,7 +22,7 @@ half-shift : transposed2 0 pair (tab 18 (λ k. k))
 unfolding transposed2 traded fill tab place legsOf rest digits size setLength stays isNull every row p2sAt s2ppAt nsymAt at address horner source stored legsAt shift pick
 half-shift = refl
 
--- three atoms, rows 0 1 2 / 1 2 0 / 2 0 1: blocks (0, 1) and (0, 2) change places, transposed
+-- three atoms that shifts turn in a ring: blocks (0, 1) and (0, 2) change places, transposed
 third-shift : transposed2 0 three (tab 27 (λ k. k))
     ≡ 0 ∷ 3 ∷ 6 ∷ 1 ∷ 4 ∷ 7 ∷ 2 ∷ 5 ∷ 8
     ∷ 18 ∷ 21 ∷ 24 ∷ 19 ∷ 22 ∷ 25 ∷ 20 ∷ 23 ∷ 26

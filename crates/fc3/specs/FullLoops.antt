@@ -1,15 +1,15 @@
--- The loops of a full set of third order: they go over sorted atoms, whose blocks are the first of their groups, and tile by tile of first atoms.
+-- The loops of a full set of third order: they go over sorted atoms, whose blocks are the first of their groups.
 -- Assumes nothing.
 use mathlib.Core.Path.{_≡_, refl, sym, ap, ap₂, _∙_, subst}
 use mathlib.Core.Logic.{inl, inr}
 use mathlib.Core.Bool.{true, false}
-use Prim.Native.Nat.{ℕ, _+_, _*_, _-_, _≤_, _<_, min}
+use Prim.Native.Nat.{ℕ, _+_, _*_, _-_, _≤_, _<_}
 use native.Mathlib.Nat.{le-trans, le-refl, mul-le-mul, mul-le-mul-right}
 use native.Mathlib.Omega.{arith}
 use mathlib.Core.List.{List, [], _∷_}
 use lib.ListN.{length}
 use lib.Ieee.{Float, nan}
-use Rattle.lists.specs.Tab.{times, times-add, times-nest, times-idle, times-tail, times-head, times-both, times-swap}
+use Rattle.lists.specs.Tab.{times, times-add, times-same, times-nest, times-idle, times-tail}
 use Rattle.lists.specs.Elements.{All, pick}
 use Rattle.lists.specs.Digits.{horner, timesPower, in-row}
 use Rattle.tables.specs.Limits.{limit3}
@@ -27,9 +27,7 @@ use Rattle.orbits.specs.AtBlockLaws.{whole-block, whole-counterpart}
 use Rattle.orbits.specs.Groups.{groupBlocks, meanBlock, spreadBlock, Distinct}
 use Rattle.orbits.specs.Symmetric.{symmetrized}
 use Rattle.orbits.specs.GroupLoop.{worked, firstVisit, isFirst, visit-first, visit-later, lowest-leaves}
-use Rattle.orbits.proofs.AnyOrder.{visits-commute}
 use Rattle.fc3.specs.Mean.{mean6, Blocks6}
-use Rattle.fc3.specs.Repeated.{FirstTwo, LastTwo}
 use Rattle.fc3.specs.Loops.{plain3, six-same}
 use Rattle.fc3.specs.Symmetrize.{setPermutationSymmetryFc3}
 
@@ -151,6 +149,18 @@ module _ (n a b c : ℕ) (ha : a < n) (hb : b < n) (hc : c < n) where
 
 -- ---- the loops
 
+-- a loop whose first turn stands before it
+pub first-turn : {A : Type 0} (b n : ℕ) (f : ℕ → A → A) {y z : A} (x : A) → b < n → y ≡ f b x → {c : ℕ} → c ≡ n → z ≡ times (c - (b + 1)) (λ i. f (b + 1 + i)) y
+    → z ≡ times (n - b) (λ i. f (b + i)) x
+unfolding times
+first-turn b n f {y} {z} x h e {c} d g =
+    let q : 1 + (n - (b + 1)) ≡ n - b = omega arith in
+    let m = n - (b + 1) in
+    let o : b ≡ b + 0 = omega arith in
+    g ∙ ap (λ k. times (k - (b + 1)) (λ i. f (b + 1 + i)) y) d ∙ ap (times m (λ i. f (b + 1 + i))) (e ∙ ap (λ k. f k x) o)
+    ∙ times-same m (λ i. f (b + 1 + i)) (λ i. f (b + (1 + i))) (f (b + 0) x) (λ i l w. ap (λ k. f k w) (omega arith))
+    ∙ sym (times-add 1 m (λ i. f (b + i)) x) ∙ ap (λ k. times k (λ i. f (b + i)) x) q
+
 -- the group of atoms a, b, c worked out and written
 unfoldable pub groupAt : ℕ → ℕ → ℕ → ℕ → List Float → List Float
 groupAt n a b c = worked mean6 2 perms3 (fullShifts n) (full3At n a b c)
@@ -159,13 +169,9 @@ groupAt n a b c = worked mean6 2 perms3 (fullShifts n) (full3At n a b c)
 unfoldable pub lineOf : ℕ → ℕ → ℕ → List Float → List Float
 lineOf n a b xs = times (n - b) (λ i. groupAt n a b (b + i)) xs
 
--- the same with the first atoms from, .., to - 1
-unfoldable pub rowOf : ℕ → ℕ → ℕ → ℕ → List Float → List Float
-rowOf n from to b xs = times (to - from) (λ i. lineOf n (from + i) b) xs
-
--- the same with each b; of the atoms only those up to b
-unfoldable pub tileOf : ℕ → ℕ → ℕ → List Float → List Float
-tileOf n from to xs = times (n - from) (λ i. rowOf n from (min to (from + i + 1)) (from + i)) xs
+-- the same with each b from a on
+unfoldable pub linesOf : ℕ → ℕ → List Float → List Float
+linesOf n a xs = times (n - a) (λ i. lineOf n a (a + i)) xs
 
 -- a visit of every block of slab a, sorted or not, in loop order
 abbrev pub visitAt : ℕ → ℕ → List Float → List Float
@@ -194,54 +200,18 @@ module _ (n : ℕ) where
       let g = group-six n a b c ha hb (omega arith) in
       visit-later mean6 2 perms3 (fullShifts n) (full3At n a b c) (full3At n a c b) xs (rw g (inr (inl refl))) (last-lt n c b a hb h)
 
-  -- ---- the atoms of a tile may be taken after b
+  -- of all visits only those of sorted atoms do anything
+  all-line : (a b : ℕ) → a ≤ b → b < n → (xs : List Float) → times n (λ c. visitAt n (full3At n a b c)) xs ≡ lineOf n a b xs
+  unfolding lineOf
+  all-line a b h hb xs =
+      times-tail b n (λ c. visitAt n (full3At n a b c)) (λ c. groupAt n a b c) xs (omega arith)
+      (λ c hc ys. at-last-above a b c hc (omega arith) hb ys) (λ c l hc ys. at-sorted a b c (record { ab = h; bc = l; last = hc }) ys)
 
-  commute : (p q : ℕ) → p < n * n * n → q < n * n * n → (xs : List Float) → visitAt n p (visitAt n q xs) ≡ visitAt n q (visitAt n p xs)
-  commute p q hp hq xs = unfold fullShifts timesPower in visits-commute mean6 (fullShifts n) (whole-laws n) 2 perms3 six-group p q hp hq xs
-
-  at-below : (a b c : ℕ) → a < n → b < n → c < n → full3At n a b c < n * n * n
-  at-below a b c ha hb hc = in-row (n * n) n (a * n + b) c (in-row n n a b ha hb) hc
-
-  module _ (from to : ℕ) (hf : from ≤ to) (ht : to ≤ n) where
-    -- a visit by its place in the tile
-    abbrev at : ℕ → ℕ → ℕ → List Float → List Float
-    at i b c = visitAt n (full3At n (from + i) b c)
-
-    in-tile : (i b c : ℕ) → i < to - from → b < n → c < n → full3At n (from + i) b c < n * n * n
-    in-tile i b c hi hb hc = at-below (from + i) b c (omega arith) hb hc
-
-    b-first : (xs : List Float) → times (to - from) (λ i. slabOf n (from + i)) xs ≡ times n (λ b. times (to - from) (λ i. times n (λ c. at i b c))) xs
-    unfolding slabOf
-    b-first xs =
-        times-swap (to - from) n (λ i b. times n (λ c. at i b c)) xs
-        (λ i b k d hi hb hk hd ys. times-both n n (λ c. at i b c) (λ c. at k d c) ys (λ c e hc he zs. commute (full3At n (from + i) b c) (full3At n (from + k) d e) (in-tile i b c hi hb hc) (in-tile k d e hk hd he) zs))
-
-    -- and of all visits only those of sorted atoms do anything
-    all-line : (a b : ℕ) → a ≤ b → b < n → (xs : List Float) → times n (λ c. visitAt n (full3At n a b c)) xs ≡ lineOf n a b xs
-    unfolding lineOf
-    all-line a b h hb xs =
-        times-tail b n (λ c. visitAt n (full3At n a b c)) (λ c. groupAt n a b c) xs (omega arith)
-        (λ c hc ys. at-last-above a b c hc (omega arith) hb ys) (λ c l hc ys. at-sorted a b c (record { ab = h; bc = l; last = hc }) ys)
-
-    all-row : (b : ℕ) → from ≤ b → b < n → (xs : List Float) → times (to - from) (λ i. times n (λ c. at i b c)) xs ≡ rowOf n from (min to (b + 1)) b xs
-    unfolding rowOf
-    all-row b h hb xs =
-        times-head (min to (b + 1) - from) (to - from) (λ i. times n (λ c. at i b c)) (λ i. lineOf n (from + i) b) xs (omega arith)
-        (λ i g hi ys. times-idle n (λ c. at i b c) ys (λ c hc zs. at-first-above (from + i) b c (omega arith) (omega arith) hc zs)) (λ i hi ys. all-line (from + i) b (omega arith) hb ys)
-
-    all-tile : (xs : List Float) → times n (λ b. times (to - from) (λ i. times n (λ c. at i b c))) xs ≡ tileOf n from to xs
-    unfolding tileOf
-    all-tile xs =
-        times-tail from n (λ b. times (to - from) (λ i. times n (λ c. at i b c))) (λ b. rowOf n from (min to (b + 1)) b) xs (omega arith)
-        (λ b hb ys. times-idle (to - from) (λ i. times n (λ c. at i b c)) ys (λ i hi zs. times-idle n (λ c. at i b c) zs (λ c hc ws. at-first-above (from + i) b c (omega arith) (omega arith) hc ws)))
-        (λ b l hb ys. all-row b l hb ys)
-
-    -- one tile more
-    pub tile-more : (x : List Float) {y z : List Float} → y ≡ times from (slabOf n) x → z ≡ tileOf n from to y → z ≡ times to (slabOf n) x
-    tile-more x e f =
-        let t : from + (to - from) ≡ to = omega arith in
-        f ∙ ap (tileOf n from to) e ∙ sym (b-first (times from (slabOf n) x) ∙ all-tile (times from (slabOf n) x))
-        ∙ sym (times-add from (to - from) (slabOf n) x) ∙ ap (λ k. times k (slabOf n) x) t
+  pub slab-lines : (a : ℕ) → a < n → (xs : List Float) → linesOf n a xs ≡ slabOf n a xs
+  unfolding linesOf slabOf
+  slab-lines a ha xs =
+      sym (times-tail a n (λ b. times n (λ c. visitAt n (full3At n a b c))) (λ b. lineOf n a b) xs (omega arith)
+      (λ b hb ys. times-idle n (λ c. visitAt n (full3At n a b c)) ys (λ c hc zs. at-first-above a b c hb ha hc zs)) (λ b l hb ys. all-line a b l hb ys))
 
   -- THE LOOPS OVER SORTED ATOMS LEAVE THE SYMMETRIZED SET
   pub slabs-leave : (old : List Float) → length old ≡ size (fullShifts n) 2 → slabsOf n old ≡ symmetrized nan mean6 (fullShifts n) 2 perms3 old
@@ -264,8 +234,15 @@ pub record Found (n a b c b0 b1 b2 b3 b4 b5 : ℕ) : Type 0 where
   pub cab : b4 ≡ horner n c (a ∷ b ∷ [])
   pub cba : b5 ≡ horner n c (b ∷ a ∷ [])
 
-subst3 : {x y z u v w : ℕ} → x ≡ u → y ≡ v → z ≡ w → Distinct (x ∷ y ∷ z ∷ []) → Distinct (u ∷ v ∷ w ∷ [])
-subst3 e f g d = rw (← e, ← f, ← g) d
+-- of atoms of which two are the same, or all three
+pub found-first : {n a c x y z : ℕ} → x ≡ horner n a (a ∷ c ∷ []) → y ≡ horner n a (c ∷ a ∷ []) → z ≡ horner n c (a ∷ a ∷ []) → Found n a a c x y x y z z
+found-first e f g = record { abc = e; acb = f; bac = e; bca = f; cab = g; cba = g }
+
+pub found-last : {n a b x y z : ℕ} → x ≡ horner n a (b ∷ b ∷ []) → y ≡ horner n b (a ∷ b ∷ []) → z ≡ horner n b (b ∷ a ∷ []) → Found n a b b x x y z y z
+found-last e f g = record { abc = e; acb = e; bac = f; bca = g; cab = f; cba = g }
+
+pub found-same : {n a x : ℕ} → x ≡ horner n a (a ∷ a ∷ []) → Found n a a a x x x x x x
+found-same e = record { abc = e; acb = e; bac = e; bca = e; cab = e; cba = e }
 
 module _ {n a b c : ℕ} (s : Sorted n a b c) {b0 b1 b2 b3 b4 b5 : ℕ} (F : Found n a b c b0 b1 b2 b3 b4 b5) where
   found-six : b0 ∷ b1 ∷ b2 ∷ b3 ∷ b4 ∷ b5 ∷ [] ≡ sixOf n a b c
@@ -292,33 +269,6 @@ module _ {n a b c : ℕ} (s : Sorted n a b c) {b0 b1 b2 b3 b4 b5 : ℕ} (F : Fou
       at : (q : ℕ) {k : ℕ} → q ≡ k → k < timesPower n 2 n → q * 27 + 27 ≤ lenSet
       at q {k} e h = rw (R .set-length ∙ size-whole n 2 ∙ set-length3 n n) (in-set q (rw e h))
 
-  -- three blocks in rising order
-  rise : (x y z : ℕ) → x < y → y < z → Distinct (x ∷ y ∷ z ∷ [])
-  rise x y z h k = (((λ e. omega arith), ((λ e. omega arith), tt)), (((λ e. omega arith), tt), (tt, tt)))
-
-  -- where two are, three blocks are left, which differ
-  pub found-first : a ≡ b → b < c → FirstTwo b0 b1 b2 b3 b4 b5
-  found-first e l =
-      let hb = lt-b n a b c s in
-      let u = last-lt n b c a (s .last) l in
-      let v = lead-lt n a c b c a b (omega arith) (s .last) hb in (
-        F .bac ∙ ap₂ (λ x y. horner n x (y ∷ c ∷ [])) (sym e) e ∙ sym (F .abc),
-        F .bca ∙ ap₂ (λ x y. horner n x (c ∷ y ∷ [])) (sym e) e ∙ sym (F .acb),
-        F .cba ∙ ap₂ (λ x y. horner n c (x ∷ y ∷ [])) (sym e) e ∙ sym (F .cab),
-        subst3 (sym (F .abc ∙ plain3 n a b c)) (sym (F .acb ∙ plain3 n a c b)) (sym (F .cab ∙ plain3 n c a b)) (rise (full3At n a b c) (full3At n a c b) (full3At n c a b) u v),
-      )
-
-  pub found-last : b ≡ c → a < b → LastTwo b0 b1 b2 b3 b4 b5
-  found-last e l =
-      let hb = lt-b n a b c s in
-      let u = lead-lt n a b c b a c l hb (s .last) in
-      let v = last-lt n a c b (s .last) (omega arith) in (
-        F .acb ∙ ap₂ (λ x y. horner n a (x ∷ y ∷ [])) (sym e) e ∙ sym (F .abc),
-        F .cab ∙ ap₂ (λ x y. horner n x (a ∷ y ∷ [])) (sym e) e ∙ sym (F .bac),
-        F .cba ∙ ap₂ (λ x y. horner n x (y ∷ a ∷ [])) (sym e) e ∙ sym (F .bca),
-        subst3 (sym (F .abc ∙ plain3 n a b c)) (sym (F .bac ∙ plain3 n b a c)) (sym (F .bca ∙ plain3 n b c a)) (rise (full3At n a b c) (full3At n b a c) (full3At n b c a) u v),
-      )
-
   -- where no two atoms are the same, they differ
   pub found-distinct : a < b → b < c → Distinct (b0 ∷ b1 ∷ b2 ∷ b3 ∷ b4 ∷ b5 ∷ [])
   found-distinct ab bc = subst Distinct (sym found-six) (sorted-distinct n a b c s ab bc)
@@ -327,6 +277,18 @@ module _ {n a b c : ℕ} (s : Sorted n a b c) {b0 b1 b2 b3 b4 b5 : ℕ} (F : Fou
   unfolding groupAt worked
   found-is old e =
       e ∙ ap (λ bs. spreadBlock 2 perms3 bs (meanBlock mean6 2 perms3 bs old) old) (found-six ∙ sym (group-six n a b c (lt-a n a b c s) (lt-b n a b c s) (s .last)))
+
+-- where two atoms are the same, three blocks are left, which differ
+rise : (x y z : ℕ) → x < y → y < z → Distinct (x ∷ y ∷ z ∷ [])
+rise x y z h k = (((λ e. omega arith), ((λ e. omega arith), tt)), (((λ e. omega arith), tt), (tt, tt)))
+
+pub first-distinct : {n a c x y z : ℕ} → a < c → c < n → x ≡ horner n a (a ∷ c ∷ []) → y ≡ horner n a (c ∷ a ∷ []) → z ≡ horner n c (a ∷ a ∷ []) → Distinct (x ∷ y ∷ z ∷ [])
+unfolding horner
+first-distinct {n} {a} {c} l h e f g = rw (e, f, g) (rise _ _ _ (last-lt n a c a h l) (lead-lt n a c a c a a l h (omega arith)))
+
+pub last-distinct : {n a b x y z : ℕ} → a < b → b < n → x ≡ horner n a (b ∷ b ∷ []) → y ≡ horner n b (a ∷ b ∷ []) → z ≡ horner n b (b ∷ a ∷ []) → Distinct (x ∷ y ∷ z ∷ [])
+unfolding horner
+last-distinct {n} {a} {b} l h e f g = rw (e, f, g) (rise _ _ _ (lead-lt n a b b b a b l h h) (last-lt n a b b h l))
 
 -- ---- the call
 
@@ -344,8 +306,8 @@ module _ (set : List Float) (n : ℕ) (a : Answer) (e : a ≡ judgedFull limit3 
       let (few, long, _) = done-full limit3 2 (length set) [] n (sym e ∙ is-done a r) in
       record { atoms = few; set-length = long ∙ sym (size-whole n 2) }
 
-  pub full-done : isRefusal a ≡ false → {new : List Float} → new ≡ slabsOf n set → _≡_ {A = Answer × List Float} (Done, new) (setPermutationSymmetryFc3 set n)
+  pub full-done : isRefusal a ≡ false → {new : List Float} → new ≡ symmetrized nan mean6 (fullShifts n) 2 perms3 set → _≡_ {A = Answer × List Float} (Done, new) (setPermutationSymmetryFc3 set n)
   unfolding setPermutationSymmetryFc3
   full-done r {new} l =
-      ap₂ (λ x y. (x, y)) (sym (is-done a r)) (l ∙ slabs-leave n set (full-ready r .set-length) ∙ sym (after-done a (symmetrized nan mean6 (fullShifts n) 2 perms3 set) set r))
+      ap₂ (λ x y. (x, y)) (sym (is-done a r)) (l ∙ sym (after-done a (symmetrized nan mean6 (fullShifts n) 2 perms3 set) set r))
       ∙ ap leaves e

@@ -5,5 +5,4 @@ pub mod Mean
 pub mod Later
 pub mod Spread
 pub mod Coinciding
-pub mod AgainLaws
 pub mod Repeated

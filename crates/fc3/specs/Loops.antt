@@ -242,6 +242,16 @@ symmetrizes lenSet lenWork T R old done lo ld z =
     sized : (T : ShiftTables) → setLength (T .nPatom) (T .nSatom) 2 ≡ size (shiftsOf T) 2
     sized T = unfold size in refl
 
+-- the work slice cleared, the loops run, and the work slice cleared again
+pub worked-clear : (T : ShiftTables) (set : List Float) (work : List ℕ) → Ready (length set) 2 (length work) T → {cleared marked clear : List ℕ} {new : List Float}
+    → cleared ≡ replicate (length work) 0 → _≡_ {A = State} (new, marked) (all3 T (set, cleared)) → clear ≡ replicate (length marked) 0 → length marked ≡ length cleared
+    → (new ≡ symmetrized nan mean6 (shiftsOf T) 2 perms3 set) × (clear ≡ replicate (length work) 0)
+worked-clear T set work R {cleared} {marked} {clear} {new} c l z k =
+    let lc : length cleared ≡ length work = ap length c ∙ length-replicate (length work) 0 in (
+      ap (λ s. s .0) l ∙ symmetrizes (length set) (length work) T R set cleared refl lc (λ b h. ap (λ l. getD l b 0) c ∙ getD-replicate (length work) b 0 0 h),
+      z ∙ ap (λ m. replicate m 0) (k ∙ lc),
+    )
+
 -- ---- the call
 
 module _ (set : List Float) (T : ShiftTables) (work : List ℕ) (a : Answer) (e : a ≡ judgedCompact limit3 2 (length set) 2 (length work) T) where
@@ -253,16 +263,10 @@ module _ (set : List Float) (T : ShiftTables) (work : List ℕ) (a : Answer) (e 
   pub symmetrize-ready : isRefusal a ≡ false → Ready (length set) 2 (length work) T
   symmetrize-ready r = done-compact limit3 2 (length set) 2 (length work) T (sym e ∙ is-done a r)
 
-  -- the work slice cleared, the loops run, and the work slice cleared again
-  pub symmetrize-done : isRefusal a ≡ false → {cleared marked clear : List ℕ} {new : List Float}
-      → cleared ≡ replicate (length work) 0 → _≡_ {A = State} (new, marked) (all3 T (set, cleared)) → clear ≡ replicate (length marked) 0 → length marked ≡ length cleared
+  pub symmetrize-done : isRefusal a ≡ false → {new : List Float} {clear : List ℕ} → new ≡ symmetrized nan mean6 (shiftsOf T) 2 perms3 set → clear ≡ replicate (length work) 0
       → _≡_ {A = Answer × List Float × List ℕ} (Done, new, clear) (setPermutationSymmetryCompactFc3 set T work)
   unfolding setPermutationSymmetryCompactFc3
-  symmetrize-done r {cleared} {marked} {clear} {new} c l z k =
-      let lc : length cleared ≡ length work = ap length c ∙ length-replicate (length work) 0 in
-      let n : new ≡ symmetrized nan mean6 (shiftsOf T) 2 perms3 set =
-      ap (λ s. s .0) l ∙ symmetrizes (length set) (length work) T (symmetrize-ready r) set cleared refl lc (λ b h. ap (λ l. getD l b 0) c ∙ getD-replicate (length work) b 0 0 h) in
-      let w : clear ≡ replicate (length work) 0 = z ∙ ap (λ m. replicate m 0) (k ∙ lc) in
+  symmetrize-done r n w =
       ap₂ (λ x y. (Done, x, y)) n w
       ∙ done-call a (symmetrized nan mean6 (shiftsOf T) 2 perms3 set) set (replicate (length work) 0) work r
       ∙ ap (λ a. (a, after a (symmetrized nan mean6 (shiftsOf T) 2 perms3 set) set, after a (replicate (length work) 0) work)) e

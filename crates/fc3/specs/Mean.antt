@@ -42,6 +42,10 @@ pub record Blocks6 (n b0 b1 b2 b3 b4 b5 : ℕ) : Type 0 where
   pub in4 : b4 * 27 + 27 ≤ n
   pub in5 : b5 * 27 + 27 ≤ n
 
+-- one block six times
+pub one-block : {n x : ℕ} → x * 27 + 27 ≤ n → Blocks6 n x x x x x x
+one-block h = record { in0 = h; in1 = h; in2 = h; in3 = h; in4 = h; in5 = h }
+
 -- ---- the means of a group
 
 at-plus : (v w : List Float) (k : ℕ) → k < 27 → getD (plus27 v w) k nan ≡ add binary64 (getD v k nan) (getD w k nan)

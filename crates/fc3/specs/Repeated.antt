@@ -1,8 +1,8 @@
--- Groups of sorted atoms of which two are the same: three different blocks, each of two permutations. Where two positions of a mean go to one place, the
--- later one holds, so that the blocks hold the means with the later of the two for both. Assumes nothing.
+-- Groups of atoms of which two are the same: three different blocks, each of two permutations; and of one atom three times: one block. Where two
+-- positions of a mean go to one place, the later one holds, so that the blocks hold the means with the later of the two for both. Assumes nothing.
 use mathlib.Core.Path.{_≡_, refl, sym, ap, ap₂, _∙_}
 use mathlib.Core.List.{List, [], _∷_}
-use Prim.Native.Nat.{ℕ, _<_}
+use Prim.Native.Nat.{ℕ, _+_, _*_, _≤_, _<_}
 use lib.Dec.{lit<}
 use lib.ListN.{length}
 use lib.Ieee.{Float}
@@ -16,16 +16,13 @@ use Rattle.places.specs.Permutations.{perms3}
 use Rattle.orbits.specs.Blockwise.{inBlock}
 use Rattle.orbits.specs.Groups.{spots, spreadBlock, Distinct}
 use Rattle.orbits.specs.Spread.{setAll}
-use Rattle.fc3.specs.Mean.{Blocks6}
-use Rattle.fc3.specs.Later.{laterMln, laterLnm}
+use Rattle.fc3.specs.Mean.{Blocks6, one-block}
+use Rattle.fc3.specs.Later.{laterMln, laterLnm, laterAll}
 use Rattle.fc3.specs.Coinciding.{flat, length-flat, firstAt, copySix, slots-in, group-put}
 
--- the six blocks of atoms of which the first two are the same, or the last two: three blocks that differ
-abbrev pub FirstTwo : ℕ → ℕ → ℕ → ℕ → ℕ → ℕ → Type 0
-FirstTwo b0 b1 b2 b3 b4 b5 = (b2 ≡ b0) × (b3 ≡ b1) × (b5 ≡ b4) × Distinct (b0 ∷ b1 ∷ b4 ∷ [])
-
-abbrev pub LastTwo : ℕ → ℕ → ℕ → ℕ → ℕ → ℕ → Type 0
-LastTwo b0 b1 b2 b3 b4 b5 = (b1 ≡ b0) × (b4 ≡ b2) × (b5 ≡ b3) × Distinct (b0 ∷ b2 ∷ b3 ∷ [])
+-- the six blocks of atoms of which two are the same: three pairs
+abbrev pub Pairs : ℕ → ℕ → ℕ → ℕ → ℕ → ℕ → Type 0
+Pairs x x2 y y2 z z2 = (x2 ≡ x) × (y2 ≡ y) × (z2 ≡ z) × Distinct (x ∷ y ∷ z ∷ [])
 
 -- ---- the blocks as values, those of three slots as the program writes them
 
@@ -39,6 +36,11 @@ lastTwo v =
     let w = gathered v laterLnm in
     w ∷ w ∷ gathered w mln ∷ gathered w nlm ∷ w ∷ w ∷ []
 
+abbrev pub allSame : List Float → List (List Float)
+allSame v =
+    let w = laterAll v in
+    w ∷ w ∷ w ∷ w ∷ w ∷ w ∷ []
+
 -- writing the means to their spots, one after the other, leaves them
 flat-first : (v : List Float) → flat (firstTwo v) ≡ spreadBlock 2 perms3 (0 ∷ 1 ∷ 0 ∷ 1 ∷ 4 ∷ 4 ∷ []) v (flat (firstTwo v))
 unfolding flat spreadBlock spots perms3 times setAll permuted pick horner digits rest tab tabFrom inBlock timesPower
@@ -47,6 +49,30 @@ flat-first v = refl
 flat-last : (v : List Float) → flat (lastTwo v) ≡ spreadBlock 2 perms3 (0 ∷ 0 ∷ 2 ∷ 3 ∷ 2 ∷ 3 ∷ []) v (flat (lastTwo v))
 unfolding flat spreadBlock spots perms3 times setAll permuted pick horner digits rest tab tabFrom inBlock timesPower
 flat-last v = refl
+
+flat-same : (v : List Float) → flat (allSame v) ≡ spreadBlock 2 perms3 (0 ∷ 0 ∷ 0 ∷ 0 ∷ 0 ∷ 0 ∷ []) v (flat (allSame v))
+unfolding flat spreadBlock spots perms3 times setAll permuted pick horner digits rest tab tabFrom inBlock timesPower
+flat-same v = refl
+
+-- one block
+pub all-same : (x : ℕ) (v xs : List Float) → x * 27 + 27 ≤ length xs → {w u : List Float} → w ≡ laterAll v → u ≡ putBlock 27 x w xs
+    → u ≡ spreadBlock 2 perms3 (x ∷ x ∷ x ∷ x ∷ x ∷ x ∷ []) v xs
+unfolding copySix
+all-same x v xs R ew e =
+    let G = allSame v in
+    group-put x x x x x x v xs (flat G) G (one-block R) slot slot slot slot slot slot (refl, (refl, (refl, (refl, (refl, (refl, (refl, tt))))))) (flat-same v) (length-flat G)
+    (slots-in (lit< tt) (lit< tt) (lit< tt) (lit< tt) (lit< tt) (lit< tt))
+    (e ∙ ap (λ w. putBlock 27 x w xs) ew ∙ sym (again (putBlock 27 x w (putBlock 27 x w (putBlock 27 x w (putBlock 27 x w xs)))) ∙ again (putBlock 27 x w (putBlock 27 x w (putBlock 27 x w xs)))
+    ∙ again (putBlock 27 x w (putBlock 27 x w xs)) ∙ again (putBlock 27 x w xs) ∙ again xs))
+  where
+    w : List Float
+    w = laterAll v
+
+    again : (ys : List Float) → putBlock 27 x (laterAll v) (putBlock 27 x (laterAll v) ys) ≡ putBlock 27 x (laterAll v) ys
+    again ys = put-put 27 (laterAll v) (laterAll v) ys x
+
+    slot : 0 ≡ firstAt (x ∷ x ∷ x ∷ x ∷ x ∷ []) x
+    slot = unfold firstAt in rw (eq-eqb x x refl) refl
 
 module _ (x y z : ℕ) (d : Distinct (x ∷ y ∷ z ∷ [])) (v xs : List Float) where
   yx : y ≡ x → ⊥

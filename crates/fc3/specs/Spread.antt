@@ -9,14 +9,14 @@ use lib.Ieee.{Float, nan}
 use Rattle.lists.specs.Tab.{tab, tabFrom, length-tab, is-tab, times, times-nest}
 use Rattle.lists.specs.Elements.{Below, pick, straight}
 use Rattle.lists.specs.Digits.{horner, rest, digits, quotient, remainder}
-use Rattle.blocks.specs.Block.{putBlock}
+use Rattle.blocks.specs.Block.{putBlock, put-put-other}
 use Rattle.places.specs.Permutations.{perms3}
 use Rattle.orbits.specs.Blockwise.{inBlock}
-use Rattle.blocks.specs.Permuted.{permuted, permutedBlock}
+use Rattle.blocks.specs.Permuted.{permuted, permutedBlock, gathered, lnm, mln, mnl, nlm, nml}
 use Rattle.orbits.specs.Groups.{spots, meanBlock, spreadBlock, Distinct}
 use Rattle.orbits.specs.Spread.{setAll}
 use Rattle.orbits.proofs.Scatter.{Undoes, Inverses, putAll, wholes-are}
-use Rattle.fc3.specs.Mean.{in27, permuted-plain}
+use Rattle.fc3.specs.Mean.{in27, permuted-plain, lnm-permuted, mln-permuted, mnl-permuted, nlm-permuted, nml-permuted}
 
 -- the inverses of the six permutations: two of them are each other's, the others their own
 unfoldable pub inverse6 : List (List ℕ)
@@ -135,11 +135,31 @@ pub six-stores : (x0 : List Float) {x1 x2 x3 x4 x5 x6 : List Float} (v : Float) 
 unfolding setAll
 six-stores x0 v i0 i1 i2 i3 i4 i5 e6 e5 e4 e3 e2 e1 = cc
 
--- six blocks written one after the other
-pub six-blocks : (x0 : List Float) {x1 x2 x3 x4 x5 x6 v1 v2 v3 v4 v5 : List Float} (b0 b1 b2 b3 b4 b5 : ℕ) (v : List Float)
-    → x6 ≡ putBlock 27 b5 v5 x5 → v5 ≡ permutedBlock 27 (permuted 2 (2 ∷ 1 ∷ 0 ∷ [])) v → x5 ≡ putBlock 27 b4 v4 x4 → v4 ≡ permutedBlock 27 (permuted 2 (1 ∷ 2 ∷ 0 ∷ [])) v
-    → x4 ≡ putBlock 27 b3 v3 x3 → v3 ≡ permutedBlock 27 (permuted 2 (2 ∷ 0 ∷ 1 ∷ [])) v → x3 ≡ putBlock 27 b2 v2 x2 → v2 ≡ permutedBlock 27 (permuted 2 (1 ∷ 0 ∷ 2 ∷ [])) v
-    → x2 ≡ putBlock 27 b1 v1 x1 → v1 ≡ permutedBlock 27 (permuted 2 (0 ∷ 2 ∷ 1 ∷ [])) v → x1 ≡ putBlock 27 b0 v x0
-    → x6 ≡ putSix b0 b1 b2 b3 b4 b5 v x0
-unfolding putSix
-six-blocks x0 b0 b1 b2 b3 b4 b5 v e6 t5 e5 t4 e4 t3 e3 t2 e2 t1 e1 = cc
+-- six blocks that differ, written one after the other in the order of the program
+module _ (b0 b1 b2 b3 b4 b5 : ℕ) (D : Distinct (b0 ∷ b1 ∷ b2 ∷ b3 ∷ b4 ∷ b5 ∷ [])) (xs : List Float) where
+  in-order : (u0 u1 u2 u3 u4 u5 : List Float)
+      → putBlock 27 b3 u3 (putBlock 27 b5 u5 (putBlock 27 b1 u1 (putBlock 27 b4 u4 (putBlock 27 b0 u0 (putBlock 27 b2 u2 xs)))))
+      ≡ putBlock 27 b5 u5 (putBlock 27 b4 u4 (putBlock 27 b3 u3 (putBlock 27 b2 u2 (putBlock 27 b1 u1 (putBlock 27 b0 u0 xs)))))
+  in-order u0 u1 u2 u3 u4 u5 =
+      let y0 = putBlock 27 b0 u0 xs in
+      let y2 = putBlock 27 b2 u2 (putBlock 27 b1 u1 y0) in
+      ap (λ t. putBlock 27 b3 u3 (putBlock 27 b5 u5 (putBlock 27 b1 u1 (putBlock 27 b4 u4 t)))) (put-put-other 27 u0 u2 xs b0 b2 (λ e. D .0 .1 .0 (sym e)))
+      ∙ ap (λ t. putBlock 27 b3 u3 (putBlock 27 b5 u5 t)) (put-put-other 27 u1 u4 (putBlock 27 b2 u2 y0) b1 b4 (λ e. D .1 .0 .1 .1 .0 (sym e)))
+      ∙ ap (λ t. putBlock 27 b3 u3 (putBlock 27 b5 u5 (putBlock 27 b4 u4 t))) (put-put-other 27 u1 u2 y0 b1 b2 (λ e. D .1 .0 .0 (sym e)))
+      ∙ put-put-other 27 u3 u5 (putBlock 27 b4 u4 y2) b3 b5 (λ e. D .1 .1 .1 .0 .1 .0 (sym e))
+      ∙ ap (putBlock 27 b5 u5) (put-put-other 27 u3 u4 y2 b3 b4 (λ e. D .1 .1 .1 .0 .0 (sym e)))
+
+  pub six-spread : (v : List Float) → length v ≡ 27 → {x1 x2 x3 x4 x5 x6 u1 u2 u3 u4 u5 : List Float}
+      → u2 ≡ gathered v mln → x1 ≡ putBlock 27 b2 u2 xs → x2 ≡ putBlock 27 b0 v x1 → u4 ≡ gathered v mnl → x3 ≡ putBlock 27 b4 u4 x2
+      → u1 ≡ gathered v lnm → x4 ≡ putBlock 27 b1 u1 x3 → u5 ≡ gathered v nml → x5 ≡ putBlock 27 b5 u5 x4 → u3 ≡ gathered v nlm → x6 ≡ putBlock 27 b3 u3 x5
+      → x6 ≡ spreadBlock 2 perms3 (b0 ∷ b1 ∷ b2 ∷ b3 ∷ b4 ∷ b5 ∷ []) v xs
+  six-spread v l {u1 = u1} {u2 = u2} {u3 = u3} {u4 = u4} {u5 = u5} f2 e1 e2 f4 e3 f1 e4 f5 e5 f3 e6 =
+      e6 ∙ ap (putBlock 27 b3 u3) (e5 ∙ ap (putBlock 27 b5 u5) (e4 ∙ ap (putBlock 27 b1 u1) (e3 ∙ ap (putBlock 27 b4 u4) (e2 ∙ ap (putBlock 27 b0 v) e1))))
+      ∙ in-order v u1 u2 u3 u4 u5
+      ∙ put (lnm-permuted f1 refl) (mln-permuted f2 refl) (nlm-permuted f3 refl) (mnl-permuted f4 refl) (nml-permuted f5 refl)
+      ∙ six-are b0 b1 b2 b3 b4 b5 v xs l D
+    where
+      put : {u1 u2 u3 u4 u5 : List Float} → u1 ≡ permutedBlock 27 (permuted 2 (0 ∷ 2 ∷ 1 ∷ [])) v → u2 ≡ permutedBlock 27 (permuted 2 (1 ∷ 0 ∷ 2 ∷ [])) v
+          → u3 ≡ permutedBlock 27 (permuted 2 (2 ∷ 0 ∷ 1 ∷ [])) v → u4 ≡ permutedBlock 27 (permuted 2 (1 ∷ 2 ∷ 0 ∷ [])) v → u5 ≡ permutedBlock 27 (permuted 2 (2 ∷ 1 ∷ 0 ∷ [])) v
+          → putBlock 27 b5 u5 (putBlock 27 b4 u4 (putBlock 27 b3 u3 (putBlock 27 b2 u2 (putBlock 27 b1 u1 (putBlock 27 b0 v xs))))) ≡ putSix b0 b1 b2 b3 b4 b5 v xs
+      put p q r s t = unfold putSix in cc

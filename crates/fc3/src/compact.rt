@@ -2,9 +2,12 @@
 ghost use mathlib.Core.Path.{_≡_};
 ghost use mathlib.Core.List.{[], _∷_};
 ghost use Prim.Native.Nat.{_<_};
-ghost use lib.ListN.{length};
-ghost use Rattle.tables.specs.Compact.{ShiftTables, shiftTables};
+ghost use lib.ListN.{length, replicate};
+ghost use lib.Ieee.{nan};
+ghost use Rattle.tables.specs.Compact.{ShiftTables, shiftTables, shiftsOf};
+ghost use Rattle.places.specs.Permutations.{perms3};
 ghost use Rattle.orbits.specs.Spread.{setAll};
+ghost use Rattle.orbits.specs.Symmetric.{symmetrized, mean6};
 ghost use Rattle.fc3.specs.Symmetrize.{setPermutationSymmetryCompactFc3};
 ghost use Rattle.fc3.specs.Loops.{Ready, Atoms, at3, Marks6, workAt, visitAt, row3, slab3, all3};
 use crate::spread::work_group;
@@ -217,6 +220,39 @@ fn slabs(
     }
 }
 
+// The set symmetrized, once the guard has passed. The done table comes in with anything and is left with zeros.
+pub fn symmetrize(
+    fc3: &mut [f64],
+    p2s: &[i64],
+    s2pp: &[i64],
+    nsym_list: &[i64],
+    perms: &[i64],
+    done: &mut [u8],
+    n_satom: usize,
+    n_patom: usize,
+    num_trans: usize,
+)
+    ghost { ShiftTables }
+    requires { λ T. ⌜ shiftTables (now p2s) (now s2pp) (now «nsym_list») (now perms) «n_satom» «n_patom» «num_trans» ≡ T ⌝ }
+    requires { λ T. ⌜ Ready (length (now fc3)) 2 (length (now done)) T ⌝ }
+    ensures { λ T _. ⌜
+        (now (fc3 .exit) ≡ symmetrized nan mean6 (shiftsOf T) 2 perms3 (now (fc3 .entry))) × (now (done .exit) ≡ replicate (length (now (done .entry))) 0) ⌝ }
+{
+    clear_bytes(done);
+    slabs(
+        fc3,
+        p2s,
+        s2pp,
+        nsym_list,
+        perms,
+        done,
+        n_satom,
+        n_patom,
+        num_trans,
+    );
+    clear_bytes(done);
+}
+
 // The set is symmetrized: all six permutations of any three legs read out the same number. The done table comes in with anything and is left with zeros.
 pub fn set_permutation_symmetry_compact_fc3(
     fc3: &mut [f64],
@@ -250,8 +286,7 @@ pub fn set_permutation_symmetry_compact_fc3(
     if is_refusal(a) {
         return a;
     }
-    clear_bytes(done);
-    slabs(
+    symmetrize(
         fc3,
         p2s,
         s2pp,
@@ -262,6 +297,5 @@ pub fn set_permutation_symmetry_compact_fc3(
         n_patom,
         num_trans,
     );
-    clear_bytes(done);
     Answer::Done
 }

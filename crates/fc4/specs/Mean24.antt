@@ -1,4 +1,4 @@
--- The mean of 24 numbers (document 01: summed in the Rust's order and divided once; the sum does begin at 0.0). Definitions only.
+-- The mean of 24 numbers (document 01: added in the order of the Rust, beginning with 0.0, and the sum divided once). Definitions only.
 use mathlib.Core.List.{List}
 use lib.Ieee.{Float, binary64, div, ofBits}
 use Rattle.lists.specs.Floats.{sumFrom}

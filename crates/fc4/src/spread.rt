@@ -1,5 +1,5 @@
-// The means of a group written back to its blocks. Where permutations of the legs lead to the same block, several positions are written to
-// the same place, and the last in loop order holds. That is the greatest of them: so each block is made of the means as a value, and written.
+// The means of a group written back to its blocks. Where permutations of the legs lead to the same block, a place is written for several
+// positions and keeps the last value, that of the greatest position: so each block is made of the means as a value, and written.
 ghost use mathlib.Core.Path.{_≡_};
 ghost use Prim.Native.Nat.{_<_, _≤_, max};
 ghost use lib.ListN.{length, getD};

@@ -1,4 +1,4 @@
--- The grid of document 02, A.10: whole multiples of 2^-20 of absolute value at most 2^20. -0.0 is the multiple 0, so it is on the grid.
+-- The grid of document 02, A.10: the multiples of 2^-20 from -2^20 to 2^20. -0.0 is the multiple 0, so it is on the grid.
 -- A number on the grid is a count of steps of 2^-20, up or down. Assumes nothing.
 use mathlib.Core.Path.{_≡_, refl, sym, ap, _∙_}
 use mathlib.Core.Logic.{_⊎_, inl, inr}
@@ -15,7 +15,7 @@ use lib.ListN.{getD}
 use mathlib.Core.List.{List}
 use Rattle.lists.specs.Tests.{and-fst, and-snd, every}
 
--- x is a whole multiple of 2^-20 of absolute value at most 2^20
+-- x is a multiple of 2^-20 from -2^20 to 2^20
 unfoldable pub onGrid : Float → Bool
 onGrid nan = false
 onGrid (inf s) = false

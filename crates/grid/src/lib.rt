@@ -1,4 +1,4 @@
-// The grid of document 02, A.10: whole multiples of 2^-20 of absolute value at most 2^20. specs/ says why sums of such numbers are exact.
+// The grid of document 02, A.10: the multiples of 2^-20 from -2^20 to 2^20. specs/ says why sums of such numbers are exact.
 ghost use mathlib.Core.Path.{_≡_};
 ghost use Rattle.grid.specs.Grid.{onGrid, nineOnGrid as nineAre};
 

@@ -1,5 +1,5 @@
--- Compact and full agree on the grid (document 02, A.11): reading out and then symmetrizing fully gives the same bits as symmetrizing compactly and then
--- reading out, half shifts included. For any mean that does not turn on the order of its terms; on the grid those of third and fourth order are such.
+-- Compact and full agree on the grid (document 02, A.11): a set that is read out and then symmetrized has the bits of one that is symmetrized and
+-- then read out, half shifts included. For any mean that does not turn on the order of its terms; on the grid those of third and fourth order are such.
 -- Assumes nothing.
 use mathlib.Core.Path.{_≡_, refl, sym, ap, _∙_}
 use mathlib.Core.Bool.{true}

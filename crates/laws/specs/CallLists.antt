@@ -50,7 +50,7 @@ module _ {C Plain : Type 0} (K : Kind C Plain) where
   unfoldable pub spelled : ℕ → List C → List ℕ
   spelled n cs = spells (permutationBy n) cs (straight (suc (K .rank)))
 
-  -- each call is lent the set as the call before left it
+  -- each call goes on with the result of the call before
   unfoldable pub left : List C → List Float → List Float
   left cs set = leaves (K .leftBy) cs set
 
@@ -67,13 +67,13 @@ module _ {C Plain : Type 0} (K : Kind C Plain) where
 
 -- THE LAW, of a set and its tables, and a list of calls
 pub record Law {C Plain : Type 0} (K : Kind C Plain) (T : ShiftTables) (set : List Float) (cs : List C) : Type 0 where
-  -- after the list the read-out holds at any choice of pairs what the plain table holds there
+  -- the read-out of the result has the numbers of the plain table, at all legs
   pub table : (xs : List Leg) → Legs (shiftsOf T) (K .rank) xs
       → readOut nan (shiftsOf T) (left K cs set) xs ≡ K .ask (fed K (length set) cs (K .plain (readOut nan (shiftsOf T) set))) xs
   -- the number that stood at x0, x1, .. stands at xa, xb, .., where a, b, .. is the order that the list spells
   pub stands-at : (xs : List Leg) → Legs (shiftsOf T) (K .rank) xs
       → readOut nan (shiftsOf T) (left K cs set) (permuteLegs (spelled K (length set) cs) xs) ≡ readOut nan (shiftsOf T) set xs
-  -- two lists that start from one set and end in the same order leave the same bits in the whole set
+  -- two lists on one set that spell one order have the same result, bit for bit
   pub same-bits : (ds : List C) → Own K T (length set) ds → spelled K (length set) cs ≡ spelled K (length set) ds → left K cs set ≡ left K ds set
 
 -- ---- what is asked of a kind, for calls with the tables T

@@ -1,5 +1,5 @@
--- Compact and full agree on the grid, said of the calls (document 02, A.11): where none of them is refused, reading out and then symmetrizing fully
--- leaves the same bits as symmetrizing compactly and then reading out. Assumes nothing.
+-- Compact and full agree on the grid, said of the calls (document 02, A.11): where none of them is refused, a set that is read out and then
+-- symmetrized has the bits of one that is symmetrized and then read out. Assumes nothing.
 use mathlib.Core.Path.{_≡_, sym, ap, _∙_}
 use mathlib.Core.List.{List}
 use Prim.Native.Nat.{ℕ}

@@ -141,7 +141,7 @@ backCalls work =
     ∷ record { type = negsuc 0; tables = sixAtoms; work = work }
     ∷ record { type = pos 1; tables = sixAtoms; work = work } ∷ []
 
--- only the null shift is its own inverse: row 1 twice sends atom 0 to 4, row 2 twice sends it to 2
+-- the half-shift condition: row 1 twice sends atom 0 to 4, row 2 twice sends it to 2
 six-atoms-met : NoHalfShift S6
 unfolding NoHalfShift row
 six-atoms-met zero ht h zero ha = refl

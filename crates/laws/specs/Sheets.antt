@@ -71,7 +71,7 @@ sixPositions set = pick nan (5 ∷ 7 ∷ 11 ∷ 15 ∷ 19 ∷ 21 ∷ []) set
 abbrev pub ints : List ℕ → List ℤ
 ints l = map pos l
 
--- p2s, s2pp, nsym_list, the rows, and n_satom, n_patom, num_trans: three atoms, rows 0 1 2 / 1 2 0 / 2 0 1, nsym_list 0 2 1; two atoms, rows 0 1 / 1 0
+-- p2s, s2pp, nsym_list, the rows, and n_satom, n_patom, num_trans: three atoms that shifts turn in a ring; two atoms that a shift exchanges
 abbrev pub threeAtoms : ShiftTables
 threeAtoms = shiftTables (ints (0 ∷ [])) (ints (0 ∷ 0 ∷ 0 ∷ [])) (ints (0 ∷ 2 ∷ 1 ∷ [])) (ints (0 ∷ 1 ∷ 2 ∷ 1 ∷ 2 ∷ 0 ∷ 2 ∷ 0 ∷ 1 ∷ [])) 3 1 3
 
@@ -93,35 +93,35 @@ positions (x ∷ xs) = x ∷ f64 0 ∷ f64 0 ∷ positions xs
 -- ---- the sheets
 
 pub record Sheets : Type 0 where
-  -- 1. `nint`: 2.5 gives 3, -0.5 gives -1, 0.49999999999999994 gives 0.
+  -- 1. `nint` of 2.5, -0.5 and 0.49999999999999994: 3, -1 and 0.
   pub sheet1 : (nint (25 over 10) ≡ pos 3) × (nint (neg (5 over 10)) ≡ negsuc 0) × (nint (49999999999999994 over (10 ^ 17)) ≡ pos 0)
-  -- 2. Root of 2: bits 3FF6A09E667F3BCD (hexadecimal).
+  -- 2. `sqrt` of 2 has the bits 3FF6A09E667F3BCD.
   pub sheet2 : toBits binary64 (sqrt binary64 (f64 2)) ≡ 0x3FF6_A09E_667F_3BCD
   -- 3. Second order, one atom, any level (a level above 1,000 is refused): nine times -0.0.
   pub sheet3 : (set : List Float) (level : ℕ) → length set ≡ 9 → level ≤ 1000 → permTransSymmetrizeFc set 1 level ≡ (Done, replicate 9 (neg (f64 0)))
-  -- 4. Two atoms, level 0, block (0,1) zero but [0][1] = 2, [1][0] = 4: block (0,0) gets -3 at both, -0.0 elsewhere.
+  -- 4. Level 0 on two atoms, where block (0, 1) has 2 at [0][1], 4 at [1][0] and else zeros: block (0, 0) is -3 at these two places, else -0.0.
   pub sheet4 : (set : List Float) → length set ≡ 36
       → blockAt2 2 0 1 set ≡ f64 0 ∷ f64 2 ∷ f64 0 ∷ f64 4 ∷ f64 0 ∷ f64 0 ∷ f64 0 ∷ f64 0 ∷ f64 0 ∷ []
       → (permTransSymmetrizeFc set 2 0 .0 ≡ Done)
       × (blockAt2 2 0 0 (permTransSymmetrizeFc set 2 0 .1)
       ≡ neg (f64 0) ∷ neg (f64 3) ∷ neg (f64 0) ∷ neg (f64 3) ∷ neg (f64 0) ∷ neg (f64 0) ∷ neg (f64 0) ∷ neg (f64 0) ∷ neg (f64 0) ∷ [])
-  -- 5. Third order, one atom, positions 5, 7, 11, 15, 19, 21 hold 1 to 6: all become 3.5.
+  -- 5. Third order, one atom with 1 to 6 at places 5, 7, 11, 15, 19 and 21: 3.5 at all of them.
   pub sheet5 : (set : List Float) → length set ≡ 27 → sixPositions set ≡ f64 1 ∷ f64 2 ∷ f64 3 ∷ f64 4 ∷ f64 5 ∷ f64 6 ∷ []
       → (setPermutationSymmetryFc3 set 1 .0 ≡ Done) × (sixPositions (setPermutationSymmetryFc3 set 1 .1) ≡ replicate 6 (35 over 10))
-  -- 6. Three atoms, rows 0 1 2 / 1 2 0 / 2 0 1, nsym_list 0 2 1: type 0 puts old block (0,2,1), first two directions swapped, at (0,1,2).
+  -- 6. Three atoms in a ring, type 0: block (0, 1, 2) becomes the former block (0, 2, 1) with its first two directions exchanged.
   pub sheet6 : (set : List Float) (work : List ℕ) → length set ≡ 243 → length work ≡ 3
       → (transposeCompactFc3 set threeAtoms work (pos 0) .0 ≡ Done)
       × (blockAt 3 0 1 2 (transposeCompactFc3 set threeAtoms work (pos 0) .1) ≡ firstTwoSwapped (blockAt 3 0 2 1 set))
-  -- 7. Two atoms, rows 0 1 / 1 0: type 0 leaves blocks (0,1,0) and (0,1,1).
+  -- 7. Two atoms that a shift exchanges, type 0: blocks (0, 1, 0) and (0, 1, 1) do not change.
   pub sheet7 : (set : List Float) (work : List ℕ) → length set ≡ 108 → length work ≡ 2
       → (transposeCompactFc3 set twoAtoms work (pos 0) .0 ≡ Done)
       × (blockAt 2 0 1 0 (transposeCompactFc3 set twoAtoms work (pos 0) .1) ≡ blockAt 2 0 1 0 set)
       × (blockAt 2 0 1 1 (transposeCompactFc3 set twoAtoms work (pos 0) .1) ≡ blockAt 2 0 1 1 set)
-  -- 8. num_pos 0: true. One atom at 0, 0, 0 on itself, unit lattice: symprec 2^-600 true, 0 false with slot -1.
+  -- 8. No positions: true. One position at the origin, and the same rotated, unit lattice: true at 2^-600; false at 0, the slot -1.
   pub sheet8 : ((cell : Cell) → computePermutation [] cell [] [] 0 ≡ (Matched, []))
       × ((old : ℤ) → computePermutation (old ∷ []) (unitLattice (1 over (2 ^ 600))) (positions (f64 0 ∷ [])) (positions (f64 0 ∷ [])) 1 ≡ (Matched, pos 0 ∷ []))
       × ((old : ℤ) → computePermutation (old ∷ []) (unitLattice (f64 0)) (positions (f64 0 ∷ [])) (positions (f64 0 ∷ [])) 1 ≡ (NotMatched, negsuc 0 ∷ []))
-  -- 9. Unit lattice, first coordinates 0.25, 0 against 0.125, 0.375, the rest 0, symprec 0.1875: false, slots 0, -1.
+  -- 9. Unit lattice, tolerance 0.1875, x = 0.25 and 0, rotated x = 0.125 and 0.375, else 0: false, slots 0 and -1.
   pub sheet9 : (old old′ : ℤ)
       → computePermutation (old ∷ old′ ∷ []) (unitLattice (1875 over 10000)) (positions (25 over 100 ∷ f64 0 ∷ [])) (positions (125 over 1000 ∷ 375 over 1000 ∷ [])) 2
       ≡ (NotMatched, pos 0 ∷ negsuc 0 ∷ [])

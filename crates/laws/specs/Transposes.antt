@@ -36,11 +36,11 @@ refused n c = isRefusal (judgedTranspose n (length (c .work)) (c .tables))
 
 -- ---- the plain table, and the order
 
--- one number for any three (atom, direction) pairs
+-- the plain table: a number for each triple of legs
 abbrev pub Plain : Type 0
 Plain = Leg → Leg → Leg → Float
 
--- type 0 exchanges the numbers at (x, y, z) and (y, x, z), and so on
+-- type 0 exchanges what is at (x, y, z) with what is at (y, x, z), and so on
 unfoldable pub exchange : ℤ → Plain → Plain
 exchange (pos zero) t x y w = t y x w
 exchange (pos (suc zero)) t x y w = t w y x
@@ -85,11 +85,11 @@ fed n cs t = lists.fed transposes n cs t
 unfoldable pub spelled : ℕ → List Call → List ℕ
 spelled n cs = lists.spelled transposes n cs
 
--- each call is lent the set as the call before left it
+-- each call goes on with the result of the call before
 unfoldable pub left : List Call → List Float → List Float
 left cs set = lists.left transposes cs set
 
--- the calls that are not refused bring the set's own counts and tables; refused ones may bring anything
+-- accepted calls have the counts and tables that the set is read out with; refused ones may have any
 abbrev pub Own : ShiftTables → ℕ → List Call → Type 0
 Own T n cs = lists.Own transposes T n cs
 
@@ -97,13 +97,13 @@ Own T n cs = lists.Own transposes T n cs
 
 -- of a set and its tables, and a list of calls
 pub record ListLaw (T : ShiftTables) (set : List Float) (cs : List Call) : Type 0 where
-  -- after the list the read-out holds at any three pairs what the plain table holds there
+  -- the read-out of the result has the numbers of the plain table, at all legs
   pub table : (x y w : Leg) → Fit (shiftsOf T) x → Fit (shiftsOf T) y → Fit (shiftsOf T) w
       → readOut nan (shiftsOf T) (left cs set) (x ∷ y ∷ w ∷ []) ≡ fed (length set) cs (λ x y w. readOut nan (shiftsOf T) set (x ∷ y ∷ w ∷ [])) x y w
-  -- the number that stood at x0, x1, x2 stands at xa, xb, xc, where a, b, c is the order that the list spells
+  -- what was at legs x0, x1, x2 is at xa, xb, xc, where a, b, c is the order that the list spells
   pub stands-at : (xs : List Leg) → Legs (shiftsOf T) 2 xs
       → readOut nan (shiftsOf T) (left cs set) (permuteLegs (spelled (length set) cs) xs) ≡ readOut nan (shiftsOf T) set xs
-  -- two lists that start from one set and end in the same order leave the same bits in the whole set
+  -- two lists on one set that spell one order have the same result, bit for bit
   pub same-bits : (ds : List Call) → Own T (length set) ds → spelled (length set) cs ≡ spelled (length set) ds → left cs set ≡ left ds set
 
 -- ---- its proof: such calls exchange legs where there is no half shift
@@ -198,8 +198,8 @@ module _ (T : ShiftTables) (nh : NoHalfShift (shiftsOf T)) where
     reads = λ c set xs e q l p. ap (λ s. readOut nan S s xs) (left-own c set e q) ∙ read-by (rw q at (accepted (length set) c e)) (c .type) set xs p;
   }
 
--- THE LAW OF SEQUENCES: for any compact set of the stated length and any list of calls, of which those that are not refused bring the set's own
--- tables, where only the null shift is its own inverse
+-- THE LAW OF SEQUENCES: for any compact set of the stated length and any list of calls, of which the accepted ones have the set's own
+-- tables, under the half-shift condition
 pub law : (T : ShiftTables) (set : List Float) (cs : List Call) → NoHalfShift (shiftsOf T) → length set ≡ size (shiftsOf T) 2 → Own T (length set) cs → ListLaw T set cs
 unfolding fed spelled left
 law T set cs nh l o =

@@ -191,7 +191,7 @@ law3 T =
 abbrev pub Plain4 : Type 0
 Plain4 = Leg → Leg → Leg → Leg → Float
 
--- type 0 exchanges the numbers at (x, y, z, w) and (y, x, z, w)
+-- type 0 exchanges what is at (x, y, z, w) with what is at (y, x, z, w)
 unfoldable pub exchange4 : ℤ → Plain4 → Plain4
 exchange4 (pos zero) t x y z w = t y x z w
 exchange4 (pos (suc k)) t x y z w = t x y z w

@@ -94,7 +94,7 @@ module _ (S : Shifts) (m : ℕ) (set : List Float) where
   n = S .nSatom
 
   -- the sum by blocks
-  sum-is : (leg t k : ℕ) → k < w → getD (blockSums w (legBlock S m leg t) n set) k nan ≡ legSum S m set leg t k
+  pub sum-is : (leg t k : ℕ) → k < w → getD (blockSums w (legBlock S m leg t) n set) k nan ≡ legSum S m set leg t k
   unfolding blockSums legSum
   sum-is leg t k h =
       getD-tab w _ k nan h

@@ -1,4 +1,4 @@
--- The answer is true exactly if all slots are filled; then the slots are a bijection and every pair is near (document 01, "Matched atoms").
+-- True is answered exactly if no slot is left over, and then the slots are a bijection of near pairs (document 01, "Matched atoms").
 -- Assumes nothing.
 use mathlib.Core.Path.{_≡_, refl, sym, ap, _∙_, subst}
 use mathlib.Core.Bool.{Bool, true, false, cond, not, true≢false}
@@ -232,7 +232,7 @@ after-placed : (isNear : ℕ → ℕ → Bool) (n : ℕ) → After isNear n n (m
 unfolding matchedUpTo placedTo
 after-placed isNear n = after isNear n n
 
--- the answer is true exactly if all slots are filled, whatever a failed match names
+-- true is answered exactly if no slot is left over, whatever a failed match names
 pub matched-is : (b c : Bool) (p : Pair) → isMatched (cond b Matched (cond c (NoNumber p) NotMatched)) ≡ b
 matched-is true c p = refl
 matched-is false true p = refl
@@ -268,7 +268,7 @@ module _ (slots : List ℤ) (cell : Cell) (positions rotated : List Float) (n : 
     λ f. all-of ∙ all-taken (near cell positions rotated) n left after-call f,
   )
 
-  -- then the slots are a bijection, and every pair is near
+  -- then the slots are a bijection of near pairs
   pub matched-bijection : isMatched answer ≡ true → Bijection (near cell positions rotated) n left
   matched-bijection e = bijective (near cell positions rotated) n left after-call (sym all-of ∙ e)
 

@@ -1,10 +1,13 @@
 -- The search for a chain of exchanges (document 02, A.6): what it asks and what it leaves. Position i takes a near slot; the position that it drives out
 -- looks for another, one position deeper, and so on. Definitions only.
 use mathlib.Core.Path.{_≡_}
-use mathlib.Core.Bool.{Bool, true, false, not}
+use mathlib.Core.Bool.{Bool, true, false, not, _&&_}
 use mathlib.Core.List.{List}
 use Prim.Native.Nat.{ℕ, _≤_, _<_}
 use lib.IntN.{ℤ}
+use Rattle.tables.specs.Conditions.{indexAt}
+use Rattle.matching.specs.Matching.{isFilled}
+use Rattle.matching.specs.Slots.{slotAt}
 use Rattle.matching.specs.Counts.{count}
 use Rattle.matching.specs.Groups.{Held, Partial, marked, Marks, HeldMarked, Closed}
 
@@ -25,6 +28,10 @@ pub record Ready (isNear : ℕ → ℕ → Bool) (n : ℕ) (slots : List ℤ) (m
   pub homeless : Homeless isNear n slots marks i
   pub fresh : marked marks i ≡ false
   pub deep : unmarked n marks ≤ left
+
+-- slot j may be taken by position i: it is near, and free or held by a position that was not met yet
+unfoldable pub isOpen : (ℕ → ℕ → Bool) → List ℤ → List ℕ → ℕ → ℕ → Bool
+isOpen isNear slots marks i j = isNear i j && not (isFilled (slotAt slots j) && marked marks (indexAt slots j))
 
 -- it is met, and tries slot j
 pub record Trying (isNear : ℕ → ℕ → Bool) (n : ℕ) (slots : List ℤ) (marks : List ℕ) (i j left : ℕ) : Type 0 where

@@ -1,6 +1,6 @@
 -- The second matcher (document 02, A.6): what the call answers and what it leaves. Definitions only.
--- It finds a bijection of near pairs whenever one exists, greedy's where greedy succeeds. Otherwise it marks a group of positions that has fewer near slots
--- than members. Which bijection and which group come back is left free: the promise says that it is one.
+-- It finds a bijection of near pairs if there is one, greedy's where greedy succeeds. Otherwise it marks positions that have fewer near slots between them
+-- than they are. Which bijection and which group it returns is left free: the promise says that it is one.
 use mathlib.Core.Path.{_≡_}
 use mathlib.Core.Bool.{Bool, true, false, cond}
 use mathlib.Core.List.{List, [], _∷_}

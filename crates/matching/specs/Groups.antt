@@ -1,5 +1,5 @@
--- A matcher that knows when there is no match (document 02, A.6): the slots while positions are being placed, and a group of positions that has fewer near
--- slots than members. Where there is such a group there is no bijection of near pairs. Assumes nothing.
+-- The second matcher (document 02, A.6): the slots while positions are being placed, and a group of positions with fewer near slots than there are
+-- positions in it. Where there is such a group there is no bijection of near pairs. Assumes nothing.
 use mathlib.Core.Path.{_≡_, refl, sym, ap, _∙_, subst}
 use mathlib.Core.Logic.{_⊎_, inl, inr}
 use mathlib.Core.Bool.{Bool, true, _&&_}

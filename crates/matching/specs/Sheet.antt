@@ -1,4 +1,4 @@
--- Sheet 9 of document 01 for the second matcher (document 02, A.6): unit lattice, first coordinates 0.25, 0 against 0.125, 0.375, tolerance 0.1875. Position 1 is near
+-- Sheet 9 of document 01 for the second matcher (document 02, A.6): x = 0.25 and 0, rotated x = 0.125 and 0.375, tolerance 0.1875. Position 1 is near
 -- slot 0 alone, so one bijection exists, and the call gives slots 1, 0, whatever the slots and marks held. Assumes nothing.
 use mathlib.Core.Path.{_≡_, refl, sym, ap, ap₂, _∙_}
 use mathlib.Core.Bool.{Bool, true, false}

@@ -51,7 +51,7 @@ pub no-positions : (cell : Cell) → computePermutation [] cell [] [] 0 ≡ (Mat
 unfolding computePermutation judgedMatching answered searched matchedUpTo placedTo times firstNone lowest allFilled allOf
 no-positions cell = refl
 
--- 8: one atom at 0, 0, 0 on itself, at 2 ^ -600 and at 0
+-- 8: a position at the origin and the same rotated, at 2 ^ -600 and at 0
 pub on-itself : (old : ℤ) → computePermutation (old ∷ []) (unitCell (ofBits binary64 0x1a70_0000_0000_0000)) (at-x zero64 []) (at-x zero64 []) 1 ≡ (Matched, pos 0 ∷ [])
 unfolding computePermutation judgedMatching answered searched matchedUpTo placedTo times matchOne lowest slotFor noneAt hasNone firstNone allFilled allOf distance distance2 squares ofBits add sub mul lt isNan nearestWhole sqrt round
 on-itself old = refl
@@ -60,7 +60,7 @@ pub at-zero : (old : ℤ) → computePermutation (old ∷ []) (unitCell zero64) 
 unfolding computePermutation judgedMatching answered searched matchedUpTo placedTo times matchOne lowest slotFor noneAt hasNone firstNone allFilled allOf distance distance2 squares ofBits add sub mul lt isNan nearestWhole sqrt round
 at-zero old = refl
 
--- 9: first coordinates 0.25, 0 against 0.125, 0.375, at 0.1875
+-- 9: x = 0.25 and 0, rotated x = 0.125 and 0.375, at 0.1875
 pub two-positions : (old old′ : ℤ)
     → computePermutation (old ∷ old′ ∷ []) (unitCell (ofBits binary64 0x3fc8_0000_0000_0000))
     (at-x (ofBits binary64 0x3fd0_0000_0000_0000) (at-x zero64 [])) (at-x eighth (at-x (ofBits binary64 0x3fd8_0000_0000_0000) [])) 2

@@ -9,16 +9,16 @@ use lib.Dec.{eqb}
 use lib.IntN.{ℤ, pos, negsuc}
 use lib.ListN.{getD, set, length-set}
 use lib.Seq.{ext-getD, getD-set-same, getD-set-other}
-use borrow.Author.Tests.{eq-eqb, not-true}
+use borrow.Author.Tests.{eq-eqb, not-true, not-false}
 use Rattle.lists.specs.Cases.{lt-or-le, eq-or-ne}
-use Rattle.lists.specs.Tests.{split, not-both}
+use Rattle.lists.specs.Tests.{split, not-both, and-fst, and-snd}
 use Rattle.tables.specs.Conditions.{nat, indexAt}
 use Rattle.matching.specs.Matching.{isFilled}
 use Rattle.matching.specs.Slots.{slotAt}
 use Rattle.matching.specs.Bijection.{Taken}
 use Rattle.matching.specs.Counts.{count-mono, count-without, without, without-other, count-same}
 use Rattle.matching.specs.Groups.{Held, Partial, marked, Marks, HeldMarked, Closed, held-below}
-use Rattle.matching.specs.Chains.{unmarked, Ready, Trying, Found, Grows, Settled, Stuck, Searched, Tried, Looked}
+use Rattle.matching.specs.Chains.{unmarked, isOpen, Ready, Trying, Found, Grows, Settled, Stuck, Searched, Tried, Looked}
 
 same-position : {i k : ℕ} → pos i ≡ pos k → i ≡ k
 same-position e = cc
@@ -252,6 +252,41 @@ module _ (isNear : ℕ → ℕ → Bool) (n : ℕ) (slots : List ℤ) (marks : L
           };
           closed = λ _ _. (k, e, S .met);
         }
+
+  -- far, or held by a position that was met
+  pub tried-shut : isOpen isNear slots marks i j ≡ false → Tried isNear n slots marks i j false slots marks
+  unfolding isOpen
+  tried-shut e = go (split (isNear i j)) (split (isFilled (slotAt slots j)))
+    where
+      go : (isNear i j ≡ true) ⊎ (isNear i j ≡ false) → (isFilled (slotAt slots j) ≡ true) ⊎ (isFilled (slotAt slots j) ≡ false)
+          → Tried isNear n slots marks i j false slots marks
+      go (inr f) b = tried-far f
+      go (inl c) (inl f) = tried-met c (indexAt slots j) (filled-pos slots j f) (not-false (marked marks (indexAt slots j)) (rw (c, f) at e))
+      go (inl c) (inr f) = absurd (true≢false (rw (c, f) at e))
+
+-- which slots are open, case by case
+module _ (isNear : ℕ → ℕ → Bool) (slots : List ℤ) (marks : List ℕ) (i j : ℕ) where
+  pub open-far : isNear i j ≡ false → false ≡ isOpen isNear slots marks i j
+  unfolding isOpen
+  open-far f = rw f refl
+
+  pub open-free : isNear i j ≡ true → isFilled (slotAt slots j) ≡ false → true ≡ isOpen isNear slots marks i j
+  unfolding isOpen
+  open-free c f = rw (c, f) refl
+
+  pub open-held : isNear i j ≡ true → isFilled (slotAt slots j) ≡ true → not (marked marks (indexAt slots j)) ≡ isOpen isNear slots marks i j
+  unfolding isOpen
+  open-held c f = rw (c, f) refl
+
+-- an open slot is near, and holds no position that was met
+module _ (isNear : ℕ → ℕ → Bool) (slots : List ℤ) (marks : List ℕ) (i j : ℕ) (e : isOpen isNear slots marks i j ≡ true) where
+  pub open-near : isNear i j ≡ true
+  unfolding isOpen
+  open-near = and-fst (isNear i j) _ e
+
+  pub open-fresh : isFilled (slotAt slots j) ≡ true → marked marks (indexAt slots j) ≡ false
+  unfolding isOpen
+  open-fresh f = not-true (marked marks (indexAt slots j)) (rw f at (and-snd (isNear i j) _ e))
 
 -- ---- the search: all slots in order
 

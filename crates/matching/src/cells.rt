@@ -53,8 +53,8 @@ pub fn judge_matching(len_slots: usize, len_pos: usize, len_rot: usize, num_pos:
     Answer::Done
 }
 
-// Which position each rotated position comes from: slot j of rot_atom gets the number of the position that is near rot_pos j, or -1. The answer is true exactly
-// if all slots are filled; a false names the first pair tried whose distance is no number.
+// Which position each rotated position comes from: slot j of rot_atom gets the number of the position that is near rot_pos j, or -1. True is answered exactly
+// if no slot is left over; a false names the first pair tried whose distance is no number.
 pub fn compute_permutation(
     rot_atom: &mut [i64],
     cell: Cell,

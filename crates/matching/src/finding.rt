@@ -1,4 +1,4 @@
-// A matcher that knows when there is no match.
+// The matcher that finds a match whenever there is one.
 
 ghost use mathlib.Core.Path.{_≡_};
 ghost use Prim.Native.Nat.{_≤_};
@@ -93,8 +93,8 @@ fn find(rot_atom: &mut [i64], marks: &mut [u8], cell: Cell, pos: &[f64], rot_pos
     none_found(rot_atom)
 }
 
-// Finds a bijection of near pairs whenever one exists, greedy's where greedy succeeds; slot j of rot_atom gets the position near rot_pos j. Otherwise all slots are
-// -1, and a group of positions that has fewer near slots than members is marked with 1.
+// Finds a bijection of near pairs if there is one, greedy's where greedy succeeds; slot j of rot_atom gets the position near rot_pos j. Otherwise all slots are
+// -1, and positions are marked with 1 that have fewer near slots between them than they are.
 pub fn find_permutation(
     rot_atom: &mut [i64],
     marks: &mut [u8],

@@ -1,5 +1,5 @@
--- The mean of document 01, said by the read-out alone: `IsMean`, and the theorem `symmetrized-is-mean`. "A group is worked out from its first
--- member in loop order. Where .. several direction triples (quadruples) write the same places, the last in loop order holds." Assumes nothing.
+-- The mean of document 01, said by the read-out alone: `IsMean`, and the theorem `symmetrized-is-mean`. The first member of a
+-- group that the loops come to works the group out; of several values written to one place the last one counts. Assumes nothing.
 use mathlib.Core.Path.{_≡_, refl, sym, ap, _∙_}
 use native.Mathlib.Nat.{le-antisymm}
 use Prim.Native.Nat.{ℕ, suc, _/_, _≤_}

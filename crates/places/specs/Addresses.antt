@@ -60,7 +60,7 @@ module _ (S : Shifts) (p j k l a b c d : ℕ) where
 
 -- ---- the read-out: the stored block's number for atoms (i, j), (i, j, k) or (i, j, k, l), and the directions' position in it
 
--- the number of the stored block: the block at s2pp[i] and the images of the other atoms under row nsym_list[i]
+-- the number of the stored block: that of s2pp[i] and of where row nsym_list[i] sends the other atoms
 unfoldable pub storedBlock : Shifts → ℕ → List ℕ → ℕ
 storedBlock S i js = horner (S .nSatom) (s2ppAt S i) (map (row S (nsymAt S i)) js)
 

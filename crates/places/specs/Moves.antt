@@ -27,11 +27,11 @@ module _ {A : Type 0} (z : A) where
 
 -- ---- the Rust's transposes: what they leave where a half shift exchanges the atoms is not the true transpose
 
--- The block stays (document 01): row nsym_list[j] is not the null shift and swaps atom j with p2s[p].
+-- The block stays (document 01): row nsym_list[j] exchanges atom j with p2s[p] and is not the identity.
 unfoldable pub stays : Shifts → ℕ → ℕ → Bool
 stays S p j = not (isNull S (nsymAt S j)) && (eqb (row S (nsymAt S j) j) (p2sAt S p) && eqb (row S (nsymAt S j) (p2sAt S p)) j)
 
--- The permutation of the legs that type t of third order is: it exchanges pairs 0 and 1, 0 and 2, or 1 and 2; any other type changes
+-- The permutation of the legs that type t of third order is: it exchanges legs 0 and 1, 0 and 2, or 1 and 2; other types change
 -- nothing. Document 01 calls it the order that a list of transposes spells.
 unfoldable pub order : ℕ → List ℕ
 order zero = 1 ∷ 0 ∷ 2 ∷ []

@@ -29,7 +29,7 @@ dir x = x .1
 unfoldable pub shift : Shifts → ℕ → List Leg → List Leg
 shift S t xs = map (λ x. (row S t (atom x), dir x)) xs
 
--- The read-out entry for atoms (i, j, k) is the stored block at s2pp[i] and the images of j and k under row nsym_list[i].
+-- Where the read-out has its number for atoms i, j, k: row nsym_list[i] takes i to the representative of s2pp[i], and j and k with it.
 unfoldable pub stored : Shifts → List Leg → List Leg
 stored S [] = []
 stored S (x ∷ xs) = (s2ppAt S (atom x), dir x) ∷ shift S (nsymAt S (atom x)) xs

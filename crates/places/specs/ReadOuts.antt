@@ -48,7 +48,7 @@ pub stored-in : (T : ShiftTables) (i : ℕ) (js : List ℕ) → storedIn (T .nSa
 unfolding storedIn storedBlock row s2ppAt nsymAt
 stored-in T i js = refl
 
--- it is what the entries say: the block at s2pp[i] and the images of js under row nsym_list[i]
+-- it is what the entries say: the block of s2pp[i] and of where row nsym_list[i] sends js
 pub stored-read : (n : ℕ) (s2pp nsymList perms : List ℤ) (i : ℕ) (js : List ℕ)
     → storedIn n s2pp nsymList perms i js ≡ horner n (indexAt s2pp i) (map (λ j. indexAt perms (indexAt nsymList i * n + j)) js)
 unfolding storedIn storedBlock

@@ -12,7 +12,7 @@ use Rattle.places.specs.Places.{shift, stored, legsAt, address, size, le
 use Rattle.places.specs.Addresses.{storedBlock}
 use Rattle.places.specs.Moves.{source, stays, order}
 
--- sheet 6: three atoms, rows 0 1 2 / 1 2 0 / 2 0 1, nsym_list 0 2 1
+-- sheet 6: three atoms that shifts turn in a ring
 abbrev pub three : Shifts
 three = record { nSatom = 3; nPatom = 1; numTrans = 3; perms = 0 ∷ 1 ∷ 2 ∷ 1 ∷ 2 ∷ 0 ∷ 2 ∷ 0 ∷ 1 ∷ []; p2s = 0 ∷ []; s2pp = 0 ∷ 0 ∷ 0 ∷ []; nsymList = 0 ∷ 2 ∷ 1 ∷ [] }
 
@@ -44,7 +44,7 @@ sizes : map (size three) (1 ∷ 2 ∷ 3 ∷ []) ≡ 27 ∷ 243 ∷ 2187 ∷ []
 unfolding size setLength
 sizes = refl
 
--- type 0 puts the old block (0, 2, 1), first two directions swapped, at (0, 1, 2); no row exchanges two atoms, so no block stays
+-- block (0, 1, 2) becomes the former block (0, 2, 1) with its first two directions exchanged; no row exchanges two atoms, so no block stays
 source-012 : (a b c : ℕ) → source three (order 0) ((0, a) ∷ (1, b) ∷ (2, c) ∷ []) ≡ (0, b) ∷ (2, a) ∷ (1, c) ∷ []
 unfolding source order pick legsAt stored shift row p2sAt s2ppAt nsymAt
 source-012 a b c = refl
@@ -53,7 +53,7 @@ none-stays : map (stays three 0) (0 ∷ 1 ∷ 2 ∷ []) ≡ false ∷ false ∷ 
 unfolding stays isNull every row p2sAt nsymAt
 none-stays = refl
 
--- sheet 7: two atoms, rows 0 1 / 1 0: the blocks at atom 1 stay
+-- sheet 7: two atoms that a shift exchanges: the blocks at atom 1 stay
 abbrev pub pair : Shifts
 pair = record { nSatom = 2; nPatom = 1; numTrans = 2; perms = 0 ∷ 1 ∷ 1 ∷ 0 ∷ []; p2s = 0 ∷ []; s2pp = 0 ∷ 0 ∷ []; nsymList = 0 ∷ 1 ∷ [] }
 

@@ -100,7 +100,7 @@ pub fn dir3(a: usize, b: usize, c: usize) -> usize
     index_of(dir2(a, b), 3, c)
 }
 
-// The read-out entry for atoms (i, j) is this stored block: the one at s2pp[i] and the image of j under row nsym_list[i].
+// Where the block of atoms i and j is stored: at s2pp[i] and where row nsym_list[i] sends j.
 pub fn stored_block2(
     s2pp: &[i64],
     nsym_list: &[i64],
@@ -116,7 +116,7 @@ pub fn stored_block2(
     block2(s2pp_at(s2pp, i), perms_at(perms, n_satom, t, j), n_satom)
 }
 
-// The same for atoms (i, j, k): the block at s2pp[i] and the images of j and k.
+// The same for atoms i, j and k, of which the row sends the last two.
 pub fn stored_block3(
     s2pp: &[i64],
     nsym_list: &[i64],
@@ -138,7 +138,7 @@ pub fn stored_block3(
     )
 }
 
-// The same for atoms (i, j, k, l): the block at s2pp[i] and the images of j, k and l.
+// The same for atoms i, j, k and l.
 pub fn stored_block4(
     s2pp: &[i64],
     nsym_list: &[i64],

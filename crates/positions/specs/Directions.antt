@@ -1,5 +1,5 @@
--- What the table says, in document 02's words (A.5): the entry of a permutation and a position is the address of that position's four
--- directions taken in that permutation. It lies in the block, and no two positions have the same. Assumes nothing.
+-- What the table says (document 02, A.5): for a permutation and a position, where the four directions of the position stand after they are
+-- permuted so. The entry lies in the block, and no two positions have the same. Assumes nothing.
 use mathlib.Core.Path.{_≡_, refl, sym, ap, _∙_}
 use Prim.Native.Nat.{ℕ, _+_, _*_, _<_}
 use native.Mathlib.Nat.{suc-inj, suc-ne-zero}

@@ -1,4 +1,4 @@
--- What is known of a call that reads a compact set out where its guard lets it pass. Assumes nothing.
+-- What is known of `compact_to_full` where its guard lets a call pass. Assumes nothing.
 use mathlib.Core.Path.{_≡_, refl, sym, ap, _∙_}
 use mathlib.Core.Bool.{true, false}
 use mathlib.Core.List.{List}

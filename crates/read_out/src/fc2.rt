@@ -60,7 +60,7 @@ fn rows(
     }
 }
 
-// Reads a compact set out to the full one. What was in the full slice has no influence.
+// Writes the full set that a compact set stands for. What was in the full slice does not matter.
 pub fn compact_to_full_fc2(
     full: &mut [f64],
     fc2: &[f64],

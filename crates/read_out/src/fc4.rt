@@ -103,7 +103,7 @@ fn rows(
     }
 }
 
-// Reads a compact set out to the full one. What was in the full slice has no influence.
+// Writes the full set that a compact set stands for. What was in the full slice does not matter.
 pub fn compact_to_full_fc4(
     full: &mut [f64],
     fc4: &[f64],

@@ -1,9 +1,10 @@
-// Replays answers for the calls that make numbers of a set from others: the distributors of third and fourth order, the rotations of
-// displaced force constants, compact sets read out to full ones, through their C names. Standard input has the pages of the three one after
-// another, which oracle/ makes; oracle/README.md says what the words of a record are. The numbers of sets are made from the record's seed. For
-// each are written how many calls were compared, how many differ in the answer or in a slice, how many there are of each answer, and a
-// checksum of the inputs and of all that was worked out from them.
+// Replays answers for the calls that make numbers of a set from others: the distributors, the rotations of displaced force constants, compact
+// sets read out to full ones, through their C names. Standard input has the pages of the distributor of second order, of those of third and
+// fourth, of the rotations and of the sets read out, which oracle/ makes; oracle/README.md says what the words of a record are. The numbers of
+// sets are made from the record's seed. For each are written how many calls were compared, how many differ in the answer or in a slice, how many
+// there are of each answer, and a checksum of the inputs and of all that was worked out from them.
 mod distributed;
+mod distributed_second;
 mod full_sets;
 mod rotated;
 
@@ -11,14 +12,19 @@ use replays::Tally;
 use replays::steps::first;
 
 // What the records of a page are.
-const DISTRIBUTED: u64 = 1;
+const SECOND: u64 = 1;
 
-const ROTATED: u64 = 2;
+const DISTRIBUTED: u64 = 2;
 
-const FULL_SETS: u64 = 3;
+const ROTATED: u64 = 3;
+
+const FULL_SETS: u64 = 4;
 
 // The record r, with room for its sets.
 fn step(part: u64, t: Tally, r: &[u8], set: &mut [f64], other: &mut [f64]) -> Tally {
+    if part == SECOND {
+        return distributed_second::step(t, r, set);
+    }
     if part == DISTRIBUTED {
         return distributed::step(t, r, set);
     }
@@ -64,7 +70,11 @@ fn pages(part: u64, n: usize, set: &mut [f64], other: &mut [f64]) -> Tally {
 
 fn main() {
     let mut set = [0.0f64; 32768];
-    let mut other = [0.0f64; 8000];
+    let mut other = [0.0f64; 10400];
+    replays::report(
+        b"distributed, second order",
+        pages(SECOND, 2, &mut set, &mut other),
+    );
     replays::report(b"distributed", pages(DISTRIBUTED, 1, &mut set, &mut other));
     replays::report(b"rotated", pages(ROTATED, 1, &mut set, &mut other));
     replays::report(b"full sets", pages(FULL_SETS, 4, &mut set, &mut other));

@@ -1,5 +1,5 @@
-// The audits, the drift reports and the comparison of two sets that a record names. The tables of a compact set, perms, p2s, s2pp and nsym_list,
-// are one after another in `all`. Each gives the answer's number.
+// The audits, the comparison of two sets, and the drift reports that have slots of their own. Each gives the answer's number.
+use capi_fc2::gf_drift_report;
 use capi_reports::auditing::gf_audit_compact_fc2;
 use capi_reports::auditing::gf_audit_compact_fc3;
 use capi_reports::auditing::gf_audit_compact_fc4;
@@ -12,7 +12,6 @@ use capi_reports::drifts::gf_drift_report_fc3;
 use replays::records::word_of;
 use replays::steps::count_of;
 use replays::steps::table;
-use replays::values::integers;
 
 // A compact set: the audit of the order that the record names, or its drift.
 fn compact(r: &[u8], fc: &[f64], all: &[i64], place: &mut [usize], numbers: &mut [f64]) -> u8 {
@@ -36,8 +35,8 @@ fn compact(r: &[u8], fc: &[f64], all: &[i64], place: &mut [usize], numbers: &mut
     gf_drift_report_compact_fc2(fc, p2s, s2pp, nsym_list, perms, numbers, place, s, p, t)
 }
 
-// The audit of a full set, its drift, or the comparison of two.
-fn full(r: &[u8], fc: &[f64], other: &[f64], place: &mut [usize], numbers: &mut [f64]) -> u8 {
+// The audit of a full set or its drift.
+fn full(r: &[u8], fc: &[f64], place: &mut [usize], numbers: &mut [f64]) -> u8 {
     let n = count_of(r, 5);
     let k = word_of(r, 4);
     if k == 12 {
@@ -52,16 +51,24 @@ fn full(r: &[u8], fc: &[f64], other: &[f64], place: &mut [usize], numbers: &mut 
     if k == 15 {
         return gf_drift_report_fc3(fc, numbers, place, n);
     }
-    gf_same_set(fc, other, place, numbers)
+    gf_drift_report(fc, numbers, place, n)
 }
 
-// The call that the record names. There is room for 88 entries of the tables of a compact set.
-pub fn call(r: &[u8], fc: &[f64], other: &[f64], place: &mut [usize], numbers: &mut [f64]) -> u8 {
+// The call that the record names.
+pub fn call(
+    r: &[u8],
+    fc: &[f64],
+    other: &[f64],
+    all: &[i64],
+    place: &mut [usize],
+    numbers: &mut [f64],
+) -> u8 {
     let k = word_of(r, 4);
-    if k == 0 || 10 < k {
-        return full(r, fc, other, place, numbers);
+    if k == 0 {
+        return gf_same_set(fc, other, place, numbers);
     }
-    let mut all = [0i64; 88];
-    integers(r, 19, &mut all);
-    compact(r, fc, &all, place, numbers)
+    if k < 10 {
+        return compact(r, fc, all, place, numbers);
+    }
+    full(r, fc, place, numbers)
 }

@@ -1,36 +1,24 @@
-// Replays audits, comparisons of two sets and drift reports, through their C names. Standard input has the pages of the two one after another,
-// which oracle/ makes; oracle/README.md says what the words of a record are. The numbers of a set are made from the record's seed. For each
-// are written how many calls were compared, how many differ in the answer, in a place or in a number, how many there are of each answer, and a
+// Replays audits, comparisons of two sets and reports, through their C names. Standard input has the pages of the audits and then those of the
+// reports, which oracle/ makes; oracle/README.md says what the words of a record are. The numbers of a set are made from the record's seed. For
+// each are written how many calls were compared, how many differ in the answer, in a place or in a number, how many there are of each answer, and a
 // checksum of the inputs and of all that was worked out from them.
 mod audit_calls;
-mod audited;
-mod drifts;
+mod crystal_calls;
+mod deviation_calls;
+mod reported;
 
 use replays::Tally;
 use replays::steps::first;
 
-// What the records of a page are.
-const AUDITED: u64 = 1;
-
-const DRIFTS: u64 = 2;
-
-// The record r.
-fn step(part: u64, t: Tally, r: &[u8]) -> Tally {
-    if part == AUDITED {
-        return audited::step(t, r);
-    }
-    drifts::step(t, r)
-}
-
 // The records of a page, after those of the pages before.
-fn replay(part: u64, s: &[u8], so_far: Tally) -> Tally {
+fn replay(s: &[u8], so_far: Tally) -> Tally {
     let mut t = so_far;
     let n = replays::records::count(s);
     let mut at = first(s);
     let mut i = 0;
     while i < n {
         let e = replays::records::end(s, at);
-        let more = step(part, t, &s[at..e]);
+        let more = reported::step(t, &s[at..e]);
         t = more;
         at = e;
         i += 1;
@@ -38,18 +26,18 @@ fn replay(part: u64, s: &[u8], so_far: Tally) -> Tally {
     t
 }
 
-fn read_page(part: u64, so_far: Tally) -> Tally {
+fn read_page(so_far: Tally) -> Tally {
     let mut page = io::large_buffer();
     let n = io::read_full(0, &mut page);
-    replay(part, &page[..n], so_far)
+    replay(&page[..n], so_far)
 }
 
 // The records of the next n pages.
-fn pages(part: u64, n: usize) -> Tally {
+fn pages(n: usize) -> Tally {
     let mut t = replays::none();
     let mut i = 0;
     while i < n {
-        let more = read_page(part, t);
+        let more = read_page(t);
         t = more;
         i += 1;
     }
@@ -57,6 +45,6 @@ fn pages(part: u64, n: usize) -> Tally {
 }
 
 fn main() {
-    audited::report(pages(AUDITED, 3));
-    replays::report(b"drift report", pages(DRIFTS, 1));
+    reported::report_audits(pages(3));
+    reported::report(pages(10));
 }

@@ -1,12 +1,10 @@
-// Replays answers for symmetrizers, transposes and row sums of second to fourth order and for the distributor of second, through their C
-// names. Standard input has the pages of the six one after another, which oracle/ makes; oracle/README.md says what the words of a record are.
+// Replays answers for symmetrizers and transposes of second to fourth order, through their C names. Standard input has the pages of the four one
+// after another, which oracle/ makes; oracle/README.md says what the words of a record are.
 // The numbers of sets and work slices are made from the record's seed. For each are written how many calls were compared, how many differ in
 // the answer or in what a slice holds afterwards, how many there are of each answer, and a checksum of the inputs and of all that was worked
 // out from them.
-mod compact;
 mod fourth;
 mod second;
-mod sums;
 mod third;
 mod transposes;
 
@@ -19,18 +17,17 @@ use replays::steps::size;
 // What the records of a page are.
 const SECOND: u64 = 1;
 
-const COMPACT: u64 = 2;
+const THIRD: u64 = 2;
 
-const THIRD: u64 = 3;
+const FOURTH: u64 = 3;
 
-const FOURTH: u64 = 4;
-
-const TRANSPOSES: u64 = 5;
-
-const SUMS: u64 = 6;
+const TRANSPOSES: u64 = 4;
 
 // The call of the record r. The answer's number.
 fn call(part: u64, r: &[u8], set: &mut [f64], done: &mut [u8]) -> u8 {
+    if part == SECOND {
+        return second::call(r, set, done);
+    }
     if part == THIRD {
         return third::call(r, set, done);
     }
@@ -48,25 +45,11 @@ fn run(part: u64, r: &[u8], set: &mut [f64], done: &mut [u8]) -> [u64; 3] {
 }
 
 // The record r, whose set may be the one that the record before left.
-fn step_in(part: u64, t: Tally, r: &[u8], set: &mut [f64], work: &mut [u8]) -> Tally {
+fn step(part: u64, t: Tally, r: &[u8], set: &mut [f64], work: &mut [u8]) -> Tally {
     let n = size(replays::records::word_of(r, 9), set.len());
     let m = size(replays::records::word_of(r, 10), work.len());
     let got = run(part, r, &mut set[0..n], &mut work[0..m]);
     replays::compared(t, r, got[0], &got)
-}
-
-// The record r.
-fn step(part: u64, t: Tally, r: &[u8], set: &mut [f64], work: &mut [u8]) -> Tally {
-    if part == SECOND {
-        return second::step(t, r);
-    }
-    if part == COMPACT {
-        return compact::step(t, r);
-    }
-    if part == SUMS {
-        return sums::step(t, r);
-    }
-    step_in(part, t, r, set, work)
 }
 
 // The records of a page, after those of the pages before.
@@ -106,16 +89,11 @@ fn pages(part: u64, n: usize, set: &mut [f64], work: &mut [u8]) -> Tally {
 fn main() {
     let mut set = [0.0f64; 83000];
     let mut work = [0u8; 2048];
-    replays::report(b"second order", pages(SECOND, 2, &mut set, &mut work));
-    replays::report(
-        b"second order, compact sets",
-        pages(COMPACT, 3, &mut set, &mut work),
-    );
+    replays::report(b"second order", pages(SECOND, 3, &mut set, &mut work));
     replays::report(b"third order", pages(THIRD, 3, &mut set, &mut work));
     replays::report(b"fourth order", pages(FOURTH, 2, &mut set, &mut work));
     replays::report(
         b"true transposes",
         pages(TRANSPOSES, 3, &mut set, &mut work),
     );
-    sums::report(pages(SUMS, 3, &mut set, &mut work));
 }

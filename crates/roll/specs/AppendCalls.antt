@@ -1,5 +1,5 @@
 -- What the appender answers and leaves (document 02, A.7), on every input: 7 is looked at first of all, 8 last.
--- A roll fills the first bytes of a lent slice s, their count given with it.
+-- A roll is the first bytes of a slice s, as many as the count says.
 -- Assumes nothing.
 use mathlib.Core.Bool.{Bool, not, _&&_, _||_, cond}
 use mathlib.Core.List.{List, [], _∷_, _++_}
@@ -22,7 +22,7 @@ numberOfAppended (Refused r) = refusalNumber r
 unfoldable pub withEntry : List ℕ → Entry → List ℕ
 withEntry b r = let rs = entriesOf b ++ (r ∷ []) in rendered rs (startsOf rs)
 
--- a roll of that many records and bytes would pass a roll's limits or the lent length
+-- so many records and bytes are more than a roll may have, or than the slice has
 unfoldable pub passes : List ℕ → ℕ → ℕ → Bool
 passes s records bytes = ltb 1000 records || (ltb 65536 bytes || ltb (length s) bytes)
 

@@ -1,5 +1,5 @@
--- Document 02, A.7, as laws about the appender: reading an appended roll gives the former records and then the added one, and the bytes
--- after it stay.
+-- Document 02, A.7, as laws about the appender: the new roll has the records of the old one and then the new record, and no byte behind
+-- it changes.
 -- Assumes nothing.
 use mathlib.Core.Path.{_≡_, refl, sym, ap, _∙_, subst}
 use mathlib.Core.Bool.{Bool, true, false, not, _&&_, _||_, cond, true≢false}
@@ -77,7 +77,7 @@ module _ (s : List ℕ) (count : ℕ) (e : Entry) where
   unfolding appended
   leaves-old x d = ap (λ a. (a, leaves a (withEntry (take count s) e) s)) d
 
--- reading an appended roll gives the former records and then the added one; the bytes after it stay
+-- the new roll has the records of the old one and then the new record; no byte behind it changes
 pub record Grown (s : List ℕ) (count : ℕ) (e : Entry) (m : ℕ) : Type 0 where
   pub holds : holdsRoll (appended s count e .1) m ≡ true
   pub reads : entriesOf (take m (appended s count e .1)) ≡ entriesOf (take count s) ++ (e ∷ [])

@@ -27,7 +27,7 @@ bytesOf r = r .kind ∷ (inFour (r .number) ++ (inFour (r .earlier) ++ (length (
 abbrev pub sizeOf : Entry → ℕ
 sizeOf r = 10 + length (r .label)
 
--- the kind is 1, 2 or 3, set numbers start at 1, and the earlier number is zero except for kind 2, where it is not
+-- the kind is 1, 2 or 3, the set number is not 0, and the earlier number is 0 exactly if the kind is not 2
 unfoldable pub recordRuled : ℕ → ℕ → ℕ → Bool
 recordRuled kind number earlier = leb 1 kind && (leb kind 3 && (leb 1 number && cond (eqb kind 2) (not (eqb earlier 0)) (eqb earlier 0)))
 

@@ -1,5 +1,5 @@
 -- Document 02, A.7 and A.13, as laws about the definitions: a rendered roll is a roll and is read back, and a roll is rendered from its
--- records; so two rolls have the same records in the same order exactly when they have the same bytes.
+-- records; so two rolls hold the same records in one order exactly if their bytes are the same.
 -- Assumes nothing.
 use mathlib.Core.Path.{_≡_, refl, sym, ap, ap₂, _∙_, subst}
 use mathlib.Core.Bool.{true, false, not}
@@ -279,7 +279,7 @@ roll-is b B R =
     let F = is-framed b R in
     framed-is b B F ∙ ap (rendered (entriesOf b)) (tab-ext 0 (countOf b) (listed b) (recordStart b) (is-listing b R) ∙ starts-are b B F)
 
--- two rolls have the same records in the same order exactly when they have the same bytes
+-- two rolls hold the same records in one order exactly if their bytes are the same
 pub same-bytes : (a b : List ℕ) → Bytes a → Bytes b → isRoll a ≡ true → isRoll b ≡ true → (entriesOf a ≡ entriesOf b) ↔ (a ≡ b)
 same-bytes a b A B P Q = (λ e. roll-is a A P ∙ ap (λ rs. rendered rs (startsOf rs)) e ∙ sym (roll-is b B Q), ap entriesOf)
 

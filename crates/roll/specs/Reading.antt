@@ -51,7 +51,7 @@ listedOnce b i = isStart b (listed b i) && not (some i (λ k. eqb (listed b k) (
 unfoldable pub follow : List ℕ → ℕ → ℕ → Bool
 follow b n t = eqb (recordStart b n) t && every n (λ i. ruledAt b (recordStart b i))
 
--- at most 1,000 records and 65,536 bytes; the trailer has one number for each record, and the two last numbers
+-- no more than 1,000 records or 65,536 bytes; the trailer has one number for each record, and the two last numbers
 abbrev pub sized : List ℕ → Bool
 sized b = leb 8 (length b) && (leb (length b) 65536 && (leb (countOf b) 1000 && eqb (trailerAt b + 4 * countOf b + 8) (length b)))
 
@@ -79,7 +79,7 @@ isFormerRoll b = framed b && eachOnce b
 unfoldable pub entriesOf : List ℕ → List Entry
 entriesOf b = tab (countOf b) (λ i. entryAt b (recordStart b i))
 
--- a roll fills the first bytes of a lent slice s, their count given with it: those bytes, and none where the count passes the slice
+-- the roll at the beginning of a slice s, as long as the count says: those bytes, and none where the count passes the slice
 unfoldable pub rollBytes : List ℕ → ℕ → List ℕ
 rollBytes s count = cond (leb count (length s)) (take count s) []
 

@@ -1,5 +1,5 @@
 -- Document 02, A.7, of the calls themselves: who reads from byte 0 and asks at each position for the record, its label and the next position gets the
--- records of the roll with their labels and then the end; and of an appended roll the former records and then the added one. Assumes nothing.
+-- records of the roll with their labels and then the end; and of an appended roll the records of before, then the new one. Assumes nothing.
 use mathlib.Core.Path.{_≡_, refl, sym, ap, ap₂, _∙_, subst}
 use mathlib.Core.Bool.{Bool, true}
 use mathlib.Core.List.{List, [], _∷_, _++_, map, append-assoc}
@@ -75,7 +75,7 @@ map-append : {A B : Type 0} (f : A → B) (xs ys : List A) → map f (xs ++ ys) 
 map-append f [] ys = refl
 map-append f (x ∷ xs) ys = ap (λ l. f x ∷ l) (map-append f xs ys)
 
--- READING AN APPENDED ROLL GIVES THE FORMER RECORDS AND THEN THE ADDED ONE: the readings of the old roll are some and then the end, those of the new one
+-- WHAT AN APPENDED ROLL GIVES TO A READER: the readings of the old roll are some and then the end, those of the new one
 -- the same, the added record with its label, and then the end
 pub appended-walk : (s : List ℕ) (count : ℕ) (e : Entry) → Bytes s → Fits e → (m : ℕ) → judgedAppend s count e ≡ Count m
     → (former : List (Item × List ℕ)) × (walked (take count s) ≡ former ++ ((End, []) ∷ []))

@@ -25,8 +25,8 @@ use tables::Refusal;
 pub enum Appended {
     // done: how many bytes the roll has now
     Count(usize),
-    // 7: the bytes are not a roll, the count passes the slice, or the record breaks the rules; 8: the new roll would pass a roll's
-    // limits or the lent length
+    // 7: the bytes are no roll, the slice has fewer than the count, or the record breaks a rule; 8: the new roll would be too long for
+    // a roll or for the slice
     Refused(Refusal),
 }
 

@@ -1,4 +1,4 @@
-// The reader of a delivery roll (document 02, A.7): it walks a roll held with its position, record by record. Older rolls, whose trailer
+// The reader of a delivery roll (document 02, A.7): a roll and a position in it, which goes on record by record. Older rolls, whose trailer
 // lists the starts in another order, are read by the calls that end in `_former` (A.13).
 ghost use mathlib.Core.Path.{_≡_};
 ghost use Rattle.roll.specs.ReadCalls.{itemNumber, readAt, labelAt, pastAt, readAtFormer, labelAtFormer, pastAtFormer};

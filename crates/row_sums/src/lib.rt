@@ -130,7 +130,7 @@ fn replace(fc: &mut [f64], sums: &mut [f64], block: [f64; 9], i: usize, j: usize
     blocks::write9(sums, i, corrected(s, old, block));
 }
 
-// Replaces block (i, j) and corrects the nine sums of atom i. On the grid, sums that were those of a fresh pass stay so, bit for bit.
+// Replaces block (i, j) and brings the sums of atom i up to date. On the grid, sums that were those of a fresh pass stay so, bit for bit.
 pub fn replace_block_fc2(
     fc: &mut [f64],
     sums: &mut [f64],

@@ -29,7 +29,7 @@ fn any_above(limit: usize, n_satom: usize, n_patom: usize, num_trans: usize) -> 
     limit < num_trans
 }
 
-// 2: whether a shift table has a length other than the one stated for it.
+// 2: whether a shift table is not as long as stated.
 fn any_wrong(
     p2s: &[i64],
     s2pp: &[i64],

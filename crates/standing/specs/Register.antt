@@ -1,5 +1,5 @@
--- Which set stands now (document 02, A.8 and A.14): a plain register, which notes for each set whether it was delivered, whether retired, and what
--- replaced it; and the rules over it. Assumes nothing.
+-- Which set stands now (document 02, A.8 and A.14): a plain register with three notes for each set, delivered, retired and replaced by;
+-- and the rules over it. Assumes nothing.
 use mathlib.Core.Bool.{Bool, true, false, not, _&&_, _||_, cond}
 use mathlib.Core.List.{List, [], _∷_}
 use Prim.Native.Nat.{ℕ, zero, suc, _+_}
@@ -70,8 +70,8 @@ allAllowed g (r ∷ rs) = allowed g r && allAllowed (noted r g) rs
 abbrev pub lawful : List Entry → Bool
 lawful rs = allAllowed blank rs
 
--- the rules (document 02, A.14): unknown where it was not delivered; a replaced set answers as the set that replaced it; retirement is
--- looked at only where nothing replaced it, at the end of the chain. specs/Former has those of A.8, and what has changed.
+-- the rules (document 02, A.14): unknown where it was not delivered; a replaced set gets the answer of its successor; retirement is
+-- looked at where the chain ends. specs/Former has those of A.8, and what has changed.
 unfoldable pub rule : Register → (ℕ → Standing) → ℕ → Standing
 rule g answers x =
     cond (not (g .delivered x)) Unknown

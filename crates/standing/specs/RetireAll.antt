@@ -1,5 +1,5 @@
--- Retire a set everywhere (document 02, A.12): a retirement with an empty label for each set that is linked to the given one by
--- replacements, earlier or later, and has none of its own, by rising set number. Assumes nothing.
+-- Retire a set everywhere (document 02, A.12): the given set and all that replacements link with it, before and after it, get a
+-- retirement with an empty label if they have none, lowest number first. Assumes nothing.
 use mathlib.Core.Bool.{Bool, not, _&&_, cond}
 use mathlib.Core.List.{List, [], _∷_}
 use Prim.Native.Nat.{ℕ, _+_, _*_, min, max}

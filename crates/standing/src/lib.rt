@@ -23,8 +23,8 @@ pub enum Standing {
     Retired,
     // the number to use
     Current(u32),
-    // 7: the bytes are not a roll; 9: a record delivers a number already delivered, or replaces or retires a set not delivered by an
-    // earlier record, or replaces one already replaced
+    // 7: the bytes are not a roll; 9: a record delivers a set again, names one that no record before it delivers, or replaces
+    // one for the second time
     Refused(Refusal),
 }
 

@@ -153,8 +153,8 @@ fn add_all(lent: &mut [u8], count: usize, list: &[u32], m: usize)
     }
 }
 
-// Retires a set and every set that is linked to it by replacements, earlier or later: appends a retirement with an empty label for each
-// of them that has none, by rising number, and answers how many bytes the roll has then. A refused call leaves the slice as it was.
+// Retires a set and all sets that replacements link with it, before and after it: those that have no retirement get one with an empty
+// label, lowest number first, and answers how many bytes the roll has then. A refused call leaves the slice as it was.
 pub fn retire_all(lent: &mut [u8], count: usize, set: u32) -> Appended
     ensures { λ r. ⌜ (r, now (lent .exit)) ≡ retireAll (now (lent .entry)) count set ⌝ }
 {

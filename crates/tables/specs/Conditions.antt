@@ -18,7 +18,7 @@ abbrev pub anyAbove : ℕ → List ℕ → Bool
 anyAbove limit [] = false
 anyAbove limit (n ∷ ns) = ltb limit n || anyAbove limit ns
 
--- 2: a slice has a length other than the one stated for it; the pairs are (length, stated length)
+-- 2: a slice is not as long as stated; the pairs are (length, stated length)
 abbrev pub anyWrong : List (ℕ × ℕ) → Bool
 anyWrong [] = false
 anyWrong (l ∷ ls) = not (eqb (l .0) (l .1)) || anyWrong ls
@@ -32,12 +32,12 @@ abbrev pub below : ℕ → ℤ → Bool
 below n (pos k) = ltb k n
 below n (negsuc k) = false
 
--- 3: the table holds a negative number, or one not below the count n that it points into
+-- 3: an entry of the table is negative, or not below n, the count that it points into
 unfoldable pub outOfRange : ℕ → List ℤ → Bool
 outOfRange n [] = false
 outOfRange n (x ∷ xs) = not (below n x) || outOfRange n xs
 
--- 4: the target or the source slab is not below num_first, or the two are equal
+-- 4: the set, of num_first slabs, does not have the target or the source, or they are one slab
 abbrev pub badSlab : ℕ → ℕ → ℕ → Bool
 badSlab numFirst target source = leb numFirst target || (leb numFirst source || eqb target source)
 

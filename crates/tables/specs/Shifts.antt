@@ -9,7 +9,7 @@ use lib.ListN.{getD}
 use lib.Dec.{eqb}
 use Rattle.lists.specs.Tests.{every, some, says}
 
--- nSatom atoms of the supercell, nPatom of the primitive cell, numTrans shifts. Row t of perms sends atom a to perms[t * nSatom + a].
+-- nSatom atoms of the supercell, nPatom of the primitive cell, numTrans shifts. perms[t * nSatom + a] is the image of atom a under shift t.
 pub record Shifts : Type 0 where
   pub nSatom : ℕ
   pub nPatom : ℕ
@@ -38,7 +38,7 @@ nsymAt S a = getD (S .nsymList) a 0
 unfoldable pub distinct : ℕ → (ℕ → ℕ) → Bool
 distinct n f = every n (λ a. every n (λ b. not (eqb (f a) (f b)) || eqb a b))
 
--- row t is the null shift, which sends each atom to itself
+-- row t is the null shift, the identity
 unfoldable pub isNull : Shifts → ℕ → Bool
 isNull S t = every (S .nSatom) (λ a. eqb (row S t a) a)
 
@@ -54,11 +54,11 @@ follows S u = every (S .numTrans) (λ t. some (S .numTrans) (isAfter S t u))
 unfoldable pub countsAgree : Shifts → Bool
 countsAgree S = eqb (S .nSatom) (S .nPatom * S .numTrans)
 
--- each row sends different atoms to different atoms
+-- each row is a permutation of the atoms
 unfoldable pub rowsInjective : Shifts → Bool
 rowsInjective S = every (S .numTrans) (λ t. distinct (S .nSatom) (row S t))
 
--- at least one row is the null shift
+-- some row is the null shift
 unfoldable pub hasNull : Shifts → Bool
 hasNull S = some (S .numTrans) (isNull S)
 
@@ -66,7 +66,7 @@ hasNull S = some (S .numTrans) (isNull S)
 unfoldable pub rowsClosed : Shifts → Bool
 rowsClosed S = every (S .numTrans) (follows S)
 
--- rows with different t never send an atom to the same place
+-- no atom has the same image under two rows
 unfoldable pub rowsFree : Shifts → Bool
 rowsFree S = every (S .nSatom) (λ a. distinct (S .numTrans) (λ t. row S t a))
 
@@ -74,11 +74,11 @@ rowsFree S = every (S .nSatom) (λ a. distinct (S .numTrans) (λ t. row S t a))
 unfoldable pub p2sBack : Shifts → Bool
 p2sBack S = every (S .nPatom) (λ p. eqb (s2ppAt S (p2sAt S p)) p)
 
--- s2pp is the same for an atom and its images
+-- all images of an atom have its s2pp
 unfoldable pub s2ppKept : Shifts → Bool
 s2ppKept S = every (S .numTrans) (λ t. every (S .nSatom) (λ a. eqb (s2ppAt S (row S t a)) (s2ppAt S a)))
 
--- row nsym_list[a] sends a to p2s[s2pp[a]]
+-- the image of a under row nsym_list[a] is p2s[s2pp[a]]
 unfoldable pub nsymLands : Shifts → Bool
 nsymLands S = every (S .nSatom) (λ a. eqb (row S (nsymAt S a) a) (p2sAt S (s2ppAt S a)))
 
@@ -110,7 +110,7 @@ pub record Laws (S : Shifts) : Type 0 where
   pub s2pp-row : (t a : ℕ) → t < S .numTrans → a < S .nSatom → s2ppAt S (row S t a) ≡ s2ppAt S a
   pub nsym-lands : (a : ℕ) → a < S .nSatom → row S (nsymAt S a) a ≡ p2sAt S (s2ppAt S a)
 
--- Only the null shift is its own inverse.
+-- The half-shift condition: no row but the null shift, applied twice, is the identity.
 unfoldable pub NoHalfShift : Shifts → Type 0
 NoHalfShift S = (t : ℕ) → t < S .numTrans → ((a : ℕ) → a < S .nSatom → row S t (row S t a) ≡ a) → (a : ℕ) → a < S .nSatom → row S t a ≡ a
 

@@ -12,22 +12,22 @@ pub mod sets;
 pub enum Refusal {
     // 1: a count is above its limit
     CountAboveLimit,
-    // 2: a slice has a length other than the one stated for it
+    // 2: a slice is not as long as stated
     WrongLength,
-    // 3: an index table holds a negative number, or one not below the count it points into
+    // 3: an index, or an entry of an index table, is negative or not below its count
     IndexOutOfRange,
-    // 4: a source or target slab is not below num_first, or the two are equal
+    // 4: the set does not have the source or target slab, or they are one slab
     BadSlab,
-    // 5: a listed atom's representative is not itself a listed atom that represents itself
+    // 5: the representative of a listed atom is not listed, or does not represent itself
     BadRepresentative,
     // 6: the shift tables break a rule
     BadShiftTables,
-    // 7: the bytes are not a roll, the count passes the slice, or the record to add breaks the rules
+    // 7: the bytes are no roll, the slice has fewer than the count, or the record to add breaks a rule
     NotARoll,
-    // 8: the result would pass a roll's limits or the lent length
+    // 8: the result would be too long for a roll or for the slice
     NoRoom,
-    // 9: a record delivers a number already delivered, or replaces or retires a set not delivered by an earlier record, or replaces one
-    // already replaced
+    // 9: a record delivers a set again, names one that no record before it delivers, or replaces one for the
+    // second time
     NotLawful,
     // 10: an entry of the old block or of the incoming one is off the grid
     OffGrid,

@@ -108,7 +108,7 @@ swap-sound lenSet lenWork T a b e =
 
 -- ---- the call
 
--- equal legs leave the set as it is
+-- with equal legs nothing moves
 pub swapped-none : (a b : ℕ) (S : Shifts) (old : List Float) → a ≡ b → old ≡ swapped S 3 (a, b) old
 unfolding swapped
 swapped-none a b S old e = sym (rw (eq-eqb a b e) refl)

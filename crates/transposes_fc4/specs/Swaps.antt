@@ -25,7 +25,7 @@ judgedSwap lenSet lenWork T a b =
     (refuseIf (anyAbove 3 (a ∷ b ∷ []) || tablesOutOfRange T) IndexOutOfRange
     (refuseIf (not (ruled (shiftsOf T))) BadShiftTables Done)))
 
--- the call: the answer, the set and the work slice; equal legs leave the set as it is
+-- the call: the answer, the set and the work slice; with equal legs nothing moves
 unfoldable pub swapPairsCompactFc4 : List Float → ShiftTables → List ℕ → ℕ → ℕ → Answer × List Float × List ℕ
 swapPairsCompactFc4 set T work a b =
     let r = judgedSwap (length set) (length work) T a b in

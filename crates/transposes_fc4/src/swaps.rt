@@ -91,7 +91,7 @@ fn swap(
     );
 }
 
-// Two of the four pairs (atom, direction) of every number change places, half shifts or not. Equal legs leave the set as it is. The work slice is not
+// Two of the four pairs (atom, direction) of every number change places, half shifts or not. With equal legs nothing moves. The work slice is not
 // needed here; it is left with zeros.
 pub fn swap_pairs_compact_fc4(
     fc4: &mut [f64],

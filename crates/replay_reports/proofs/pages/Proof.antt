@@ -5,10 +5,10 @@ use Rattle.replay_reports.proofs.pages.Statement.{statement}
 use Rattle.replay_reports.proofs.pages.Tie as tie
 
 abbrev Inv-loop : tie.InvT-loop
-Inv-loop part n t₀ i₀ t i = i ≤ n
+Inv-loop n t₀ i₀ t i = i ≤ n
 
 abbrev μ-loop : tie.MeasureT-loop
-μ-loop part n t₀ i₀ t i = n - i
+μ-loop n t₀ i₀ t i = n - i
 
 none-requires : tie.Need-none-requires Inv-loop μ-loop
 none-requires c κs = search needs

@@ -6,10 +6,10 @@ use Rattle.replay_reports.proofs.replay.Statement.{statement}
 use Rattle.replay_reports.proofs.replay.Tie as tie
 
 abbrev Inv-loop : tie.InvT-loop
-Inv-loop part s t₀ n at₀ i₀ t at i = (i ≤ n) × (at ≤ length s)
+Inv-loop s t₀ n at₀ i₀ t at i = (i ≤ n) × (at ≤ length s)
 
 abbrev μ-loop : tie.MeasureT-loop
-μ-loop part s t₀ n at₀ i₀ t at i = n - i
+μ-loop s t₀ n at₀ i₀ t at i = n - i
 
 count-requires : tie.Need-count-requires Inv-loop μ-loop
 count-requires c κs = search needs

@@ -16,19 +16,12 @@ returns c =
     let a = j .before .before .before .args in
     symmetrize-refused (a .fc3 .now) _ (a .done .now) (j .judge-compact .result) (j .judge-compact .ensures) (sym (c .before .is-refusal .ensures) ∙ c .if1 .taken)
 
-clear-bytes-requires : tie.Need-clear-bytes-requires
-clear-bytes-requires c κs = search needs
-
-slabs-requires : tie.Need-slabs-requires
-slabs-requires c κs =
-    let k = c .before .before .before .before in
-    let i = k .before .before in
+symmetrize-requires : tie.Need-symmetrize-requires
+symmetrize-requires c κs =
+    let i = c .before .before in
     let j = i .before .before in
     let a = j .before .before .before .args in
-    rw (k .clear-bytes .kept .0) (symmetrize-ready (a .fc3 .now) _ (a .done .now) (j .judge-compact .result) (j .judge-compact .ensures) (sym (i .before .is-refusal .ensures) ∙ i .if1 .left))
-
-clear-bytes-requires-2 : tie.Need-clear-bytes-requires-2
-clear-bytes-requires-2 c κs = search needs
+    symmetrize-ready (a .fc3 .now) _ (a .done .now) (j .judge-compact .result) (j .judge-compact .ensures) (sym (i .before .is-refusal .ensures) ∙ i .if1 .left)
 
 same-length : tie.Need-same-length
 same-length c = search needs
@@ -38,25 +31,11 @@ same-length-2 c = search needs
 
 returns-2 : tie.Need-returns-2
 returns-2 c =
-    let z = c .before .before in
-    let l = z .before .before .before .before .before .before in
-    let k = l .before .before .before .before .before in
-    let i = k .before .before in
+    let l = c .before .before .before .before in
+    let i = l .before .before .before in
     let j = i .before .before in
     let a = j .before .before .before .args in
-    symmetrize-done (a .fc3 .now) _ (a .done .now) (j .judge-compact .result) (j .judge-compact .ensures) (sym (i .before .is-refusal .ensures) ∙ i .if1 .left)
-    (k .clear-bytes .ensures) (l .slabs .ensures) (z .clear-bytes2 .ensures) (l .slabs .kept .1 .1 .1 .1 .1 .0)
+    symmetrize-done (a .fc3 .now) _ (a .done .now) (j .judge-compact .result) (j .judge-compact .ensures) (sym (i .before .is-refusal .ensures) ∙ i .if1 .left) (l .symmetrize .ensures .0) (l .symmetrize .ensures .1)
 
 pub set-permutation-symmetry-compact-fc3-spec : {M : Type 1} → statement M
-set-permutation-symmetry-compact-fc3-spec =
-    tie.close
-    (tie.spec
-    judge-compact-requires
-    is-refusal-requires
-    returns
-    clear-bytes-requires
-    slabs-requires
-    clear-bytes-requires-2
-    same-length
-    same-length-2
-    returns-2)
+set-permutation-symmetry-compact-fc3-spec = tie.close (tie.spec judge-compact-requires is-refusal-requires returns symmetrize-requires same-length same-length-2 returns-2)

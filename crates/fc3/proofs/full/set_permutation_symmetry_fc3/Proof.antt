@@ -17,8 +17,8 @@ returns c =
     let a = j .before .before .args in
     full-refused (a .fc3 .now) (a .num-atom) (j .judge-full .result) (j .judge-full .ensures) (sym (c .before .is-refusal .ensures) ∙ c .if1 .taken)
 
-full-tiles-requires : tie.Need-full-tiles-requires
-full-tiles-requires c κs =
+symmetrize-requires : tie.Need-symmetrize-requires
+symmetrize-requires c κs =
     let i = c .before in
     let j = i .before .before in
     let a = j .before .before .args in
@@ -33,7 +33,7 @@ returns-2 c =
     let i = l .before .before in
     let j = i .before .before in
     let a = j .before .before .args in
-    full-done (a .fc3 .now) (a .num-atom) (j .judge-full .result) (j .judge-full .ensures) (sym (i .before .is-refusal .ensures) ∙ i .if1 .left) (l .full-tiles .ensures)
+    full-done (a .fc3 .now) (a .num-atom) (j .judge-full .result) (j .judge-full .ensures) (sym (i .before .is-refusal .ensures) ∙ i .if1 .left) (l .symmetrize .ensures)
 
 pub set-permutation-symmetry-fc3-spec : {M : Type 1} → statement M
 set-permutation-symmetry-fc3-spec =
@@ -42,6 +42,6 @@ set-permutation-symmetry-fc3-spec =
     judge-full-requires
     is-refusal-requires
     returns
-    full-tiles-requires
+    symmetrize-requires
     same-length
     returns-2)
