@@ -14,12 +14,12 @@
  *
  * prints, where a number is missing,
  *
- *     set_permutation_symmetry_compact_fc3: refusal 2, a slice has a length other than the one stated for it (fc3: length 107, stated
+ *     set_permutation_symmetry_compact_fc3: refusal 2, a slice is not as long as stated (fc3: length 107, stated
  *     n_patom * n_satom * n_satom * 27 = 108)
  *
  * in one line. Named are a count above its limit (1), a slice of a wrong length (2), an entry or an index that is out of range (3), and a
- * slab that is (4): the first such argument, in their order. Other refusals have their words alone. A call that is not refused leaves an
- * empty text.
+ * slab that is (4): the first such argument, in their order; and the rule that shift tables break, with its rows and atoms (6), as
+ * gf_explain_shift_tables has it. Other refusals have their words alone. A call that is not refused leaves an empty text.
  *
  * TO ADD A CALL gf_NAME: a function gft_NAME with the arguments of gf_NAME in order; each slice is one argument, the four tables and the
  * three counts are `const struct gf_tables *tables`. Three lines: GF_OPEN(tables), if it has tables; the call, with GF_SLICE(x) for a
@@ -145,25 +145,62 @@ struct gf_why {
 };
 
 /* What is stated of an argument, and the refusal that it may be the reason of: 1 a count and its limit, 2 a length and the stated one, 3 and
- * 4 an index, or the entries of a table, and the count that they are below. */
+ * 4 an index, or the entries of a table, and the count that they are below, 6 shift tables. */
 struct gf_stated {
     uint8_t refusal;
     const char *name, *rule;
     size_t has, bound;
     const int64_t *entries;
+    const struct gf_tables *tables;
 };
 
-#define GF_COUNT(count, limit) {1, #count, "", (count), (limit), NULL}
-#define GF_LENGTH(slice, stated) {2, #slice, #stated, (slice).length, (stated), NULL}
-#define GF_ENTRIES(table, count) {3, #table, "", (table).length, (count), (table).at}
-#define GF_INDEX(index, count) {3, #index, "", (index), (count), NULL}
-#define GF_SLAB(slab, count) {4, #slab, "", (slab), (count), NULL}
+#define GF_COUNT(count, limit) {1, #count, "", (count), (limit), NULL, NULL}
+#define GF_LENGTH(slice, stated) {2, #slice, #stated, (slice).length, (stated), NULL, NULL}
+#define GF_ENTRIES(table, count) {3, #table, "", (table).length, (count), (table).at, NULL}
+#define GF_INDEX(index, count) {3, #index, "", (index), (count), NULL, NULL}
+#define GF_RULES(tables) {6, "", "", 0, 0, NULL, (tables)}
+#define GF_SLAB(slab, count) {4, #slab, "", (slab), (count), NULL, NULL}
+
+/* writes the rule that shift tables break into text; they have got refusal 6 */
+static inline void gf_broken(char *text, size_t size, const struct gf_tables *t)
+{
+    const int64_t *perms = t->perms.at, *p2s = t->p2s.at, *s2pp = t->s2pp.at;
+    const size_t n = t->n_satom;
+    size_t place[5] = {0, 0, 0, 0, 0};
+    gf_explain_shift_tables(
+        p2s, t->p2s.length, s2pp, t->s2pp.length, t->nsym_list.at, t->nsym_list.length, perms, t->perms.length, place, 5, n, t->n_patom, t->num_trans);
+    const size_t i = place[2], j = place[3], k = place[4];
+    if (place[0] != GF_BAD_SHIFT_TABLES)
+        return;
+    if (place[1] == 0)
+        snprintf(text, size, " (perms: %zu rows: n_satom %zu is not n_patom %zu x num_trans %zu)", t->num_trans, n, t->n_patom, t->num_trans);
+    else if (place[1] == 1)
+        snprintf(text, size, " (perms: row %zu sends atoms %zu and %zu to the same place)", i, j, k);
+    else if (place[1] == 2)
+        snprintf(text, size, " (perms: no row sends each atom to itself (the null shift))");
+    else if (place[1] == 3)
+        snprintf(text, size, " (perms: row %zu and then row %zu is no row: a shift is missing)", i, j);
+    else if (place[1] == 4)
+        snprintf(text, size, " (perms: rows %zu and %zu both send atom %zu to atom %" PRId64 ")", i, j, k, perms[i * n + k]);
+    else if (place[1] == 5)
+        snprintf(text, size, " (s2pp: entry %" PRId64 " is %" PRId64 ", and p2s[%zu] is %" PRId64 ")", p2s[i], s2pp[p2s[i]], i, p2s[i]);
+    else if (place[1] == 6)
+        snprintf(text, size, " (s2pp: it is %" PRId64 " for atom %zu and %" PRId64 " for atom %" PRId64 ", where row %zu sends it)", s2pp[j], j,
+                 s2pp[perms[i * n + j]], perms[i * n + j], i);
+    else {
+        const int64_t row = t->nsym_list.at[i];
+        snprintf(text, size, " (nsym_list: entry %zu is %" PRId64 ", which sends atom %zu to %" PRId64 ", not to %" PRId64 ")", i, row, i,
+                 perms[(size_t)row * n + i], p2s[s2pp[i]]);
+    }
+}
 
 /* writes what is wrong with an argument into text; false if nothing is */
 static inline bool gf_wrong(char *text, size_t size, const struct gf_stated *a)
 {
     if (a->refusal == 1 && a->has > a->bound)
         snprintf(text, size, " (%s: %zu, limit %zu)", a->name, a->has, a->bound);
+    else if (a->refusal == 6)
+        gf_broken(text, size, a->tables);
     else if (a->refusal == 2 && a->has != a->bound)
         snprintf(text, size, " (%s: length %zu, stated %s = %zu)", a->name, a->has, a->rule, a->bound);
     else if (a->refusal > 2 && a->entries == NULL && a->has >= a->bound)
@@ -179,8 +216,7 @@ static inline bool gf_wrong(char *text, size_t size, const struct gf_stated *a)
     return true;
 }
 
-/* Puts the reason of a refusal into the text: the first argument that is wrong. Refusal 6 has the words of the answer alone: the rule that
- * is broken, with its rows and its atom, belongs here once a call tells it. */
+/* Puts the reason of a refusal into the text: the first argument that is wrong. */
 static inline uint8_t gf_say(struct gf_why *why, const char *call, uint8_t answer, const struct gf_stated *stated, size_t number)
 {
     char argument[160] = "";
@@ -207,7 +243,7 @@ static inline uint8_t gf_say(struct gf_why *why, const char *call, uint8_t answe
 #define GF_TABLES_SAID(limit) \
     GF_COUNT(n_satom, limit), GF_COUNT(n_patom, limit), GF_COUNT(num_trans, limit), \
     GF_LENGTH(p2s, n_patom), GF_LENGTH(s2pp, n_satom), GF_LENGTH(nsym_list, n_satom), GF_LENGTH(perms, num_trans * n_satom), \
-    GF_ENTRIES(p2s, n_satom), GF_ENTRIES(s2pp, n_patom), GF_ENTRIES(nsym_list, num_trans), GF_ENTRIES(perms, n_satom)
+    GF_ENTRIES(p2s, n_satom), GF_ENTRIES(s2pp, n_patom), GF_ENTRIES(nsym_list, num_trans), GF_ENTRIES(perms, n_satom), GF_RULES(tables)
 #define GF_SAY(...) \
     const struct gf_stated stated[] = {__VA_ARGS__}; \
     return gf_say(why, __func__ + sizeof "gft_" - 1, answer, stated, sizeof stated / sizeof *stated)
@@ -219,6 +255,14 @@ static inline uint8_t gft_check_shift_tables(const struct gf_tables *tables, str
     GF_OPEN(tables);
     const uint8_t answer = gf_check_shift_tables(GF_TABLES, GF_COUNTS);
     GF_SAY(GF_TABLES_SAID(1024));
+}
+
+/* place has five numbers */
+static inline uint8_t gft_explain_shift_tables(const struct gf_tables *tables, size_t *place, struct gf_why *why)
+{
+    GF_OPEN(tables);
+    const uint8_t answer = gf_explain_shift_tables(GF_TABLES, place, 5, GF_COUNTS);
+    return gf_say(why, __func__ + sizeof "gft_" - 1, answer, NULL, 0);
 }
 
 /* ---- matching: pair has two numbers ---- */
@@ -341,6 +385,23 @@ static inline uint8_t gft_set_permutation_symmetry_compact_fc3(
     GF_OPEN(tables);
     const uint8_t answer = gf_set_permutation_symmetry_compact_fc3(GF_SLICE(fc3), GF_TABLES, GF_SLICE(done), GF_COUNTS);
     GF_SAY(GF_LENGTH(fc3, n_patom * n_satom * n_satom * 27), GF_TABLES_SAID(256), GF_LENGTH(done, n_patom * n_satom * n_satom));
+}
+
+static inline uint8_t gft_perm_trans_symmetrize_fc3(
+    struct gf_set fc3, struct gf_set drift, size_t num_atom, size_t level, struct gf_why *why)
+{
+    const uint8_t answer = gf_perm_trans_symmetrize_fc3(GF_SLICE(fc3), GF_SLICE(drift), num_atom, level);
+    GF_SAY(GF_LENGTH(fc3, num_atom * num_atom * num_atom * 27), GF_LENGTH(drift, num_atom * num_atom * 27), GF_COUNT(num_atom, 256),
+           GF_COUNT(level, 1000));
+}
+
+static inline uint8_t gft_perm_trans_symmetrize_compact_fc3(
+    struct gf_set fc3, const struct gf_tables *tables, struct gf_bytes done, struct gf_set drift, size_t level, struct gf_why *why)
+{
+    GF_OPEN(tables);
+    const uint8_t answer = gf_perm_trans_symmetrize_compact_fc3(GF_SLICE(fc3), GF_TABLES, GF_SLICE(done), GF_SLICE(drift), GF_COUNTS, level);
+    GF_SAY(GF_LENGTH(fc3, n_patom * n_satom * n_satom * 27), GF_TABLES_SAID(256), GF_LENGTH(done, n_patom * n_satom * n_satom),
+           GF_LENGTH(drift, n_patom * n_satom * 27), GF_COUNT(level, 1000));
 }
 
 static inline uint8_t gft_transpose_compact_fc3(

@@ -1,7 +1,7 @@
 /*
  * Times the calls that read a compact set out beside a copy of the full set.
  *   cc -std=c99 -D_POSIX_C_SOURCE=199309L -O2 -I include -o target/full_sets_bench oracle/full_sets_bench.c target/staticlib/libcapi.a
- * Prints the rows of the table in docs/PERFORMANCE.md: the least of many runs, both in turns.
+ * Prints a table: the least of many runs, both in turns.
  */
 #include "gullyfork.h"
 

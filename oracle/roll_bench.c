@@ -2,7 +2,7 @@
  * Times the calls on a delivery roll beside plain C programs: one that walks and judges the same bytes once, and one that judges, fills a
  * register of the sets and answers for one.
  *   cc -std=c99 -D_POSIX_C_SOURCE=199309L -O2 -I include -o target/roll_bench oracle/roll_bench.c target/staticlib/libcapi.a
- * Prints the rows of the tables in docs/PERFORMANCE.md: the least of many runs.
+ * Prints a table: the least of many runs.
  */
 #include "gullyfork.h"
 

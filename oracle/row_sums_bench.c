@@ -1,7 +1,7 @@
 /*
  * Times an edit of a full second-order set beside the fresh pass that it saves.
  *   cc -std=c99 -D_POSIX_C_SOURCE=199309L -O2 -I include -o target/row_sums_bench oracle/row_sums_bench.c target/staticlib/libcapi.a
- * Prints the rows of the table in docs/PERFORMANCE.md: the least of many runs.
+ * Prints a table: the least of many runs.
  */
 #include "gullyfork.h"
 

@@ -1,6 +1,7 @@
 //! The rows of the benchmark. A size a × b is n_patom × n_satom.
 use crate::bench::Bench;
 use crate::call::{fit, Call};
+use crate::call_acoustic::Acoustic;
 use crate::call_audit::{whole, Audit, Name as Audited, ALIKE, UNLIKE};
 use crate::call_compact::{Compact, Name};
 use crate::call_deltas::Deltas;
@@ -398,7 +399,32 @@ pub fn audits(b: &Bench) {
     drift_rows(b);
 }
 
-/// The matcher that knows when there is no match: beside compute_permutation where that gives true, and where chains are needed, with its stack.
+/// The symmetrizers that take the drift off too beside those that do not, by level; each is given what it left, as the audits' are.
+fn acoustic_line(b: &Bench, size: &str, mut call: Acoustic) {
+    call.set = plain(&mut Rng::new(33), call.stated());
+    let mut levels = [0, 1, 3].map(|level| fitted(Acoustic { level, ..call.clone() }));
+    let [one, two, three] = &mut levels;
+    let mut full = Full { set: call.set.clone(), ..Full::new(3, call.atoms) };
+    let mut compact = Compact { set: call.set.clone(), ..fitted(Compact::new(Name::Symmetrize3, call.tables.clone())) };
+    let mut symmetrize = || assert_eq!(if call.compact { std::hint::black_box(&mut compact).port() } else { std::hint::black_box(&mut full).port() }, 0);
+    let mut runs = [one, two, three].map(|call| move || assert_eq!(std::hint::black_box(&mut *call).port(), 0));
+    let [zero, once, thrice] = &mut runs;
+    let [sym, zero, once, thrice] = turns(b, [&mut symmetrize, zero, once, thrice]).map(|t| t * 1e6);
+    let what = if call.compact { "perm_trans_symmetrize_compact_fc3" } else { "perm_trans_symmetrize_fc3" };
+    println!("| {what} | {size} | {sym:.1} | {zero:.1} | {once:.1} | {thrice:.1} | {:.2} | {:.2} |", once / sym, thrice / 3.0 / sym);
+}
+
+pub fn acoustics(b: &Bench) {
+    println!("| call | size | symmetrizer, us | level 0, us | level 1, us | level 3, us | level 1 / symmetrizer | a level of three / symmetrizer |\n|---|---|---|---|---|---|---|---|");
+    for n in [8, 16, 32, 64, 128] {
+        acoustic_line(b, &n.to_string(), Acoustic::full(n, 0));
+    }
+    for [p, s] in [[2, 16], [1, 64], [2, 64], [4, 64], [2, 128]] {
+        acoustic_line(b, &format!("{p} × {s}"), Acoustic::compact(shifts(p, s), 0));
+    }
+}
+
+/// `find_permutation`: beside compute_permutation where that gives true, and where chains are needed, with its stack.
 pub fn findings(b: &Bench) {
     println!("| positions | order | find_permutation, us | compute_permutation, us | ratio | stack, kB |\n|---|---|---|---|---|---|");
     for (n, kind, order) in [64, 512, 1024].into_iter().flat_map(|n| [(n, Kind::Same, "the same"), (n, Kind::Permuted, "any")]) {

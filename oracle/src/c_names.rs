@@ -8,6 +8,11 @@ extern "C" {
         p2s: *const i64, p2s_len: usize, s2pp: *const i64, s2pp_len: usize, nsym_list: *const i64,
         nsym_list_len: usize, perms: *const i64, perms_len: usize, n_satom: usize, n_patom: usize, num_trans: usize,
     ) -> u8;
+    pub fn gf_explain_shift_tables(
+        p2s: *const i64, p2s_len: usize, s2pp: *const i64, s2pp_len: usize, nsym_list: *const i64,
+        nsym_list_len: usize, perms: *const i64, perms_len: usize, place: *mut usize, place_len: usize, n_satom: usize, n_patom: usize,
+        num_trans: usize,
+    ) -> u8;
     pub fn gf_compute_permutation(
         rot_atom: *mut i64, rot_atom_len: usize, lattice: *const f64, lattice_len: usize, symprec: f64,
         periodic: *const u8, periodic_len: usize, pos: *const f64, pos_len: usize, rot_pos: *const f64, rot_pos_len: usize, pair: *mut usize, pair_len: usize,
@@ -237,6 +242,14 @@ extern "C" {
     pub fn gf_drift_report_fc4(
         fc: *const f64, fc_len: usize, value: *mut f64, value_len: usize, place: *mut usize, place_len: usize, num_atom:
         usize,
+    ) -> u8;
+    pub fn gf_perm_trans_symmetrize_fc3(
+        fc3: *mut f64, fc3_len: usize, drift: *mut f64, drift_len: usize, num_atom: usize, level: usize,
+    ) -> u8;
+    pub fn gf_perm_trans_symmetrize_compact_fc3(
+        fc3: *mut f64, fc3_len: usize, p2s: *const i64, p2s_len: usize, s2pp: *const i64, s2pp_len: usize, nsym_list: *const
+        i64, nsym_list_len: usize, perms: *const i64, perms_len: usize, done: *mut u8, done_len: usize, drift: *mut f64,
+        drift_len: usize, n_satom: usize, n_patom: usize, num_trans: usize, level: usize,
     ) -> u8;
     pub fn gf_is_roll(lent: *const u8, lent_len: usize, count: usize) -> bool;
     pub fn gf_read_roll(

@@ -1,4 +1,4 @@
-//! The audits, the comparison of two sets and the drift of compact and of third-order sets, which the Rust does not have: their sentences as
+//! The audits, the comparison of two sets and the drift of compact and of third-order sets, which the Rust does not have, as
 //! plain Rust.
 use crate::call::{floats, index, integers, Call, Parts, ATOMS};
 use crate::call_drift::report;
@@ -103,7 +103,7 @@ pub fn images(t: &Tables, order: usize, place: usize) -> Vec<usize> {
     places
 }
 
-/// "the first place, in the order of the set, at which some order reads another number, with the order and both numbers"
+/// The lowest address at which an order reads another number; which order, and the two numbers.
 fn first_unlike(t: &Tables, order: usize, set: &[f64]) -> Option<(usize, usize, f64, f64)> {
     let orders = orders(order);
     for place in 0..set.len() {

@@ -105,7 +105,7 @@ impl Call for Compact {
         Parts::new(counts, slices)
     }
 
-    /// "A leg above 3 counts as an index out of range."
+    /// Refusal 3 for legs: there are four, 0 to 3.
     fn outside(&self) -> bool {
         self.legs.iter().any(|leg| *leg > 3)
     }

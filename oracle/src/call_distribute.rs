@@ -35,7 +35,7 @@ impl Call for Distribute {
         Parts { counts, list, slices }
     }
 
-    /// Refusal 5: "a listed atom's representative is not itself a listed atom that represents itself".
+    /// Refusal 5: some listed atom has a representative that the list does not have, or that another atom represents.
     fn rest(&self) -> u8 {
         let represents = |a: &i64| self.map_atoms[*a as usize];
         let good = |a: &i64| self.atom_list.contains(&represents(a)) && represents(&represents(a)) == represents(a);

@@ -1,4 +1,4 @@
-//! The drift report, which the Rust does not have: the sentences of documents 01 and 02 (A.4) as plain Rust.
+//! The drift report, which the Rust does not have: documents 01 and 02 (A.4) as plain Rust.
 use crate::c_names;
 use crate::call::{floats, integers, Call, Parts, ATOMS};
 
@@ -16,7 +16,7 @@ pub const WORST: u8 = 66;
 pub const NO_NUMBER: u8 = 67;
 
 impl Drift {
-    /// "row sums and column sums, the latter over the first atom, from 0.0, rising"; "rows first, then by atom and directions".
+    /// All sums with their places, in the order of the places: the rows (summed over the second atom), then the columns (over the first).
     fn sums(&self) -> Vec<(f64, [i64; 4])> {
         let n = self.n_satom;
         let mut sums = vec![];
@@ -33,7 +33,7 @@ impl Drift {
     }
 }
 
-/// Sums in the order of their places: "no number goes before worst"; "the first with the worst value is named"; still at a place of its own.
+/// The report of sums that come in the order of their places: the first NaN if there is one, else the first of the largest, else still, whose place is given.
 pub fn report<P: Copy>(sums: &[(f64, P)], still: P) -> (u8, f64, P) {
     if let Some((_, first)) = sums.iter().find(|s| s.0.is_nan()) {
         return (NO_NUMBER, f64::NAN, *first);

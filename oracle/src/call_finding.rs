@@ -1,4 +1,4 @@
-//! The matcher that knows when there is no match, which the Rust does not have: document 02, A.6, as plain Rust.
+//! `find_permutation` (document 02, A.6), which the Rust does not have, as plain Rust.
 use crate::call::{bytes, floats, integers, Call, Parts, ATOMS};
 use crate::call_matching::{distance, greedy, EVERYWHERE};
 use crate::c_names;
@@ -81,7 +81,7 @@ pub fn reached(near: &[Vec<bool>], holder: &[Option<usize>]) -> Vec<u8> {
     marks
 }
 
-/// "a bijection of near pairs"
+/// Whether the slots are a bijection and each pair is near.
 pub fn is_bijection(near: &[Vec<bool>], slots: &[i64]) -> bool {
     let mut seen = vec![false; near.len()];
     slots.len() == near.len()
@@ -94,7 +94,7 @@ pub fn is_bijection(near: &[Vec<bool>], slots: &[i64]) -> bool {
         })
 }
 
-/// "marks with 1, the rest 0 [..] a group of positions that has fewer near slots than members"
+/// Whether the marks are zeros and ones, and the marked positions, taken together, have fewer near slots than they are.
 pub fn is_group(near: &[Vec<bool>], marks: &[u8]) -> bool {
     let members: Vec<usize> = (0..marks.len()).filter(|i| marks[*i] == 1).collect();
     let slots = (0..near.len()).filter(|j| members.iter().any(|i| near[*i][*j])).count();
@@ -147,7 +147,7 @@ impl Call for Finding {
         false
     }
 
-    /// "Where several bijections or several such groups exist any may come back"; but "where greedy succeeds, its bijection is returned".
+    /// Any bijection and any group is right, so that of the port is taken if it is one; but where the greedy search succeeds, its own is due.
     fn settle(&mut self, got: &Finding) {
         let near = self.near();
         if !is_bijection(&near, &self.slots) {

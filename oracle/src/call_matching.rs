@@ -24,8 +24,8 @@ pub const NO_NUMBER: u8 = 69;
 /// A flag for each axis: the cells of the Rust.
 pub const EVERYWHERE: [u8; 3] = [1; 3];
 
-/// The distance of a position and a rotated position, as the Rust works it out; document 02, A.9: "on an unflagged axis the difference
-/// is taken without subtracting its rounding".
+/// The distance of a position and a rotated position, as the Rust works it out; along an axis without a flag
+/// (document 02, A.9) the whole difference counts.
 pub fn distance(lattice: &[f64], periodic: &[u8], pos: &[f64], rot_pos: &[f64]) -> f64 {
     let mut diff = [0.0; 3];
     for (k, x) in diff.iter_mut().enumerate() {
@@ -45,7 +45,7 @@ pub fn distance(lattice: &[f64], periodic: &[u8], pos: &[f64], rot_pos: &[f64]) 
     squares.sqrt()
 }
 
-/// Document 02, A.3: "of the pairs of atom and free slot that the search tried, the first whose distance was no number".
+/// Document 02, A.3: the first pair with a NaN distance, of those of a position and a free slot that the search comes to.
 pub fn first_no_number(lattice: &[f64], periodic: &[u8], symprec: f64, pos: &[f64], rot_pos: &[f64]) -> Option<[usize; 2]> {
     let mut free = vec![true; rot_pos.len() / 3];
     for (i, atom) in pos.chunks(3).enumerate() {
@@ -63,8 +63,8 @@ pub fn first_no_number(lattice: &[f64], periodic: &[u8], symprec: f64, pos: &[f6
     None
 }
 
-/// Document 01's sentence: "For i rising, the lowest free slot j that is near takes i." The slots, and whether all are filled.
-fn by_the_sentence(lattice: &[f64], periodic: &[u8], symprec: f64, pos: &[f64], rot_pos: &[f64]) -> (bool, Vec<i64>) {
+/// The greedy search of document 01: one position after another goes to the first free slot that is near. The slots, and whether all are filled.
+fn greedy_by_text(lattice: &[f64], periodic: &[u8], symprec: f64, pos: &[f64], rot_pos: &[f64]) -> (bool, Vec<i64>) {
     let mut slots = vec![-1; rot_pos.len() / 3];
     for (i, atom) in pos.chunks(3).enumerate() {
         let near = |j: usize| distance(lattice, periodic, atom, &rot_pos[j * 3..j * 3 + 3]) < symprec;
@@ -75,10 +75,10 @@ fn by_the_sentence(lattice: &[f64], periodic: &[u8], symprec: f64, pos: &[f64], 
     (slots.iter().all(|s| *s >= 0), slots)
 }
 
-/// Greedy matching: the Rust's where the cell has three flags, and the sentence for the others, which the Rust does not have.
+/// Greedy matching: the Rust's where the cell has three flags, and the search above for the others, which the Rust does not have.
 pub fn greedy(lattice: &[f64], periodic: &[u8], symprec: f64, pos: &[f64], rot_pos: &[f64]) -> (bool, Vec<i64>) {
     if periodic.contains(&0) {
-        return by_the_sentence(lattice, periodic, symprec, pos, rot_pos);
+        return greedy_by_text(lattice, periodic, symprec, pos, rot_pos);
     }
     let nine: &[f64; 9] = lattice.try_into().expect("nine numbers");
     let mut slots = vec![0; pos.len() / 3];

@@ -1,4 +1,4 @@
-//! The calls that read a compact set out to the full one (document 02, A.11), which the Rust does not have: beside the read-out of document 01,
+//! `compact_to_full_fc2` and its like (document 02, A.11), which the Rust does not have: beside the read-out of document 01,
 //! number by number.
 use crate::call::{floats, index, Call, Parts, ATOMS};
 use crate::compare_true::{address, choice};

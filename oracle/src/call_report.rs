@@ -1,5 +1,5 @@
 //! The reports, which the Rust does not have: how far a set is from another, from its own permutations of legs, from the crystal's operations, and how far
-//! its sums over legs are from zero. Their sentences as plain Rust, number by number.
+//! its sums over legs are from zero. Plain Rust, number by number.
 use crate::c_names;
 use crate::call::{floats, index, integers, Call, Lent, Parts, ATOMS, LIST};
 use crate::call_audit::{legs_at, orders, read_out, whole};
@@ -44,7 +44,7 @@ impl Report {
         self.set.iter().zip(&self.other).enumerate().map(|(k, (a, b))| (a - b, [k as i64, 0])).collect()
     }
 
-    /// "address, then permutation": what is read minus what stands there.
+    /// By address and then by permutation: the number that the permutation reads minus the one at the address.
     fn orders(&self, t: &Tables) -> Numbers {
         let orders = orders(self.order);
         let mut out = vec![];
@@ -69,7 +69,7 @@ impl Report {
         })
     }
 
-    /// "operation, then stored block, then direction position": the read-out at the images minus the rotated block.
+    /// By operation, stored block and position in the block: the read-out at the images minus the rotated block.
     fn crystal(&self, t: &Tables) -> Numbers {
         let width = 3usize.pow(self.order as u32);
         let mut out = vec![];

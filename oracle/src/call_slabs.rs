@@ -24,7 +24,7 @@ impl Call for Slabs {
         Parts::new(counts, vec![floats(&mut self.set, &set), index(&mut self.map, &[n], n), floats(&mut self.rotation, &[9])])
     }
 
-    /// Refusal 4: "A source or target slab is not below num_first, or the two are equal."
+    /// Refusal 4: a slab that the set does not have, or one slab as source and target.
     fn rest(&self) -> u8 {
         if self.source >= self.num_first || self.target >= self.num_first || self.source == self.target {
             4

@@ -83,6 +83,8 @@ fn full_sets() {
         seen(|r| makers::full(r, order));
         seen(|r| makers::read_out(r, order));
     }
+    seen(|r| makers::acoustic(r, false));
+    seen(|r| makers::acoustic(r, true));
 }
 
 #[test]
@@ -96,8 +98,8 @@ fn other_calls() {
     seen(makers::matching);
 }
 
-/// One flipped bit of a slot, of a coordinate, of the lattice or of the answer is seen in the matcher that knows when there is no match; one
-/// of a mark too, unless what it makes is a group again, of which any may come back.
+/// One flipped bit of a slot, of a coordinate, of the lattice or of the answer is seen in `find_permutation`; one
+/// of a mark too, unless what it makes is a group again, of which any is right.
 #[test]
 fn finding_calls() {
     let mut r = Rng::new(31);

@@ -5,14 +5,15 @@ use crate::call_report::Family;
 use crate::compare_limits::limits;
 use crate::rng::Rng;
 use crate::tally::Tally;
-use crate::{call_audit, call_report, compare_agree, compare_common, compare_lists, compare_roll, compare_row_sums, compare_true, makers, port};
+use crate::{call_audit, call_report, call_tables, compare_agree, compare_common, compare_lists, compare_roll, compare_row_sums, compare_true, makers, port};
 
 /// Every public call, the lists of transposes, the read-outs of the true ones, the lists of swaps, whole rolls, older rolls, series of edits and the two ways to a full set, in the order in which they are compared.
-pub const CALLS: [&str; 71] = [
+pub const CALLS: [&str; 74] = [
     "nint",
     "round",
     "sqrt",
     "check_shift_tables",
+    "explain_shift_tables",
     "compute_permutation",
     "find_permutation",
     "perm_trans_symmetrize_fc",
@@ -80,6 +81,8 @@ pub const CALLS: [&str; 71] = [
     "drift_report_compact_fc3",
     "drift_report_compact_fc4",
     "drift_report_fc4",
+    "perm_trans_symmetrize_fc3",
+    "perm_trans_symmetrize_compact_fc3",
 ];
 
 /// Of nint, round and sqrt so many patterns are tried for each call of the others.
@@ -93,6 +96,7 @@ fn run(tally: &mut Tally, r: &mut Rng, count: u64) {
     match tally.name.clone().as_str() {
         "nint" | "round" | "sqrt" => compare_common::patterns(tally, r, count * PATTERNS),
         "check_shift_tables" => beside(tally, r, count, makers::check),
+        "explain_shift_tables" => beside(tally, r, count, call_tables::explain),
         "compute_permutation" => beside(tally, r, count, makers::matching),
         "find_permutation" => beside(tally, r, count, makers::finding),
         "perm_trans_symmetrize_fc" => beside(tally, r, count, |r| makers::full(r, 2)),
@@ -159,6 +163,8 @@ fn run(tally: &mut Tally, r: &mut Rng, count: u64) {
         "drift_report_compact_fc3" => beside(tally, r, count, |r| call_report::make(r, Family::Legs, 3, true)),
         "drift_report_compact_fc4" => beside(tally, r, count, |r| call_report::make(r, Family::Legs, 4, true)),
         "drift_report_fc4" => beside(tally, r, count, |r| call_report::make(r, Family::Legs, 4, false)),
+        "perm_trans_symmetrize_fc3" => beside(tally, r, count, |r| makers::acoustic(r, false)),
+        "perm_trans_symmetrize_compact_fc3" => beside(tally, r, count, |r| makers::acoustic(r, true)),
         _ => compare_lists::same_order(tally, r, count),
     }
 }

@@ -1,6 +1,7 @@
 //! Calls at their limits that are not refused. Left out for their size: the full sets of third and fourth order, 3.6 and
 //! 10.9 gigabytes.
 use crate::call::{fit, Call};
+use crate::call_acoustic::Acoustic;
 use crate::call_compact::{Compact, Name};
 use crate::call_deltas::Deltas;
 use crate::call_distribute::Distribute;
@@ -114,6 +115,9 @@ fn third(tallies: &mut Vec<Tally>, r: &mut Rng) {
         for t_type in 0..3 {
             one(tallies, "transpose_compact_fc3", compact(r, Name::Transpose3, t.clone(), t_type));
         }
+        let mut call = Acoustic::compact(t, 1);
+        call.set = plain(r, call.stated());
+        one(tallies, "perm_trans_symmetrize_compact_fc3", call);
     }
     one(tallies, "distribute_fc3", slabs(r, 3, 256));
     one(tallies, "rotate_delta_fc2s", deltas(r, 3, [256, 3, 2]));

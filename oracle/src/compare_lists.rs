@@ -74,7 +74,7 @@ fn spelt(list: &[Compact], answers: &[u8]) -> [usize; 3] {
     order
 }
 
-/// "Only the null shift is its own inverse."
+/// The half-shift condition: no row but the null shift undoes itself.
 pub fn half_shift(t: &Tables) -> bool {
     let twice = |k: usize| (0..t.n_satom).all(|a| t.row(k, t.row(k, a)) == a);
     let null = |k: usize| (0..t.n_satom).all(|a| t.row(k, a) == a);
@@ -92,7 +92,7 @@ fn read_out(set: &[f64], t: &Tables) -> Vec<f64> {
     (0..n * n * n).map(|k| number(k / n / n, k / n % n, k % n)).collect()
 }
 
-/// The plain table after the list: "the number that stood at (x0, x1, x2) stands at (xa, xb, xc)".
+/// The plain table after a list that spells a, b, c: at legs xa, xb, xc it has the number of x0, x1, x2.
 fn moved(table: &[f64], n: usize, [a, b, c]: [usize; 3]) -> Vec<f64> {
     let mut new = vec![f64::NAN; table.len()];
     for (k, number) in table.iter().enumerate() {

@@ -154,7 +154,7 @@ fn full(order: u32) -> Vec<Call> {
     let call = |n: usize, kind: u64| Call::new(order, Name::Full, 0, kind, Tables { n_satom: n, ..none() });
     let kinds = || (0..KINDS).chain([MINUS_ZEROS, TINY, LARGEST]);
     let mut calls: Vec<Call> = (0..5).flat_map(|n| kinds().map(move |kind| call(n, kind))).collect();
-    for n in [limit(order) + 1, usize::MAX] {
+    for n in [limit(order), limit(order) + 1, usize::MAX] {
         let mut large = call(2, 0);
         large.tables.n_satom = n;
         calls.push(large);
@@ -331,7 +331,7 @@ fn at_limits(base: &Call) -> Vec<Call> {
     changes.iter().flat_map(|change| [changed(change, n), changed(change, n + 1)]).collect()
 }
 
-/// Lists of transposes: each call is lent the set as the call before left it; every third is refused.
+/// Lists of transposes, each on the result of the one before; every third is refused.
 fn lists(order: u32, name: Name, r: &mut Rng) -> Vec<Call> {
     let mut calls = vec![];
     for (k, g) in [cyclic(1), cyclic(3), cyclic(5), s3(), cyclic(4), cyclic(3)].iter().enumerate() {
@@ -360,6 +360,9 @@ fn calls(order: u32) -> Vec<Call> {
     calls.extend(good(order, &mut r));
     calls.extend(small_counts(order));
     calls.extend(refused(order, &mut r));
+    for name in [Name::Compact, Name::Transpose] {
+        calls.extend(at_limits(&Call::new(order, name, 0, 0, tables(&cyclic(2), 1, Some(&mut r)))));
+    }
     calls.extend(lists(order, Name::Transpose, &mut r));
     for (k, call) in calls.iter_mut().enumerate() {
         call.seed = 1000 * order as u64 + k as u64;

@@ -6,12 +6,13 @@ use std::path::Path;
 
 include!(concat!(env!("OUT_DIR"), "/originals.rs"));
 
-mod audit_records;
+mod acoustic_records;
 mod bench;
 mod bench_common;
 mod bench_rows;
 mod c_names;
 mod call;
+mod call_acoustic;
 mod call_audit;
 mod call_compact;
 mod call_deltas;
@@ -41,12 +42,15 @@ mod finding_records;
 mod flip;
 mod floats;
 mod groups;
+#[cfg(test)]
+mod limit_records;
 mod makers;
 mod matching;
 mod memory;
 mod port;
 mod read_out_records;
 mod record;
+mod report_records;
 mod retire_records;
 mod rng;
 mod roll;
@@ -65,10 +69,10 @@ mod wild;
 #[global_allocator]
 static HEAP: memory::Counting = memory::Counting;
 
-const USAGE: &str = "oracle record cells|sets|maps|reports|roll FOLDER
+const USAGE: &str = "oracle record cells|sets|sums|maps|reports|roll FOLDER
 oracle flip PROGRAM FOLDER COUNT
 oracle compare all|limits|CALL [SEED [COUNT]]
-oracle bench all|common|cells|fc2|fc3|fc4|tables|transposes|swaps|drift|finding|audits [SECONDS]";
+oracle bench all|common|cells|fc2|fc3|fc4|tables|transposes|swaps|drift|finding|audits|acoustic [SECONDS]";
 
 /// Some(true) if all went well, Some(false) if the port differs, None if the words are no command.
 type Outcome = Option<bool>;
@@ -79,14 +83,13 @@ fn parts(name: &str) -> Option<Vec<record::Replay>> {
         "cells" => vec![floats::replay(), shift_records::replay(), matching::replay(), finding_records::replay()],
         "sets" => vec![
             fc2_records::second(),
-            fc2_records::compact_second(),
             fc_records::replay(3),
             fc_records::replay(4),
             fc_records::true_replay(),
-            row_sums_records::replay(),
         ],
-        "maps" => vec![slab_records::distribute(), slab_records::deltas(), read_out_records::replay()],
-        "reports" => vec![audit_records::replay(), fc2_records::drifts()],
+        "sums" => vec![row_sums_records::replay(), acoustic_records::replay()],
+        "maps" => vec![fc2_records::distribute(), slab_records::distribute(), slab_records::deltas(), read_out_records::replay()],
+        "reports" => vec![report_records::audits(), report_records::reports()],
         "roll" => vec![roll_records::replay(), retire_records::replay()],
         _ => return None,
     })
@@ -118,11 +121,11 @@ fn bench(name: &str, patience: f64) -> Outcome {
     let bench = bench::Bench::new(patience);
     let groups: [(&str, fn(&bench::Bench)); 4] =
         [("cells", bench_rows::matching), ("fc2", bench_rows::second), ("fc3", bench_rows::third), ("fc4", bench_rows::fourth)];
-    let known = ["all", "common", "tables", "transposes", "swaps", "drift", "finding", "audits"].contains(&name) || groups.iter().any(|(group, _)| *group == name);
+    let known = ["all", "common", "tables", "transposes", "swaps", "drift", "finding", "audits", "acoustic"].contains(&name) || groups.iter().any(|(group, _)| *group == name);
     if ["all", "common"].contains(&name) {
         bench_common::common();
     }
-    if !["common", "tables", "transposes", "swaps", "drift", "finding", "audits"].contains(&name) && known {
+    if !["common", "tables", "transposes", "swaps", "drift", "finding", "audits", "acoustic"].contains(&name) && known {
         bench.head();
         groups.iter().filter(|(group, _)| name == "all" || name == *group).for_each(|(_, rows)| rows(&bench));
     }
@@ -143,6 +146,9 @@ fn bench(name: &str, patience: f64) -> Outcome {
     }
     if name == "audits" {
         bench_rows::audits(&bench);
+    }
+    if name == "acoustic" && port::has("perm_trans_symmetrize_compact_fc3") {
+        bench_rows::acoustics(&bench);
     }
     if known {
         let cores = std::thread::available_parallelism().map_or(0, |n| n.get());

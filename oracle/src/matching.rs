@@ -1,13 +1,12 @@
 //! Recorded answers of the original's compute_permutation.
-use crate::call_matching::{first_no_number, greedy, EVERYWHERE};
+use crate::call::{refusal, Call as _};
+use crate::call_matching::{Matching, EVERYWHERE, FALSE, NO_NUMBER as WITH_A_PAIR};
 use crate::record::{byte_word, counted, float_word, report, Record, Replay};
 use crate::rng::Rng;
+use crate::values::integer_sum;
 
 /// What the slots, and the two of the pair, hold before each call.
 const BEFORE: i64 = 7;
-
-/// Document 01's limit of num_pos.
-const LIMIT: usize = 1024;
 
 #[derive(Clone)]
 struct Call {
@@ -25,41 +24,39 @@ impl Call {
         Call { num_pos: pos.len() / 3, lattice, symprec, periodic: EVERYWHERE, slots: pos.len() / 3, pos, rot_pos }
     }
 
-    /// The refusal by document 01, or 0.
-    fn refusal(&self) -> u64 {
-        let n = self.num_pos;
-        if n > LIMIT {
-            1
-        } else if self.slots != n || self.pos.len() != 3 * n || self.rot_pos.len() != 3 * n {
-            2
-        } else {
-            0
+    /// The call with all that it is lent.
+    fn lent(&self) -> Matching {
+        Matching {
+            slots: vec![BEFORE; self.slots],
+            lattice: self.lattice.to_vec(),
+            symprec: self.symprec,
+            periodic: self.periodic.to_vec(),
+            pos: self.pos.clone(),
+            rot_pos: self.rot_pos.clone(),
+            pair: vec![BEFORE; 2],
+            num_pos: self.num_pos,
         }
     }
+}
 
-    fn no_number(&self) -> Option<[usize; 2]> {
-        first_no_number(&self.lattice, &self.periodic, self.symprec, &self.pos, &self.rot_pos)
-    }
+/// The answer, and what the call leaves.
+fn answered(before: &Matching) -> (u8, Matching) {
+    let mut after = before.clone();
+    let refused = refusal(&mut after);
+    (if refused == 0 { after.original() } else { refused }, after)
+}
 
-    fn record(&self) -> Record {
-        let refusal = self.refusal();
-        let mut slots = vec![BEFORE; self.slots];
-        let mut matched = false;
-        if refusal == 0 {
-            (matched, slots) = greedy(&self.lattice, &self.periodic, self.symprec, &self.pos, &self.rot_pos);
-        }
-        let mut words = vec![refusal, matched as u64];
-        words.extend([self.num_pos, self.slots, self.pos.len(), self.rot_pos.len()].map(|n| n as u64));
-        words.push(float_word(self.symprec));
-        words.push(byte_word(&self.periodic));
-        words.extend(self.lattice.map(float_word));
-        words.extend(self.pos.iter().chain(&self.rot_pos).map(|x| float_word(*x)));
-        words.extend(slots.iter().map(|s| *s as u64));
-        let named = if refusal == 0 && !matched { self.no_number() } else { None };
-        words.push(named.is_some() as u64);
-        words.extend(named.unwrap_or([BEFORE as usize; 2]).map(|k| k as u64));
-        counted(words)
-    }
+/// The words of a record: how many follow; the answer; the sums of the slots and of the pair after the call, all of which held 7 before it; num_pos;
+/// lengths of slots, pos, rot_pos, lattice, flags and pair; the flags of the axes as bytes; symprec; lattice; pos; rot_pos.
+fn record(before: &Matching) -> Record {
+    let (answer, after) = answered(before);
+    let mut words = vec![answer as u64, integer_sum(&after.slots), integer_sum(&after.pair), before.num_pos as u64];
+    let floats = [&before.lattice, &before.pos, &before.rot_pos];
+    let lengths = [before.slots.len(), before.pos.len(), before.rot_pos.len(), before.lattice.len(), before.periodic.len(), before.pair.len()];
+    words.extend(lengths.map(|n| n as u64));
+    words.extend([byte_word(&before.periodic), float_word(before.symprec)]);
+    words.extend(floats.into_iter().flatten().map(|x| float_word(*x)));
+    counted(words)
 }
 
 const UNIT: [f64; 9] = [1.0, 0.0, 0.0, 0.0, 1.0, 0.0, 0.0, 0.0, 1.0];
@@ -357,37 +354,43 @@ fn told_apart() -> Vec<Call> {
     calls
 }
 
-fn refused() -> Vec<Call> {
+fn refused() -> Vec<Matching> {
     let mut r = Rng::new(4);
     let (pos, rot) = pair(&mut r, Kind::Permuted, 2);
-    let base = Call::new(SKEW, 1e-5, pos, rot);
-    let mut calls = vec![];
-    for num_pos in [0, 1, 3, 1024, 1025, usize::MAX / 2, usize::MAX] {
-        calls.push(Call { num_pos, ..base.clone() });
+    let base = Call::new(SKEW, 1e-5, pos, rot).lent();
+    let mut calls: Vec<Matching> = [0, 1, 3, 1024, 1025, usize::MAX / 2, usize::MAX].map(|num_pos| Matching { num_pos, ..base.clone() }).to_vec();
+    for length in [0, 1, 3] {
+        calls.push(Matching { slots: vec![BEFORE; length], ..base.clone() });
     }
-    calls.push(Call { slots: 1, ..base.clone() });
-    calls.push(Call { slots: 3, ..base.clone() });
-    calls.push(Call { pos: vec![0.5; 5], ..base.clone() });
-    calls.push(Call { pos: vec![0.5; 7], ..base.clone() });
-    calls.push(Call { rot_pos: vec![0.5; 5], ..base.clone() });
-    calls.push(Call { rot_pos: vec![], ..base });
+    for length in [0, 5, 7] {
+        calls.push(Matching { pos: vec![0.5; length], ..base.clone() });
+        calls.push(Matching { rot_pos: vec![0.5; length], ..base.clone() });
+    }
+    // with as many positions as there are, with as many as there may be, and with one more
+    for num_pos in [2, 1024, 1025] {
+        for length in [0, 8, 10] {
+            calls.push(Matching { lattice: vec![1.0; length], num_pos, ..base.clone() });
+        }
+        for length in [0, 2, 4] {
+            calls.push(Matching { periodic: vec![1; length], num_pos, ..base.clone() });
+        }
+        for length in [0, 1, 3] {
+            calls.push(Matching { pair: vec![BEFORE; length], num_pos, ..base.clone() });
+        }
+    }
     calls
 }
 
-/// The words of a record: how many follow; refusal; 1 for true; num_pos; lengths of slots, pos, rot_pos;
-/// symprec; the flags of the axes as bytes; nine lattice numbers; pos; rot_pos; the slots after the call, which all held 7
-/// before it; 1 if a pair is named; the pair after the call, 7 and 7 before it.
 pub fn replay() -> Replay {
     let mut calls = sheets();
     calls.extend(matched());
     calls.extend(named().into_iter().map(|(call, _)| call));
     calls.extend(told_apart());
     calls.extend(slabs());
-    calls.extend(refused());
-    let records: Vec<Record> = calls.iter().map(Call::record).collect();
-    let answers = |matched: u64| records.iter().filter(|r| r[1] == 0 && r[2] == matched).count();
-    let pairs = records.iter().filter(|r| r[r.len() - 3] == 1).count();
-    let stdout = report("matching", &records, 1) + &format!("true: {}\nfalse: {}\nof these with a pair: {pairs}\n", answers(1), answers(0));
+    let calls = calls.iter().map(Call::lent).chain(refused());
+    let records: Vec<Record> = calls.map(|call| record(&call)).collect();
+    let so_many = |answer: u8| records.iter().filter(|r| r[1] == answer as u64).count();
+    let stdout = report("matching", &records, 1) + &format!("false: {}\nfalse, with a pair: {}\n", so_many(FALSE), so_many(WITH_A_PAIR));
     Replay::new(records, stdout, 4)
 }
 
@@ -396,11 +399,9 @@ mod tests {
     use super::*;
 
     // refusal, answer, slots
-    fn answer(call: &Call) -> (u64, bool, Vec<i64>) {
-        let record = call.record();
-        let end = record.len() - 3;
-        let slots = record[end - call.slots..end].iter().map(|s| *s as i64).collect();
-        (record[1], record[2] == 1, slots)
+    fn answer(call: &Call) -> (u8, bool, Vec<i64>) {
+        let (number, after) = answered(&call.lent());
+        (if number < FALSE { number } else { 0 }, number == 0, after.slots)
     }
 
     #[test]
@@ -417,9 +418,9 @@ mod tests {
     #[test]
     fn the_first_tried_pair_is_named() {
         for (call, pair) in named() {
-            let record = call.record();
-            let held = pair.map_or([0, 7, 7], |[i, j]| [1, i as u64, j as u64]);
-            assert_eq!(record[record.len() - 3..], held, "{:?} {:?}", call.pos, call.rot_pos);
+            let (number, after) = answered(&call.lent());
+            let held = pair.map_or([BEFORE; 2], |p| p.map(|k| k as i64));
+            assert_eq!((number == WITH_A_PAIR, after.pair), (pair.is_some(), held.to_vec()), "{:?} {:?}", call.pos, call.rot_pos);
         }
     }
 
@@ -437,8 +438,8 @@ mod tests {
     #[test]
     fn refused_calls_leave_the_slots() {
         for call in refused() {
-            let (refusal, matched, slots) = answer(&call);
-            assert!(refusal > 0 && !matched && slots.iter().all(|s| *s == BEFORE));
+            let (number, after) = answered(&call);
+            assert!((1..FALSE).contains(&number) && after.slots.iter().chain(&after.pair).all(|s| *s == BEFORE));
         }
     }
 }

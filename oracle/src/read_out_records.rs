@@ -4,7 +4,7 @@ use crate::call_read_out::ReadOut;
 use crate::groups::random_tables;
 use crate::record::{counted, report, Record, Replay};
 use crate::rng::Rng;
-use crate::shifts::{cyclic, tables};
+use crate::shifts::{cyclic, product, tables};
 use crate::spoil::{at_limits, perhaps_spoilt};
 use crate::values::{fill, sum, KINDS};
 
@@ -29,7 +29,7 @@ fn record(call: &mut ReadOut, seed: u64) -> Record {
 /// There is room for it in the program.
 fn small(call: &ReadOut) -> bool {
     let t = &call.tables;
-    call.full.len() <= 21000 && call.set.len() <= 8000 && t.perms.len() <= 256 && [&t.p2s, &t.s2pp, &t.nsym_list].iter().all(|l| l.len() <= 65)
+    call.full.len() <= 21000 && call.set.len() <= 10_400 && t.perms.len() <= 256 && [&t.p2s, &t.s2pp, &t.nsym_list].iter().all(|l| l.len() <= 65)
 }
 
 pub fn replay() -> Replay {
@@ -41,6 +41,8 @@ pub fn replay() -> Replay {
             perhaps_spoilt(&mut r, call)
         };
         calls.extend((0..4000).map(|_| make()).filter(small).take(120));
+        // two atoms in the primitive cell, half shifts and others
+        calls.extend([cyclic(2), cyclic(3), product(&cyclic(2), &cyclic(2))].iter().map(|g| ReadOut::new(order, tables(g, 2, Some(&mut r)))).filter(small));
         calls.extend(at_limits(&ReadOut::new(order, tables(&cyclic(2), 1, None))));
     }
     let records: Vec<Record> = calls.iter_mut().enumerate().map(|(k, call)| record(call, 11000 + k as u64)).collect();

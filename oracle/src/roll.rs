@@ -1,4 +1,4 @@
-//! A delivery roll by the sentences of document 02, A.7, A.8, A.12, A.13 and A.14, as plain Rust: nothing here is taken from the port.
+//! A delivery roll by document 02, A.7, A.8, A.12, A.13 and A.14, as plain Rust: nothing here is taken from the port.
 use std::collections::{BTreeSet, HashMap};
 
 /// A record: kind 1 delivery, 2 replacement, 3 retirement.
@@ -31,7 +31,7 @@ pub const NOT_LAWFUL: u8 = 9;
 pub const UNKNOWN_SET: u8 = 11;
 
 impl Record {
-    /// Set numbers start at 1; the earlier number is zero except for kind 2, where it is not; the label's length is one byte.
+    /// No set has the number 0; just replacements have an earlier number; the length of the label fits a byte.
     pub fn keeps_rules(&self) -> bool {
         let kinds = (1..=3).contains(&self.kind);
         let earlier = if self.kind == 2 { self.earlier != 0 } else { self.earlier == 0 };
@@ -100,7 +100,7 @@ pub fn read_roll(bytes: &[u8], order: Order) -> Option<Roll> {
     (records.len() == count && count <= MOST_RECORDS && whole && listed == starts).then_some(Roll { records, trailer })
 }
 
-/// The roll in the first bytes of a lent slice, their count given with it.
+/// The roll that stands in the first `count` bytes of a slice.
 pub fn held(lent: &[u8], count: usize, order: Order) -> Option<Roll> {
     read_roll(lent.get(..count)?, order)
 }
@@ -132,8 +132,8 @@ struct Noted {
     replaced_by: Option<u32>,
 }
 
-/// The plain register of the records, by set; None where a record delivers a number already delivered, or replaces or retires a set
-/// not delivered by an earlier record, or replaces one already replaced.
+/// The plain register of the records, by set; None where a record breaks a rule: it delivers a number a second time, names a set that no
+/// record before it delivers, or replaces a set for the second time.
 fn register(records: &[Record]) -> Option<HashMap<u32, Noted>> {
     let mut register: HashMap<u32, Noted> = HashMap::new();
     for record in records {
@@ -151,7 +151,7 @@ fn register(records: &[Record]) -> Option<HashMap<u32, Noted>> {
     Some(register)
 }
 
-/// A replaced set answers as the set that replaced it; retirement is looked at only at the end of the chain.
+/// Follows the replacements to their end, and looks there whether that set is retired.
 fn ask(register: &HashMap<u32, Noted>, set: u32) -> Standing {
     match register.get(&set) {
         None => Standing::Unknown,
@@ -168,8 +168,8 @@ pub fn standing(lent: &[u8], count: usize, set: u32) -> Result<Standing, u8> {
     register(&records).map(|register| ask(&register, set)).ok_or(NOT_LAWFUL)
 }
 
-/// The set and every set linked to it by replacements, earlier or later, by rising number: whatever replaced one of them or was replaced by
-/// one of them joins, until none is left to join.
+/// The set and all that replacements link with it, lowest number first: whatever replaced one of them or was replaced by one of them joins,
+/// until none is left to join.
 fn line(register: &HashMap<u32, Noted>, set: u32) -> BTreeSet<u32> {
     let mut line = BTreeSet::from([set]);
     loop {

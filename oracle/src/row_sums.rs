@@ -1,9 +1,9 @@
-//! Row sums of a full second-order set by the sentences of document 02, A.10, as plain Rust: a model to compare with, which takes nothing
+//! Row sums of a full second-order set by document 02, A.10, as plain Rust: a model to compare with, which takes nothing
 //! from the port. The grid is read from the bits, with integers.
 
 pub const LIMIT: usize = 1024;
 
-/// A whole multiple of 2^-20 of absolute value at most 2^20.
+/// A multiple of 2^-20 from -2^20 to 2^20.
 pub fn on_grid(x: f64) -> bool {
     let bits = x.to_bits();
     let (field, low) = (bits >> 52 & 0x7ff, bits & ((1 << 52) - 1));

@@ -1,6 +1,9 @@
 //! Recorded verdicts on shift tables: good ones, and ones damaged in every way that document 01 names.
+use crate::call::{refusal, Call as _};
+use crate::call_tables::Explain;
 use crate::record::{counted, report, Record, Replay};
 use crate::rng::Rng;
+use crate::values::integer_sum;
 use crate::shifts::{cyclic, loop5, product, q8, s3, tables, Group, Tables};
 
 /// The tables of a call, with the lengths of its set and of its work slice.
@@ -9,6 +12,8 @@ struct Call {
     limit: usize,
     set: usize,
     work: usize,
+    /// The slots of the explanation.
+    slots: usize,
     tables: Tables,
 }
 
@@ -16,15 +21,19 @@ impl Call {
     /// The call with the lengths that its counts state.
     fn new(limit: usize, tables: Tables) -> Call {
         let work = tables.n_patom.saturating_mul(tables.n_satom);
-        Call { limit, set: work.saturating_mul(9), work, tables }
+        Call { limit, set: work.saturating_mul(9), work, slots: 5, tables }
     }
 
     fn record(&self) -> Record {
         let t = &self.tables;
         let verdict = t.verdict(self.limit, self.set, self.work);
         let lists = [&t.perms, &t.p2s, &t.s2pp, &t.nsym_list];
-        let mut words = vec![verdict];
-        words.extend([self.limit, self.set, self.work, t.n_satom, t.n_patom, t.num_trans].map(|n| n as u64));
+        let mut told = Explain { tables: t.clone(), place: vec![7; self.slots] };
+        let refused = refusal(&mut told);
+        let answer = if refused == 0 { told.original() } else { refused };
+        // the tables alone: check_shift_tables, and what explain_shift_tables says of them
+        let mut words = vec![verdict, t.judged(1024, true), answer as u64, integer_sum(&told.place)];
+        words.extend([self.limit, self.set, self.work, self.slots, t.n_satom, t.n_patom, t.num_trans].map(|n| n as u64));
         words.extend(lists.map(|l| l.len() as u64));
         words.extend(lists.into_iter().flatten().map(|x| *x as u64));
         counted(words)
@@ -94,6 +103,15 @@ fn counts_above(r: &mut Rng) -> Vec<Call> {
             calls.push(Call::new(64, call.tables.clone()));
             call.tables.s2pp[0] = -1;
             call.work = 3;
+            calls.push(call);
+        }
+    }
+    // each count at its limit and one above, with the lengths of small ones
+    for count in [1024, 1025] {
+        let changes: [fn(&mut Tables, usize); 3] = [|t, n| t.n_satom = n, |t, n| t.n_patom = n, |t, n| t.num_trans = n];
+        for change in changes {
+            let mut call = Call { limit: 1024, ..base.clone() };
+            change(&mut call.tables, count);
             calls.push(call);
         }
     }
@@ -239,7 +257,8 @@ fn broken_rules(r: &mut Rng) -> Vec<Call> {
     calls
 }
 
-/// The words of a record: how many follow; verdict; limit; lengths of the set and of the work slice;
+/// The words of a record: how many follow; verdict; that on the tables alone, whose limit is 1,024; the answer of the explanation and the sum of its
+/// slots, all of which held 7; limit; lengths of the set, of the work slice and of the slots;
 /// n_satom, n_patom, num_trans; lengths of perms, p2s, s2pp, nsym_list; their entries.
 pub fn replay() -> Replay {
     let mut r = Rng::new(2);
@@ -249,6 +268,10 @@ pub fn replay() -> Replay {
     calls.extend(wrong_lengths(&mut r));
     calls.extend(out_of_range(&mut r));
     calls.extend(broken_rules(&mut r));
+    // slots of other lengths, with tables that obey and with such that do not
+    for call in [calls[0].clone(), calls[calls.len() - 1].clone()] {
+        calls.extend([0, 4, 6].map(|slots| Call { slots, ..call.clone() }));
+    }
     let records: Vec<Record> = calls.iter().map(Call::record).collect();
     let stdout = report("shift tables", &records, 1);
     Replay::new(records, stdout, 3)

@@ -41,7 +41,7 @@ pub fn q8() -> Group {
 }
 
 /// A Latin square with a unit that is no group: 1 after 1 is 0, and no group of five elements has a
-/// pair of that kind. Its rows obey every rule but "one row after another is a row".
+/// pair of that kind. Its rows obey every rule but that two of them, composed, are a row.
 pub fn loop5() -> Group {
     let rows = [[0, 1, 2, 3, 4], [1, 0, 3, 4, 2], [2, 4, 0, 1, 3], [3, 2, 4, 0, 1], [4, 3, 1, 2, 0]];
     group(5, |a, b| rows[a][b])

@@ -119,6 +119,10 @@ fn distributed(order: u32, r: &mut Rng) -> Vec<Distribute> {
         call.num_atom = num_atom;
         call.set = if num_atom <= most && num_first <= most { call.stated() } else { 7 };
     }
+    // at the limits and one above, with the lengths of two atoms
+    for (num_atom, num_first) in [(most, 3), (most + 1, 3), (2, most), (2, most + 1)] {
+        calls.push(Distribute { num_atom, num_first, ..Distribute::new(order, 2, 3, vec![1, 0]) });
+    }
     calls.extend(damaged(&Distribute::new(order, 2, 3, vec![1, 0])));
     calls
 }
@@ -302,7 +306,10 @@ fn damaged_deltas(base: &Delta) -> Vec<Delta> {
     };
     let most = limit(base.order);
     let mut changes: Vec<Box<dyn Fn(&mut Delta)>> = vec![
+        Box::new(move |c| c.num_atom = most),
         Box::new(move |c| c.num_atom = most + 1),
+        Box::new(|c| c.num_site_sym = LIST),
+        Box::new(|c| c.num_disp = LIST),
         Box::new(|c| c.map.push(0)),
         Box::new(|c| shorten(&mut c.map)),
         Box::new(|c| c.num_atom = 3),

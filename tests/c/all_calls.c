@@ -107,6 +107,40 @@ static void rounding(void) {
     CHECK(gf_sqrt(-1.0) != gf_sqrt(-1.0));
 }
 
+/* what gf_explain_shift_tables says of three atoms, two shifts of two or four atoms */
+static bool explains(const int64_t *p2s, size_t p, const int64_t *s2pp, const int64_t *nsym, size_t n, const int64_t *perms, size_t m,
+                     size_t answer, size_t which, size_t i, size_t j, size_t k) {
+    size_t place[5] = {9, 9, 9, 9, 9};
+    return gf_explain_shift_tables(p2s, p, s2pp, n, nsym, n, perms, m * n, place, 5, n, p, m) == GF_DONE && place[0] == answer && place[1] == which
+        && place[2] == i && place[3] == j && place[4] == k && gf_check_shift_tables(p2s, p, s2pp, n, nsym, n, perms, m * n, n, p, m) == answer;
+}
+
+static void explained(void) {
+    const int64_t zeros[4] = {0}, in_order[] = {0, 1, 2}, to_zero[] = {0, 2, 1}, two_rows[] = {0, 1, 1}, reps[] = {0, 2}, halves[] = {0, 0, 1, 1}, rows[] = {0, 1, 0, 1};
+    const int64_t circle[] = {0, 1, 2, 1, 2, 0, 2, 0, 1}, twice[] = {0, 1, 2, 1, 1, 0, 2, 0, 1}, no_null[] = {1, 2, 0, 2, 0, 1, 1, 2, 0};
+    const int64_t swaps[] = {0, 1, 2, 1, 0, 2, 2, 1, 0}, same_rows[] = {0, 1, 0, 1}, pairs[] = {0, 1, 2, 3, 1, 0, 3, 2};
+    const int64_t other_way[] = {1, 1, 0, 0}, moved[] = {0, 1, 1, 1}, beyond[] = {0, 1, 2, 1, 2, 0, 2, 0, 3}, below[] = {0, -1, 1};
+    size_t place[6] = {9, 9, 9, 9, 9, 9};
+    CHECK(explains(zeros, 1, zeros, to_zero, 3, circle, 3, GF_DONE, 0, 0, 0, 0));
+    CHECK(explains(zeros, 1, zeros, to_zero, 3, beyond, 3, GF_INDEX_OUT_OF_RANGE, 0, 8, 0, 0));
+    CHECK(explains(zeros, 1, zeros, below, 3, circle, 3, GF_INDEX_OUT_OF_RANGE, 3, 1, 0, 0));
+    CHECK(explains(zeros, 1, zeros, two_rows, 3, circle, 2, GF_BAD_SHIFT_TABLES, 0, 0, 0, 0));
+    CHECK(explains(zeros, 1, zeros, to_zero, 3, twice, 3, GF_BAD_SHIFT_TABLES, 1, 1, 0, 1));
+    CHECK(explains(zeros, 1, zeros, in_order, 3, no_null, 3, GF_BAD_SHIFT_TABLES, 2, 0, 0, 0));
+    CHECK(explains(zeros, 1, zeros, in_order, 3, swaps, 3, GF_BAD_SHIFT_TABLES, 3, 1, 2, 0));
+    CHECK(explains(zeros, 1, zeros, rows, 2, same_rows, 2, GF_BAD_SHIFT_TABLES, 4, 0, 1, 0));
+    CHECK(explains(reps, 2, other_way, rows, 4, pairs, 2, GF_BAD_SHIFT_TABLES, 5, 0, 0, 0));
+    CHECK(explains(reps, 2, moved, rows, 4, pairs, 2, GF_BAD_SHIFT_TABLES, 6, 1, 0, 0));
+    CHECK(explains(zeros, 1, zeros, in_order, 3, circle, 3, GF_BAD_SHIFT_TABLES, 7, 1, 0, 0));
+    CHECK(explains(reps, 2, halves, rows, 4, pairs, 2, GF_DONE, 0, 0, 0, 0));
+    CHECK(gf_explain_shift_tables(THREE, place, 5, 3, 1025, 3) == GF_DONE && place[0] == GF_COUNT_ABOVE_LIMIT && place[1] == 1 && place[2] == 0);
+    CHECK(gf_explain_shift_tables(THREE, place, 5, 3, 2, 3) == GF_DONE && place[0] == GF_WRONG_LENGTH && place[1] == 1 && place[2] == 0);
+    CHECK(gf_explain_shift_tables(THREE, place, 5, 3, 1, SIZE_MAX) == GF_DONE && place[0] == GF_COUNT_ABOVE_LIMIT && place[1] == 2);
+    place[0] = place[4] = 9;
+    CHECK(gf_explain_shift_tables(THREE, place, 4, 3, 1, 3) == GF_WRONG_LENGTH && gf_explain_shift_tables(THREE, place, 6, 3, 1, 3) == GF_WRONG_LENGTH);
+    CHECK(place[0] == 9 && place[4] == 9 && place[5] == 9);
+}
+
 static void shift_tables(void) {
     CHECK(gf_check_shift_tables(THREE, 3, 1, 3) == GF_DONE);
     CHECK(gf_check_shift_tables(TWO, 2, 1, 2) == GF_DONE);
@@ -462,6 +496,50 @@ static void symmetrize_third_order(void) {
     CHECK(memcmp(fc3, before, sizeof fc3) == 0 && done[0] == 7);
     CHECK(gf_set_permutation_symmetry_compact_fc3(S(fc3), ONE, S(done), 1, 1, 1) == GF_DONE);
     CHECK(sheet5_holds(fc3) && cleared(S(done)));
+}
+
+static bool blocks_are(const double *set, const double *xs, size_t blocks) {
+    for (size_t k = 0; k < blocks * 27; k++) {
+        if (set[k] != xs[k / 27]) {
+            return false;
+        }
+    }
+    return true;
+}
+
+static void symmetrize_third_order_without_drift(void) {
+    const double four[] = {16, 8, 4, 0}, eight[] = {0, 0, 0, 0, 0, 0, 0, 8}, turned[] = {-1, 1, 1, -1, 1, -1, -1, 1};
+    double one[27], full[216], two[108], before[216], drift[108];
+    uint8_t done[] = {7, 7, 7, 7};
+    sheet5(one);
+    CHECK(gf_perm_trans_symmetrize_fc3(S(one), drift, 27, 1, 0) == GF_DONE); /* level 0: the mean of six alone */
+    CHECK(sheet5_holds(one) && all_are(drift, 27, 0.0));
+    CHECK(gf_perm_trans_symmetrize_fc3(S(one), drift, 27, 1, 1) == GF_DONE); /* an atom alone is all drift */
+    CHECK(all_are(S(one), 0.0));
+    for (size_t k = 0; k < 216; k++) {
+        full[k] = eight[k / 27];
+    }
+    memcpy(before, full, sizeof full);
+    count_up(S(drift));
+    CHECK(gf_perm_trans_symmetrize_fc3(S(full), S(drift), 257, 1) == GF_COUNT_ABOVE_LIMIT);
+    CHECK(gf_perm_trans_symmetrize_fc3(S(full), S(drift), 2, 1001) == GF_COUNT_ABOVE_LIMIT);
+    CHECK(gf_perm_trans_symmetrize_fc3(S(full), drift, 107, 2, 1) == GF_WRONG_LENGTH);
+    CHECK(gf_perm_trans_symmetrize_fc3(full, 215, S(drift), 2, 1) == GF_WRONG_LENGTH);
+    CHECK(memcmp(full, before, sizeof full) == 0 && drift[107] != 0);
+    CHECK(gf_perm_trans_symmetrize_fc3(S(full), S(drift), 2, 1) == GF_DONE);
+    CHECK(blocks_are(full, turned, 8) && all_are(S(drift), 0.0));
+    CHECK(gf_perm_trans_symmetrize_fc3(S(full), S(drift), 2, 3) == GF_DONE); /* without drift and alike: as it was */
+    CHECK(blocks_are(full, turned, 8));
+    for (size_t k = 0; k < 108; k++) {
+        two[k] = four[k / 27];
+    }
+    memcpy(before, two, sizeof two);
+    CHECK(gf_perm_trans_symmetrize_compact_fc3(S(two), TWO, S(done), drift, 54, 2, 1, 2, 1001) == GF_COUNT_ABOVE_LIMIT);
+    CHECK(gf_perm_trans_symmetrize_compact_fc3(S(two), TWO, S(done), drift, 55, 2, 1, 2, 1) == GF_WRONG_LENGTH);
+    CHECK(gf_perm_trans_symmetrize_compact_fc3(S(two), TWO, done, 3, drift, 54, 2, 1, 2, 1) == GF_WRONG_LENGTH);
+    CHECK(memcmp(two, before, sizeof two) == 0 && done[0] == 7);
+    CHECK(gf_perm_trans_symmetrize_compact_fc3(S(two), TWO, S(done), drift, 54, 2, 1, 2, 1) == GF_DONE);
+    CHECK(all_are(S(two), 0.0) && cleared(S(done)) && all_are(drift, 54, 0.0)); /* the shift turns the sign of all that has no drift */
 }
 
 static void transpose_third_order(void) {
@@ -1039,6 +1117,7 @@ int main(void) {
     stated_permutations();
     rounding();
     shift_tables();
+    explained();
     matching();
     surfaces();
     finding();
@@ -1051,6 +1130,7 @@ int main(void) {
     both_ways();
     distribute_second_order();
     symmetrize_third_order();
+    symmetrize_third_order_without_drift();
     transpose_third_order();
     true_transposes();
     swaps();

@@ -15,7 +15,7 @@
 
 #define SLICES(SLICE) \
     SLICE(double, set) SLICE(double, full) SLICE(double, other) SLICE(double, sums) SLICE(double, block) SLICE(double, deltas) \
-    SLICE(double, inv_u) SLICE(double, site_sym_cart) SLICE(double, rot_delta) SLICE(double, rot_cart) SLICE(double, r_carts) \
+    SLICE(double, inv_u) SLICE(double, site_sym_cart) SLICE(double, rot_delta) SLICE(double, drift) SLICE(double, rot_cart) SLICE(double, r_carts) \
     SLICE(double, pos) SLICE(double, rot_pos) SLICE(int64_t, p2s) SLICE(int64_t, s2pp) SLICE(int64_t, nsym_list) SLICE(int64_t, perms) \
     SLICE(int64_t, atom_list) SLICE(int64_t, fc_indices_of_atom_list) SLICE(int64_t, permutations) SLICE(int64_t, map_atoms) \
     SLICE(int64_t, map_syms) SLICE(int64_t, atom_mapping) SLICE(int64_t, rot_map_syms) SLICE(int64_t, rot_atom) \
@@ -73,6 +73,7 @@ static const struct gf_cell unit = {{1, 0, 0, 0, 1, 0, 0, 0, 1}, 1e-6, {1, 1, 1}
     static uint8_t layer_##name(struct input *r, struct gf_why *why) { return gft_##name table_arguments; }
 
 CALL(check_shift_tables, (r->set_len = 0), (T, N), (TABLES, why))
+CALL(explain_shift_tables, (r->set_len = 0), (T, r->report.place, 5, N), (TABLES, r->report.place, why))
 CALL(compute_permutation, (r->set_len = 0), (S(rot_atom), CELL, S(pos), S(rot_pos), r->pair, 2, r->num_pos),
      (SLOTS(rot_atom), &unit, NUMBERS(pos), NUMBERS(rot_pos), r->pair, r->num_pos, why))
 CALL(find_permutation, (r->set_len = 0), (S(rot_atom), S(marks), CELL, S(pos), S(rot_pos), r->num_pos),
@@ -98,6 +99,10 @@ CALL(compact_to_full_fc2, (r->full_len = WHOLE2, r->set_len = COMPACT2), (S(full
 CALL(set_permutation_symmetry_fc3, (r->full_len = FULL3), (S(full), r->num_atom), (SET(full), r->num_atom, why))
 CALL(set_permutation_symmetry_compact_fc3, (r->set_len = COMPACT3, r->done_len = PAIRS * r->n_satom), (S(set), T, S(done), N),
      (SET(set), TABLES, BYTES(done), why))
+CALL(perm_trans_symmetrize_fc3, (r->full_len = FULL3, r->drift_len = FULL2 * 3), (S(full), S(drift), r->num_atom, r->level),
+     (SET(full), SET(drift), r->num_atom, r->level, why))
+CALL(perm_trans_symmetrize_compact_fc3, (r->set_len = COMPACT3, r->done_len = PAIRS * r->n_satom, r->drift_len = PAIRS * 27),
+     (S(set), T, S(done), S(drift), N, r->level), (SET(set), TABLES, BYTES(done), SET(drift), r->level, why))
 CALL(transpose_compact_fc3, (r->set_len = COMPACT3, r->done_len = PAIRS), (S(set), T, S(done), N, 1), (SET(set), TABLES, BYTES(done), 1, why))
 CALL(true_transpose_compact_fc3, (r->set_len = COMPACT3, r->done_len = PAIRS), (S(set), T, S(done), N, 1),
      (SET(set), TABLES, BYTES(done), 1, why))
@@ -191,6 +196,7 @@ struct call {
 
 static const struct call calls[] = {
     {NAMED(check_shift_tables), 2, true, {TABLES_SAID(1024)}},
+    {NAMED(explain_shift_tables), 2, true, {{0}}},
     {NAMED(compute_permutation), 2, false,
      {LENGTH(rot_atom, "rot_atom"), LENGTH(pos, "pos"), LENGTH(rot_pos, "rot_pos"), COUNT(num_pos, 1024)}},
     {NAMED(find_permutation), 2, false,
@@ -213,6 +219,9 @@ static const struct call calls[] = {
     {NAMED(compact_to_full_fc2), 2, true, {LENGTH(full, "full"), LENGTH(set, "fc2"), TABLES_SAID(1024)}},
     {NAMED(set_permutation_symmetry_fc3), 3, false, {LENGTH(full, "fc3"), COUNT(num_atom, 256)}},
     {NAMED(set_permutation_symmetry_compact_fc3), 3, true, {LENGTH(set, "fc3"), TABLES_SAID(256), LENGTH(done, "done")}},
+    {NAMED(perm_trans_symmetrize_fc3), 3, false, {LENGTH(full, "fc3"), LENGTH(drift, "drift"), COUNT(num_atom, 256), COUNT(level, 1000)}},
+    {NAMED(perm_trans_symmetrize_compact_fc3), 3, true,
+     {LENGTH(set, "fc3"), TABLES_SAID(256), LENGTH(done, "done"), LENGTH(drift, "drift"), COUNT(level, 1000)}},
     {NAMED(transpose_compact_fc3), 3, true, {LENGTH(set, "fc3"), TABLES_SAID(256), LENGTH(done, "done")}},
     {NAMED(true_transpose_compact_fc3), 3, true, {LENGTH(set, "fc3"), TABLES_SAID(256), LENGTH(done, "done")}},
     {NAMED(distribute_fc3), 3, false,
@@ -340,6 +349,7 @@ static struct input input_of(const struct call *c, struct size size)
     count_on(r->set, r->set_len), count_on(r->full, r->full_len), count_on(r->other, r->other_len), count_on(r->deltas, r->deltas_len);
     count_on(r->inv_u, r->inv_u_len), count_on(r->r_carts, r->r_carts_len), count_on(r->site_sym_cart, r->site_sym_cart_len);
     count_on(r->rot_cart, r->rot_cart_len), count_on(r->block, r->block_len), count_on(r->sums, r->sums_len);
+    count_on(r->drift, r->drift_len);
     fill_tables(r, size.k);
     fill_positions(r, size.staircase);
     for (size_t k = 0; k < r->atom_list_len; k++)

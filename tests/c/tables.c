@@ -92,23 +92,25 @@ static void every_argument(const struct call *call)
     }
 }
 
-/* the other refusals have their words alone: a row that does not send its atom to the representative, a representative that is not listed */
+/* a row that does not send its atom to the representative is named; the other refusals have their words alone: a representative that is not
+ * listed */
 static void other_refusals(void)
 {
-    const char *words = "transpose_compact_fc3: refusal 6, the shift tables break a rule";
+    const char *words = "transpose_compact_fc3: refusal 6, the shift tables break a rule (nsym_list: entry 1 is 0, which sends atom 1 to 1, not to 0)";
     struct gf_why why;
     for (size_t k = 0; k < CALLS; k++) {
         const struct call *call = &calls[k];
         struct input r = input_of(call, small), before = input_of(call, small);
         r.nsym_list[1] = before.nsym_list[1] = 0, r.map_atoms[0] = before.map_atoms[0] = 4;
         r.block[0] = before.block[0] = 0.1;
-        const uint8_t answer = call->layer(&r, &why), tables = strcmp(call->name, "same_set") != 0 && strcmp(call->name, "set_difference") != 0 && call->compact;
+        const bool none = strcmp(call->name, "same_set") == 0 || strcmp(call->name, "set_difference") == 0 || strcmp(call->name, "explain_shift_tables") == 0;
+        const uint8_t answer = call->layer(&r, &why), tables = !none && call->compact;
         const uint8_t refusal = tables                                         ? GF_BAD_SHIFT_TABLES
                               : strcmp(call->name, "distribute_fc2") == 0    ? GF_BAD_REPRESENTATIVE
                               : strcmp(call->name, "replace_block_fc2") == 0 ? GF_OFF_GRID
                                                                              : 0;
         CHECK(call->name, refusal == 0 ? !GF_REFUSED(answer) : answer == refusal && same_memory(&r, &before), why.text);
-        CHECK(call->name, refusal == 0 || strstr(why.text, "(") == NULL, why.text);
+        CHECK(call->name, refusal == 0 || (strstr(why.text, " (nsym_list: entry 1 is 0, ") != NULL) == (refusal == GF_BAD_SHIFT_TABLES), why.text);
         CHECK(call->name, strcmp(call->name, "transpose_compact_fc3") != 0 || strcmp(why.text, words) == 0, why.text);
         give_back(&r), give_back(&before);
     }
@@ -132,7 +134,7 @@ static void texts(void)
     CHECK("tables", empty.num_trans == 0 && gft_check_shift_tables(&empty, &why) == GF_BAD_SHIFT_TABLES, why.text);
     CHECK("fc3", gft_set_permutation_symmetry_compact_fc3(fc3, &tables, d, &why) == GF_DONE && why.text[0] == 0, why.text);
     CHECK("fc3", GF_REFUSED(gft_set_permutation_symmetry_compact_fc3(less, &tables, d, &why)), why.text);
-    CHECK("fc3", strcmp(why.text, "set_permutation_symmetry_compact_fc3: refusal 2, a slice has a length other than the one stated for it "
+    CHECK("fc3", strcmp(why.text, "set_permutation_symmetry_compact_fc3: refusal 2, a slice is not as long as stated "
                                   "(fc3: length 107, stated n_patom * n_satom * n_satom * 27 = 108)") == 0, why.text);
     const struct gf_listed listed = {GF_ARRAY(zeros), {zeros, 1025}, {rotation, 9}, {zeros, 1}, {zeros, 1}, {zeros, 1}, 1, 1, 1};
     const struct gf_slots reverse = {work, 1};
@@ -140,6 +142,34 @@ static void texts(void)
     CHECK("slab", gft_distribute_fc3(slabs, 1, 1, map, 1, rot, 2, &why) == GF_BAD_SLAB && strstr(why.text, "(") == NULL, why.text);
     CHECK("read", gf_numbers_of(fc3).at == numbers && gf_numbers_of(fc3).length == 108, "");
     CHECK("answers", !GF_REFUSED(0) && GF_REFUSED(1) && GF_REFUSED(63) && !GF_REFUSED(64) && !GF_REFUSED(255), "");
+}
+
+/* the words of each rule */
+static void rules(void)
+{
+    const int64_t zeros[] = {0, 0, 0, 0}, in_order[] = {0, 1, 2}, to_zero[] = {0, 2, 1}, two_rows[] = {0, 1, 1}, reps[] = {0, 2}, rows[] = {0, 1, 0, 1};
+    const int64_t circle[] = {0, 1, 2, 1, 2, 0, 2, 0, 1}, twice[] = {0, 1, 2, 1, 1, 0, 2, 0, 1}, no_null[] = {1, 2, 0, 2, 0, 1, 1, 2, 0};
+    const int64_t swaps[] = {0, 1, 2, 1, 0, 2, 2, 1, 0}, pairs[] = {0, 1, 2, 3, 1, 0, 3, 2}, other_way[] = {1, 1, 0, 0}, moved[] = {0, 1, 1, 1};
+    const struct {
+        struct gf_indices p2s, s2pp, nsym_list, perms;
+        const char *text;
+    } broken[] = {
+        {{zeros, 1}, {zeros, 3}, {two_rows, 3}, {circle, 6}, "(perms: 2 rows: n_satom 3 is not n_patom 1 x num_trans 2)"},
+        {{zeros, 1}, {zeros, 3}, {to_zero, 3}, {twice, 9}, "(perms: row 1 sends atoms 0 and 1 to the same place)"},
+        {{zeros, 1}, {zeros, 3}, {in_order, 3}, {no_null, 9}, "(perms: no row sends each atom to itself (the null shift))"},
+        {{zeros, 1}, {zeros, 3}, {in_order, 3}, {swaps, 9}, "(perms: row 1 and then row 2 is no row: a shift is missing)"},
+        {{zeros, 1}, {zeros, 2}, {rows, 2}, {rows, 4}, "(perms: rows 0 and 1 both send atom 0 to atom 0)"},
+        {{reps, 2}, {other_way, 4}, {rows, 4}, {pairs, 8}, "(s2pp: entry 0 is 1, and p2s[0] is 0)"},
+        {{reps, 2}, {moved, 4}, {rows, 4}, {pairs, 8}, "(s2pp: it is 0 for atom 0 and 1 for atom 1, where row 1 sends it)"},
+        {{zeros, 1}, {zeros, 3}, {in_order, 3}, {circle, 9}, "(nsym_list: entry 1 is 1, which sends atom 1 to 2, not to 0)"},
+    };
+    for (size_t k = 0; k < sizeof broken / sizeof *broken; k++) {
+        const struct gf_tables tables = gf_tables_of(broken[k].p2s, broken[k].s2pp, broken[k].nsym_list, broken[k].perms);
+        struct gf_why why;
+        size_t place[5];
+        CHECK("rules", gft_check_shift_tables(&tables, &why) == GF_BAD_SHIFT_TABLES && strstr(why.text, broken[k].text) != NULL, why.text);
+        CHECK("rules", gft_explain_shift_tables(&tables, place, &why) == GF_DONE && place[0] == GF_BAD_SHIFT_TABLES && place[1] == k && why.text[0] == 0, why.text);
+    }
 }
 
 /* the roll: both names side by side, each on bytes of its own */
@@ -180,6 +210,7 @@ int main(void)
         every_argument(&calls[k]);
     other_refusals();
     texts();
+    rules();
     rolls();
     printf("%d of %d hold\n", checks - failures, checks);
     return failures != 0;

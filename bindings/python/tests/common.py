@@ -40,6 +40,45 @@ def read_out(fc, t):
     return np.array([fc[t.s2pp[i]][np.ix_(*[rows[i]] * legs)] for i in range(t.n_satom)])
 
 
+def drift_off(fc, t, leg):
+    """A set of third order less the mean over a leg's atom, from the definition: the sums from 0.0, the atom rising, times 1 / n, of the read-out,
+    where the first of the other atoms stands for the primitive cell's. t: None for a full set."""
+    full = fc if t is None else read_out(fc, t)
+    p2s = np.arange(len(fc)) if t is None else t.p2s
+    lines = np.moveaxis(full, leg, 0)[:, p2s]
+    sums = np.zeros(lines.shape[1:])
+    for line in lines:
+        sums = sums + line
+    means = sums * (1.0 / len(full))
+    with np.errstate(invalid="ignore", over="ignore"):
+        if leg > 0:
+            return fc - np.expand_dims(means, leg)
+        return fc - (means if t is None else means[t.s2pp[:, None], t.perms[t.nsym_list]])
+
+
+def without_drift(fc, t, level, mean_of_six):
+    """The symmetrizer of third order with the drift off, step by step; mean_of_six changes a set in place."""
+    fc = fc.copy()
+    for _ in range(max(level, 1)):
+        for leg in range(3 if level else 0):
+            fc = drift_off(fc, t, leg)
+        mean_of_six(fc)
+    return fc
+
+
+def phono3py_steps(fc, t):
+    """What phono3py does in place of one level: the first two pairs are exchanged by its transpose, which leaves blocks behind that a half shift
+    exchanges, to take the mean over the first atom off as that over the second."""
+    fc = fc.copy()
+    gf.transpose_compact_fc3(fc, t, 0)
+    fc -= fc.mean(axis=1, keepdims=True)
+    gf.transpose_compact_fc3(fc, t, 0)
+    fc -= fc.mean(axis=1, keepdims=True)
+    fc -= fc.mean(axis=2, keepdims=True)
+    gf.set_permutation_symmetry_compact_fc3(fc, t)
+    return fc
+
+
 def same_bits(a, b):
     return a.shape == b.shape and a.tobytes() == b.tobytes()
 

@@ -38,6 +38,9 @@ def good(rng):
         "find_permutation": ({"lattice": np.eye(3), "symprec": 0.3, "pos": set_of(n, 3), "rot_pos": set_of(n, 3), "pbc": True}, set()),
         "set_permutation_symmetry_fc3": ({"fc3": set_of(n, n, n, 3, 3, 3)}, {"fc3"}),
         "set_permutation_symmetry_compact_fc3": ({"fc3": set_of(p, n, n, 3, 3, 3), **tables, "work": np.ones(p * n * n, np.uint8)}, {"fc3", "work"}),
+        "perm_trans_symmetrize_fc3": ({"fc3": set_of(n, n, n, 3, 3, 3), "level": 1, "drift": np.ones(n * n * 27)}, {"fc3", "drift"}),
+        "perm_trans_symmetrize_compact_fc3": ({"fc3": set_of(p, n, n, 3, 3, 3), **tables, "level": 2, "work": np.ones(p * n * n, np.uint8),
+                                               "drift": np.ones(p * n * 27)}, {"fc3", "work", "drift"}),
         "transpose_compact_fc3": ({"fc3": set_of(p, n, n, 3, 3, 3), **tables, "t_type": 1}, {"fc3"}),
         "true_transpose_compact_fc3": ({"fc3": set_of(p, n, n, 3, 3, 3), **tables, "t_type": 0}, {"fc3"}),
         "distribute_fc3": ({"fc3": set_of(2, n, n, 3, 3, 3), **slabs}, {"fc3"}),
@@ -82,6 +85,7 @@ def good(rng):
         "read_roll_former": ({"lent": np.zeros(8, np.uint8), "at": 0}, set()),
         "is_roll_former": ({"lent": np.zeros(8, np.uint8)}, set()),
         "check_shift_tables": (dict(tables), set()),
+        "explain_shift_tables": (dict(tables), set()),
     }
 
 

@@ -14,7 +14,7 @@ import unittest
 import numpy as np
 
 import gullyfork as gf
-from gullyfork import certificate, files
+from gullyfork import certificate, files, roll
 from gullyfork.__main__ import main
 from common import ROOT, SAMPLE, grid_tables, random, read_out
 
@@ -135,7 +135,7 @@ class Certificates(unittest.TestCase):
     def test_holds(self):
         self.assertTrue(self.verified(0).endswith("HOLDS\n"))
         self.assertTrue(all(line.holds is not False for line in certificate.verify(self.folder)))
-        status, said, _ = self.run_main("check", self.folder, "--tolerance", "1e-2")
+        status, said, _ = self.run_main("check", self.folder)
         self.assertEqual(status, 0, said)
         self.assertIn("holds           audit fc3: alike\n", said)
         self.assertTrue(said.endswith("VERDICT clean\n"))
@@ -164,13 +164,66 @@ class Certificates(unittest.TestCase):
             damage.main(self.delivered, self.folder)
         said = self.verified(1)
         self.assertIn("holds           fc3.f64: ", said)
-        self.assertIn("DOES NOT HOLD   audit fc3: unlike, first at atoms 0 (of the primitive cell) 0 8, directions ", said)
-        status, said, _ = self.run_main("check", self.folder, "--tolerance", "1e-2")
+        self.assertIn("DOES NOT HOLD   audit fc3: unlike, worst difference ", said)
+        status, said, _ = self.run_main("check", self.folder)
         self.assertEqual(status, 1)
-        self.assertIn("DOES NOT HOLD   audit fc3: unlike, first at atoms 0 (of the primitive cell) 0 8, ", said)
+        self.assertIn("DOES NOT HOLD   audit fc3: unlike, worst difference ", said)
         self.assertIn("certificate.txt: audit fc3", said.splitlines()[-1])
         d = files.read_delivery(self.folder)
-        self.assertEqual(gf.audit_compact_fc3(d.fc3, d.tables).place[:3], (0, 0, 8))
+        self.assertFalse(gf.audit_compact_fc3(d.fc3, d.tables).alike)
+
+    def test_every_kind_of_damage(self):
+        """The same words of both, whatever the damage: with checksums that fit, and with every line made true."""
+        def said(folder):
+            return subprocess.run([self.program, folder], capture_output=True, text=True).stdout
+
+        for kind in damage.KINDS:
+            with self.subTest(kind):
+                shutil.rmtree(self.folder)
+                with contextlib.redirect_stdout(io.StringIO()):
+                    try:
+                        damage.main(self.delivered, self.folder, kind)
+                    except ValueError:  # this sample has no weak three-body block
+                        self.assertIn(kind, ("swapped-weak-leg", "hidden-leg"))
+                for _ in range(2):
+                    p = subprocess.run([self.program, self.folder], capture_output=True, text=True)
+                    status, out, _ = self.run_main("verify", self.folder)
+                    self.assertEqual((status, out), (p.returncode, p.stdout))
+                    damage.certify_true(self.folder, said)
+
+    def test_roll(self):
+        """Which set of a roll it is, in the same words of both."""
+        desk, path = os.path.join(self.room.name, "roll.bin"), os.path.join(self.folder, "certificate.txt")
+        label, stated = roll.label_of(path)
+        self.assertEqual(stated, "40")
+
+        def both(status, words):
+            got = self.run_main("verify", "--roll", desk, self.folder)
+            p = subprocess.run([self.program, "--roll", desk, self.folder], capture_output=True, text=True)
+            self.assertEqual((p.returncode, p.stdout), (status, got[1]), got)
+            self.assertEqual(got[0], status)
+            self.assertIn(words, got[1])
+
+        roll.begin(desk)
+        both(1, "DOES NOT HOLD   roll: no record of")
+        for k in ("delivery", "verify"):  # both commands append the same label
+            os.remove(desk)
+            roll.begin(desk)
+            if k == "delivery":
+                subprocess.run(["sh", os.path.join(ROOT, "delivery", "roll"), "append", desk, "delivery", "40", "--certificate", path], check=True)
+            else:
+                self.assertEqual(self.run_main("roll", "append", desk, "delivery", "40", "--certificate", path)[0], 0)
+            self.assertEqual([r.label for r in roll.records(roll.load(desk))], [label])
+            both(0, f"holds           roll: set 40 of {desk}, which stands now\n")
+        self.assertEqual(self.run_main("roll", "append", desk, "replacement", "41", "40", "--certificate", path)[0], 1)  # it is 40's
+        roll.append(desk, roll.Kind.REPLACEMENT, 41, 40)
+        both(1, f"DOES NOT HOLD   roll: set 40 of {desk}, which was replaced: use 41\n")
+        roll.retire(desk, 41)
+        both(1, "which is retired")
+        pathlib.Path(desk).write_bytes(b"x" * 20)
+        both(1, "is not a roll")
+        os.remove(desk)
+        both(1, "")
 
     def test_numbers_that_are_none(self):
         """NaN, infinities and zeros in the sets, with checksums that fit: the same words of both."""
@@ -205,13 +258,13 @@ class Certificates(unittest.TestCase):
         """What is no certificate, and one of another version."""
         path = pathlib.Path(self.folder, "certificate.txt")
         lines = path.read_text().split("\n")
-        for changed in (lines[:1], ["gullyfork certificate 2", *lines[1:]], [*lines[:3], *lines[4:]], [*lines[:-2], "more: 1", *lines[-2:]],
+        for changed in (lines[:1], ["gullyfork certificate 1", *lines[1:]], [*lines[:3], *lines[4:]], [*lines[:-2], "more: 1", *lines[-2:]],
                         [*lines, "more"], ["\0"], ["x" * 70000]):
             path.write_text("\n".join(changed))
             self.verified(1)
         path.write_text("\n".join([lines[0], "library: 0.9.9", *lines[2:]]))
         damage.certify_anew(self.folder)
-        self.assertIn("looks at it, 0.9.9 wrote it", self.verified(0))
+        self.assertIn("STATED ONLY     library: 0.9.9 wrote it, ", self.verified(0))
 
     def test_no_files(self):
         for name in os.listdir(self.folder):
@@ -231,7 +284,7 @@ class Certificates(unittest.TestCase):
     def test_terminal(self):
         """On a terminal the steps are named on standard error, each over the one before, and the last is wiped; elsewhere nothing is said."""
         ours, theirs = pty.openpty()
-        words = [sys.executable, "-m", "gullyfork", "check", self.folder, "--tolerance", "1e-2"]
+        words = [sys.executable, "-m", "gullyfork", "check", self.folder]
         with subprocess.Popen(words, stdout=subprocess.DEVNULL, stderr=theirs) as p:
             os.close(theirs)
             said = b""

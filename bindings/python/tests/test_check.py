@@ -5,6 +5,7 @@ import json
 import os
 import pathlib
 import shutil
+import subprocess
 import tempfile
 import unittest
 
@@ -13,7 +14,7 @@ import numpy as np
 import gullyfork as gf
 from gullyfork import check, crystal, files
 from gullyfork.__main__ import main
-from common import SAMPLE, grid_tables, random, same_bits
+from common import ROOT, SAMPLE, grid_tables, random, same_bits
 
 try:
     import test_phonopy
@@ -96,7 +97,7 @@ class Checks(Room):
     def test_third_order(self):
         fc3 = random(3, 3, 3, 3, 3, 3)
         gf.set_permutation_symmetry_fc3(fc3)
-        self.assertIn("729 of 729 numbers have the same bits in all orders", self.judged(1, "VERDICT sums over an atom that are not zero", fc3))
+        self.assertIn("no number changes, in any order of its legs [proved]", self.judged(1, "VERDICT sums over an atom that are not zero", fc3))
         fc3[0, 1, 2, 0, 0, 0] += 1.0
         self.judged(1, "numbers that change when atoms are exchanged", fc3)
         self.assertIn("2 of 2 rows: 0, 1", self.judged(1, "rows that are zero throughout", np.zeros((2, 2, 2, 3, 3, 3))))
@@ -104,7 +105,8 @@ class Checks(Room):
     def test_fourth_order(self):
         fc4 = random(2, 2, 2, 2, 3, 3, 3, 3)
         out = self.judged(1, "sums over an atom that are not zero; numbers that change", fc4, "--symmetrize", self.path("out.npy"))
-        self.assertRegex(out, r"drift .*over leg [0-3], atoms \d \d \d, [xyz]{4} \[numpy\]")
+        self.assertRegex(out, r"drift .*over leg [0-3], atoms \d \d \d, [xyz]{4} \[proved\]")
+        self.assertRegex(out, r"symmetrizing .* \[proved; the drift by numpy\]")
         self.assertEqual(self.run_check(self.path("out.npy"))[0], 0)
         self.assertTrue(gf.audit_fc4(files.read(self.path("out.npy")).array).alike)
 
@@ -165,10 +167,13 @@ class Checks(Room):
         expected = was.fc2.copy()
         gf.perm_trans_symmetrize_fc(expected, 3)
         self.assertTrue(same_bits(d.fc2, expected))
+        third = was.fc3.copy()
+        gf.perm_trans_symmetrize_compact_fc3(third, was.tables)
+        self.assertTrue(same_bits(d.fc3, third))
         self.assertTrue(gf.audit_compact_fc3(d.fc3, d.tables).alike)
         status, out, err = self.run_check(self.path("out"))
         self.assertEqual(status, 0, out + err)  # clean, at the default tolerance
-        self.assertIn("13,824 of 13,824 numbers have the same bits in all orders of their legs", out)
+        self.assertEqual(out.count("no number changes, in any order of its legs"), 2)
         self.assertIn("leave --cell out", self.run_check(SAMPLE, "--cell", "phonopy.yaml")[2])
         for tolerance in ("-1", "nan", "inf", "x"):
             self.assertEqual(self.run_check(SAMPLE, "--tolerance", tolerance)[0], 2)
@@ -392,8 +397,8 @@ class Commands(Room):
     def test_help(self):
         status, out, _ = self.run_main("--help")
         self.assertEqual(status, 0)
-        for name in ("check", "verify", "certify", "picture"):
-            self.assertRegex(out, rf"\n +{name} +\w")
+        for name in ("check", "verify", "certify", "operations", "picture"):
+            self.assertRegex(out, rf"\n +{name}\s+\w")
             status, said, _ = self.run_main(name, "--help")
             self.assertEqual(status, 0)
             self.assertIn("status: 0 it is done", said)
@@ -404,18 +409,49 @@ class Commands(Room):
 
     def test_certify(self):
         self.run_check(SAMPLE, "--symmetrize", self.path("out"))
-        self.assertEqual(self.run_main("certify", SAMPLE)[0], 1)  # it is unlike: nothing is written there
+        self.assertEqual(self.run_main("certify", SAMPLE, "--before", SAMPLE)[0], 1)  # it is unlike: nothing is written there
         self.assertFalse(os.path.exists(os.path.join(SAMPLE, "certificate.txt")))
         self.assertEqual(self.run_main("certify", self.path("out"), "--before", SAMPLE)[0], 0)
         status, out, _ = self.run_main("verify", self.path("out"))
         self.assertEqual((status, out.split("\n")[-2]), (0, "HOLDS"))
-        self.assertIn("is only stated  drift fc2 before: worst sum 0.027", out)
-        self.assertEqual(self.run_main("certify", self.path("out"))[0], 2)  # it is there
-        self.assertEqual(self.run_main("certify", self.path("out"), "--overwrite")[0], 0)
+        self.assertIn("STATED ONLY     drift fc2 before: 0.00174091 of the largest, at most 0.01: worst sum 0.027", out)
+        self.assertIn("STATED ONLY     set: 40\n", out)
+        self.assertEqual(self.run_main("certify", self.path("out"))[0], 2)  # of what?
+        self.assertEqual(self.run_main("certify", self.path("out"), "--before", SAMPLE)[0], 2)  # it is there
+        self.assertEqual(self.run_main("certify", self.path("out"), "--before", SAMPLE, "--overwrite")[0], 0)
         d = files.read_delivery(self.path("out"))
         files.write_delivery(self.path("out"), d._replace(fc2=d.fc2 * 2), overwrite=True)
         self.assertEqual(self.run_main("verify", self.path("out"))[0], 1)
-        self.assertEqual(self.run_main("certify", self.path("nowhere"))[0], 2)
+        self.assertEqual(self.run_main("certify", self.path("nowhere"), "--before", SAMPLE)[0], 2)
+
+    def test_certificates_of_both(self):
+        """What certify writes is what the job writes, but for the date, of the job's own sets."""
+        shutil.copytree(SAMPLE, self.path("in"))
+        pathlib.Path(self.path("in"), "job.txt").write_text("set 9\nunit eV Angstrom\norders 0.002\n")
+        for compact in (False, True):
+            if compact:  # of second order the rows of the primitive cell alone
+                np.fromfile(os.path.join(SAMPLE, "fc2.f64")).reshape(16, -1)[[0, 8]].tofile(self.path("in/fc2.f64"))
+            subprocess.run(["sh", os.path.join(ROOT, "delivery", "run"), self.path("in"), self.path("job")], check=True, stdout=subprocess.DEVNULL)
+            theirs = pathlib.Path(self.path("job"), "certificate.txt").read_text().split("\n")
+            self.assertEqual(self.run_main("certify", self.path("job"), "--before", self.path("in"), "--overwrite")[0], 0)
+            ours = pathlib.Path(self.path("job"), "certificate.txt").read_text().split("\n")
+            for lines in (ours, theirs):
+                del lines[2], lines[-2]  # the date, and the checksum of all lines
+            self.assertEqual(ours, theirs)
+        pathlib.Path(self.path("in"), "job.txt").write_text("crystal 0.01\n")
+        self.assertEqual(self.run_main("certify", self.path("job"), "--before", self.path("in"), "--overwrite")[0], 0)
+        self.assertEqual(self.run_main("verify", self.path("job"))[:2][1].split("\n")[-2], "HOLDS, by bounds that are wider than the defaults")
+        for text in ("orders 0.5\n", "orders x\n", "set 0\n", "unit eV\n", "more 1\n", "left 1 2\n"):
+            pathlib.Path(self.path("in"), "job.txt").write_text(text)
+            self.assertNotEqual(self.run_main("certify", self.path("job"), "--before", self.path("in"), "--overwrite")[0], 0)
+
+    def test_operations(self):
+        shutil.copytree(SAMPLE, self.path("in"))
+        self.assertEqual(self.run_main("operations", self.path("in"))[0], 2)  # they are there
+        status, out, _ = self.run_main("operations", self.path("in"), "--overwrite")
+        self.assertEqual((status, out), (0, f"written {self.path('in')}/operations.txt: 48 operations\n"))
+        self.assertEqual(pathlib.Path(self.path("in"), "operations.txt").read_bytes(), pathlib.Path(SAMPLE, "operations.txt").read_bytes())
+        self.assertEqual(self.run_main("operations", self.path("nowhere"))[0], 2)
 
 
 @unittest.skipUnless(test_phonopy, "needs phonopy")
@@ -442,20 +478,21 @@ class Crystals(unittest.TestCase):
         for full in (True, False):
             ph.produce_force_constants(calculate_full_force_constants=full)
             fc = ph.force_constants.copy()
-            self.assertLess(crystal.deviation(fc, None if full else t, found).value, 1e-6)
+            def deviation():
+                return (gf.crystal_report_fc2(fc, *found) if full else gf.crystal_report_compact_fc2(fc, t, *found)).value
+
+            self.assertLess(deviation(), 1e-6)
             fc[1, 9, 0, 1] += 0.25
-            seen = crystal.deviation(fc, None if full else t, found)
-            self.assertAlmostEqual(seen.value, 0.25, 6)
+            self.assertAlmostEqual(deviation(), 0.25, 6)
             fc[1, 9, 0, 1] = np.nan
-            self.assertTrue(np.isnan(crystal.deviation(fc, None if full else t, found).value))
+            self.assertTrue(np.isnan(deviation()))
 
     def test_deviation_third_order(self):
         d = files.read_delivery(SAMPLE)
         found = crystal.operations((d.lattice, d.positions, d.elements))
         full = gf.compact_to_full_fc3(d.fc3, d.tables)
-        compact = crystal.deviation(d.fc3, d.tables, found)
-        self.assertAlmostEqual(compact.value, crystal.deviation(full, d.tables, found).value, 12)
-        self.assertAlmostEqual(compact.value, crystal.deviation(full, None, found).value, 12)
+        compact = gf.crystal_report_compact_fc3(d.fc3, d.tables, *found)
+        self.assertAlmostEqual(compact.value, gf.crystal_report_fc3(full, *found).value, 12)
         turned = Crystals.plain(full, found, compact.operation)
         self.assertAlmostEqual(compact.value, turned[(d.tables.p2s[compact.place[0]], *compact.place[1:])], 12)
         with self.assertRaisesRegex(ValueError, "the positions|lattice|elements|shape"):

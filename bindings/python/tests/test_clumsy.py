@@ -121,8 +121,8 @@ class Clumsy(unittest.TestCase):
             (2, "perms", "rows of 2 entries, s2pp has 3", ([0], [0, 0, 0], [0, 2, 1], [[0, 1], [1, 0], [0, 1]])),
             (6, "perms", "n_satom 3 is not n_patom 1 x num_trans 2", ([0], [0, 0, 0], [0, 1, 1], ROWS[:2])),
             (6, "perms", "no row sends each atom to itself", ([0], [0, 0, 0], [0, 1, 2], [ROWS[1], ROWS[2], ROWS[1]])),
-            (6, "perms", "row 1 sends two atoms to the same place", ([0], [0, 0, 0], [0, 2, 1], [ROWS[0], [1, 1, 0], ROWS[2]])),
-            (6, "perms", "both send atom 0 to atom 0", ([0], [0, 0, 0], [0, 2, 1], [ROWS[0], ROWS[0], ROWS[2]])),
+            (6, "perms", "row 1 sends atoms 0 and 1 to the same place", ([0], [0, 0, 0], [0, 2, 1], [ROWS[0], [1, 1, 0], ROWS[2]])),
+            (6, "perms", "row 2 and then row 2 is no row: a shift is missing", ([0], [0, 0, 0], [0, 2, 1], [ROWS[0], ROWS[0], ROWS[2]])),
             (6, "nsym_list", "entry 1 is 1, which sends atom 1 to 2, not to 0", ([0], [0, 0, 0], [0, 1, 2], ROWS)),
         )
         for number, argument, detail, tables in cases:
@@ -140,6 +140,18 @@ class Clumsy(unittest.TestCase):
         self.refuses(gf.Refused, "s2pp: it is", lambda: gf.Tables(*two).check())
         two = ([0, 2], [1, 1, 0, 0], [0, 1, 0, 1], two[3])
         self.refuses(gf.Refused, "s2pp: entry 0 is 1, and p2s[0] is 0", lambda: gf.Tables(*two).check())
+        same = ([0], [0, 0], [0, 1], [[0, 1], [0, 1]])
+        self.refuses(gf.Refused, "perms: rows 0 and 1 both send atom 0 to atom 0", lambda: gf.Tables(*same).check())
+
+    def test_explained(self):
+        """The number, which and place of each answer, and the words of refusal 6."""
+        self.assertEqual(gf.explain_shift_tables(CIRCLE), (0, 0, (0, 0, 0), None))
+        self.assertEqual(gf.explain_shift_tables(([0], [0, 0, 0], [0, -1, 1], ROWS)), (3, 3, (1, 0, 0), None))
+        self.assertEqual(gf.explain_shift_tables(([0], [0, 0, 0], [0, 1], ROWS)), (2, 3, (0, 0, 0), None))
+        self.assertEqual(gf.explain_shift_tables(([0] * 1025, [0] * 2, [0] * 2, [[0, 1]])), (1, 1, (0, 0, 0), None))
+        rows = [[0, 1, 2], [1, 0, 2], [2, 1, 0]]
+        self.assertEqual(gf.explain_shift_tables(([0], [0, 0, 0], [0, 1, 2], rows)),
+                         (6, 3, (1, 2, 0), "perms: row 1 and then row 2 is no row: a shift is missing"))
 
     def test_tables_are_their_own(self):
         """A change of the arrays after Tables was made is not seen, and nobody changes what Tables holds."""

@@ -24,6 +24,11 @@ try:
 except ImportError:
     phonopy = None
 
+try:
+    import spglib
+except ImportError:
+    spglib = None
+
 FLAGS = doctest.ELLIPSIS
 
 
@@ -130,6 +135,16 @@ class Documents(unittest.TestCase):
 
     def test_guide(self):
         self.run_file(os.path.join(ROOT, "docs", "GUIDE.md"))
+
+    @unittest.skipUnless(spglib, "needs spglib")
+    def test_table_of_faults(self):
+        """Which report finds which fault: what samples/faults.py prints is the table of the guide."""
+        p = subprocess.run([sys.executable, os.path.join(ROOT, "samples", "faults.py")], capture_output=True, text=True)
+        self.assertEqual((p.returncode, p.stderr), (0, ""))
+        with open(os.path.join(ROOT, "docs", "GUIDE.md"), encoding="utf-8") as f:
+            guide = f.read()
+        begin = guide.index(p.stdout.split("\n")[0])
+        self.assertEqual(guide[begin:].split("\n\n")[0] + "\n", p.stdout)
 
     def test_first_page(self):
         self.run_file(os.path.join(ROOT, "README.md"))

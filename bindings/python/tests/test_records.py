@@ -76,9 +76,10 @@ def checksum(a):
 # Whose file each part of the records stands in, its first page there, and how many pages it has.
 PARTS = {
     "common": ("cells", 0, 1), "shifts": ("cells", 1, 3), "cells": ("cells", 4, 4), "finding": ("cells", 8, 4),
-    "fc2": ("sets", 0, 2), "fc2_compact": ("sets", 2, 3), "fc3": ("sets", 5, 3), "fc4": ("sets", 8, 2), "true": ("sets", 10, 3), "row_sums": ("sets", 13, 3),
-    "distribute": ("maps", 0, 1), "deltas": ("maps", 1, 1), "full_sets": ("maps", 2, 4),
-    "drift": ("reports", 3, 1),
+    "fc2": ("sets", 0, 3), "fc3": ("sets", 3, 3), "fc4": ("sets", 6, 2), "true": ("sets", 8, 3),
+    "row_sums": ("sums", 0, 3), "acoustic": ("sums", 3, 3),
+    "distribute_fc2": ("maps", 0, 2), "distribute": ("maps", 2, 1), "deltas": ("maps", 3, 1), "full_sets": ("maps", 4, 4),
+    "audits": ("reports", 0, 3), "reports": ("reports", 3, 10),
     "roll": ("roll", 0, 6), "retire": ("roll", 6, 3)}
 
 
@@ -145,17 +146,18 @@ class Records(unittest.TestCase):
     def test_matching(self):
         done = passed = 0
         for r in map(Words, records("cells")):
-            refusal, found, n, slots, pos, rot_pos = r.ints(6)
-            symprec, pbc, lattice = r.take(1).view(np.float64)[0], axes(*r.ints(1)), r.take(9).view(np.float64).reshape(3, 3)
-            p, q = r.take(pos).view(np.float64), r.take(rot_pos).view(np.float64)
-            after, named, pair = r.take(slots).view(np.int64), *r.ints(1), tuple(r.ints(2))
-            if (slots, pos) != (n, 3 * n) or rot_pos % 3:
+            recorded, *sums, n, slots, pos, rot_pos, lattice, flags, pair = r.ints(10)
+            pbc, symprec = axes(*r.ints(1)), r.take(1).view(np.float64)[0]
+            cell, p, q = (r.take(k).view(np.float64) for k in (lattice, pos, rot_pos))
+            if (slots, pos, lattice, flags, pair) != (n, 3 * n, 9, 3, 2) or rot_pos % 3:
                 passed += 1
                 continue
-            number, match = answer(lambda: gf.compute_permutation(lattice, float(symprec), p.reshape(-1, 3), q.reshape(-1, 3), pbc=pbc))
-            self.assertEqual(number, refusal)
+            positions = p.reshape(-1, 3), q.reshape(-1, 3)
+            number, match = answer(lambda: gf.compute_permutation(cell.reshape(3, 3), float(symprec), *positions, pbc=pbc))
+            self.assertEqual(number, recorded if recorded < 64 else 0)
             if match:
-                self.assertEqual((match.found, match.slots.tolist(), match.pair), (bool(found), after.tolist(), pair if named else None))
+                self.assertEqual((match.found, match.pair is not None), (recorded == 0, recorded == 69))
+                self.assertEqual([checksum(match.slots), checksum(np.array(match.pair or (7, 7)))], sums)
             done += 1
         self.least(done, passed, 250)
 
@@ -194,70 +196,30 @@ class Records(unittest.TestCase):
     def test_shifts(self):
         done = passed = 0
         for r in map(Words, records("shifts")):
-            verdict, limit, set_len, work_len, *counts = r.ints(7)
+            _, verdict, *_, n_satom, n_patom, num_trans = r.ints(11)
             perms, p2s, s2pp, nsym_list = r.tables(r.ints(4))
-            t = sent(p2s, s2pp, nsym_list, perms, counts)
-            if t is None or (limit != 1024 and max(counts) > limit) or (set_len, work_len) != (counts[1] * counts[0] * 9, counts[1] * counts[0]):
+            t = sent(p2s, s2pp, nsym_list, perms, (n_satom, n_patom, num_trans))
+            if t is None:
                 passed += 1
                 continue
             self.assertEqual(answer(t.check)[0], verdict)
             done += 1
         self.least(done, passed, 150)
 
-    def second(self, name, least):
+    def test_distributor(self):
         done = passed = 0
-        for r in map(Words, records(name)):
-            call, refusal, *left, seed, kinds, set_len, work_len, n, m, k, level = r.ints(13)
-            lengths, rotations = r.ints(5), *r.ints(1)
-            a = r.tables(lengths)
-            ours = self.second_call(call, seed, kinds % 16, kinds // 16, set_len, work_len, (n, m, k), level, a, rotations)
-            if ours is None:
+        for r in map(Words, records("distribute_fc2")):
+            refusal, *sums, seed, kind, turned, set_len, work_len, rotations, n, m, k = r.ints(12)
+            a = r.tables(r.ints(5))
+            if set_len != m * n * 9 or rotations != k * 9 or len(a[1]) != len(a[0]) or len(a[2]) != k * n or (len(a[3]), len(a[4])) != (n, n):
                 passed += 1
                 continue
-            self.assertEqual(ours[0], refusal)
-            if call != 5 or refusal == 0:
-                self.assertEqual(ours[1:], left)
-            done += 1
-        self.least(done, passed, least)
-
-    def second_call(self, call, seed, kind, turned, set_len, work_len, counts, level, a, rotations):
-        n, m, k = counts
-        if call in (1, 5):
-            if set_len != n * n * 9:
-                return None
-            fc = floats((n, n, 3, 3), seed, kind)
-            if call == 1:
-                return [answer(lambda: gf.perm_trans_symmetrize_fc(fc, level))[0], checksum(fc), 0, 0]
-            number, drift = answer(lambda: gf.drift_report(fc))
-            if drift is None:
-                return [number, 0, 0, 0]
-            place = ((drift.along.value * 2048 + drift.atom) * 8 + drift.directions[0]) * 8 + drift.directions[1]
-            return [0, drift.kind.value, int(words_of(np.array([drift.value]))[0]), place]
-        if call == 4:
-            if set_len != m * n * 9 or rotations != k * 9 or len(a[1]) != len(a[0]) or len(a[2]) != k * n or (len(a[3]), len(a[4])) != (n, n):
-                return None
             fc, work = floats((m, n, 3, 3), seed, kind), drawn(work_len, seed + 1).view(np.int64)
             number, _ = answer(lambda: gf.distribute_fc2(
                 fc, a[0], a[1], floats((k, 3, 3), seed + 2, turned), a[2].reshape(k, n), a[3], a[4], work=work))
-            return [number, checksum(fc), checksum(work), 0]
-        t = sent(a[1], a[2], a[3], a[0], counts)
-        if t is None or set_len != m * n * 9:
-            return None
-        fc, work = floats((m, n, 3, 3), seed, kind), bytes_of(work_len, seed + 1)
-        if call == 2:
-            number, _ = answer(lambda: gf.perm_trans_symmetrize_compact_fc(fc, t, level, work=work))
-        else:
-            number, _ = answer(lambda: gf.set_index_permutation_symmetry_compact_fc(fc, t, bool(level), work=work))
-        return [number, checksum(fc), checksum(work), 0]
-
-    def test_second(self):
-        self.second("fc2", 300)
-
-    def test_drift(self):
-        self.second("drift", 80)
-
-    def test_compact(self):
-        self.second("fc2_compact", 120)
+            self.assertEqual([number, checksum(fc), checksum(work)], [refusal, *sums])
+            done += 1
+        self.least(done, passed, 110)
 
     def higher(self, name, calls, least):
         done, passed, memory = 0, 0, np.zeros(83000)
@@ -279,6 +241,13 @@ class Records(unittest.TestCase):
             self.assertEqual((number, checksum(fc), checksum(work)), (refusal, of_set, of_work))
             done += 1
         self.least(done, passed, least)
+
+    def test_second(self):
+        unsigned = 2 ** 64
+        self.higher("fc2", {
+            0: (2, False, True, lambda fc, level, work: gf.perm_trans_symmetrize_fc(fc, level % unsigned)),
+            1: (2, True, True, lambda fc, t, level, work: gf.perm_trans_symmetrize_compact_fc(fc, t, level % unsigned, work=work)),
+            2: (2, True, True, lambda fc, t, transposed, work: gf.set_index_permutation_symmetry_compact_fc(fc, t, transposed == 1, work=work))}, 350)
 
     def test_third(self):
         self.higher("fc3", {0: (3, False, False, gf.set_permutation_symmetry_fc3), 1: (3, True, False, gf.set_permutation_symmetry_compact_fc3),
@@ -397,6 +366,53 @@ class Records(unittest.TestCase):
             done += 1
         self.least(done, passed, 300)
 
+    def told(self, call, fc, other, t, r_carts, operations):
+        """The function of the package that the number of a call names, on its arguments."""
+        family, order, compact = call // 20, call % 10, call % 20 < 10
+        if call % 20 == 0:
+            return (gf.same_set if call == 0 else gf.set_difference)(fc, other)
+        if call in (5, 15, 16):
+            return {5: gf.drift_report_compact_fc2, 15: gf.drift_report_fc3, 16: gf.drift_report}[call](*([fc, t] if compact else [fc]))
+        name = ("audit", "difference_report", "crystal_report", "drift_report")[family] + ("_compact" if compact else "") + f"_fc{order}"
+        return getattr(gf, name)(fc, *([t] if compact else []), *([r_carts, operations] if family == 2 else []))
+
+    def reported(self, name, least):
+        done = passed = 0
+        for r in map(Words, records(name)):
+            recorded, _, of_numbers, call, *counts, seed, kind, single, set_len, other_len, place = r.ints(13)
+            lengths, (numbers, matrices, num_rot) = r.ints(5), r.ints(3)
+            perms, p2s, s2pp, nsym_list, operations = r.tables(lengths)
+            r_carts, singles = r.take(matrices).view(np.float64), r.take(2 * single).reshape(single, 2)
+            n, compact = counts[0], 0 < call % 20 < 10
+            order = {0: 0, 5: 2, 15: 3, 16: 2, 20: 0}.get(call, call % 10)
+            t = sent(p2s, s2pp, nsym_list, perms, counts) if compact else None
+            shape = (counts[1] if compact else n, *(n,) * (order - 1), *(3,) * order) if order else (set_len,)
+            fits = (place, numbers) == (4 if call in (5, 16) else 6 if call == 15 else 2, 2 if call < 15 and call != 5 else 1)
+            crystal = call // 20 != 2 or (matrices, len(operations)) == (9 * num_rot, n * num_rot)
+            if (compact and t is None) or set_len != int(np.prod(shape, dtype=object)) or not fits or not crystal or (order == 0 and set_len != other_len):
+                passed += 1
+                continue
+            fc = floats(set_len, seed, kind)
+            other = fc.copy()
+            changed = fc if order else other
+            changed[singles[:, 0].astype(int)] = singles[:, 1].view(np.float64)
+            operations = operations.reshape(num_rot, n) if call // 20 == 2 else None
+            number, told = answer(lambda: self.told(call, fc.reshape(shape), other.reshape(shape), t, r_carts.reshape(-1, 3, 3), operations))
+            self.assertEqual(number, recorded if recorded < 64 else 0)
+            if recorded in (73, 74):
+                self.assertEqual(told.alike, recorded == 73)
+                self.assertEqual(checksum(np.array([7.0, 7.0] if told.alike else [told.here, told.there])), of_numbers)
+            elif told is not None:
+                self.assertEqual((told.kind.value, checksum(np.array([told.value]))), (recorded, of_numbers))
+            done += 1
+        self.least(done, passed, least)
+
+    def test_audits(self):
+        self.reported("audits", 300)
+
+    def test_reports(self):
+        self.reported("reports", 900)
+
     def test_row_sums(self):
         done = passed = 0
         for r in map(Words, records("row_sums")):
@@ -413,6 +429,25 @@ class Records(unittest.TestCase):
             self.assertEqual((number, checksum(fc), checksum(sums)), (refusal, of_set, of_sums))
             done += 1
         self.least(done, passed, 200)
+
+    def test_third_order_without_drift(self):
+        done = passed = 0
+        for r in map(Words, records("acoustic")):
+            refusal, *sums, compact, level, seed, kind, set_len, done_len, drift_len, n, first, num_trans = r.ints(14)
+            perms, p2s, s2pp, nsym_list = r.tables(r.ints(4))
+            t = sent(p2s, s2pp, nsym_list, perms, (n, first, num_trans)) if compact else None
+            if (compact and t is None) or set_len != (first if compact else n) * n * n * 27:
+                passed += 1
+                continue
+            fc = floats((first if compact else n, n, n, 3, 3, 3), seed, kind)
+            marks, drift = bytes_of(done_len, seed), floats(drift_len, seed + 1, kind)
+            if compact:
+                number, _ = answer(lambda: gf.perm_trans_symmetrize_compact_fc3(fc, t, level, work=marks, drift=drift))
+            else:
+                number, _ = answer(lambda: gf.perm_trans_symmetrize_fc3(fc, level, drift=drift))
+            self.assertEqual([number, checksum(fc), checksum(marks), checksum(drift)], [refusal, *sums])
+            done += 1
+        self.least(done, passed, 100)
 
     def test_a_bent_bit_is_seen(self):
         fc = floats((3, 3, 3, 3), 5, 7)

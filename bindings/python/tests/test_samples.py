@@ -1,6 +1,9 @@
 """The sample of silicon: its recipe gives its files, and what samples/README.md says of it is so."""
+import contextlib
+import io
 import itertools
 import os
+import shutil
 import subprocess
 import sys
 import tempfile
@@ -9,6 +12,7 @@ import unittest
 import numpy as np
 
 import gullyfork as gf
+from gullyfork.__main__ import main
 from common import ROOT, read_out
 
 SILICON = os.path.join(ROOT, "samples", "si-2x2x2")
@@ -77,6 +81,26 @@ class Silicon(unittest.TestCase):
         self.assertLess(np.abs(fc4 - self.fc4).max(), 0.02)
         self.assertFalse(np.array_equal(fc4, self.fc4))
         self.assertEqual(widest(read_out(fc4, self.tables)), 0.0)
+
+
+    def test_delivery(self):
+        """With fourth order through the job: it holds, in the same words of both, and the checker is clean."""
+        folder, out = os.path.join(self.room.name, "in"), os.path.join(self.room.name, "out")
+        os.mkdir(folder)
+        for name in ("tables.txt", "cell.txt", "fc2.f64", "fc3.f64", "fc4.f64"):
+            shutil.copy(os.path.join(self.room.name, name), folder)
+        shutil.copy(os.path.join(SILICON, "operations.txt"), folder)
+        for words in (["run", folder, out], ["compile", "verify"]):
+            subprocess.run(["sh", os.path.join(ROOT, "delivery", words[0]), *words[1:]], check=True, stdout=subprocess.DEVNULL)
+        p = subprocess.run([os.path.join(ROOT, "target", "bin", "verify"), out], capture_output=True, text=True)
+        self.assertEqual((p.returncode, p.stdout.splitlines()[-1]), (0, "HOLDS"))
+        self.assertEqual([line.words for line in gf.certificate.verify(out)], p.stdout.splitlines()[:-1])
+        said = io.StringIO()
+        with contextlib.redirect_stdout(said):
+            self.assertEqual(main(["check", out]), 0, said.getvalue())
+        self.assertTrue(said.getvalue().endswith("\nVERDICT clean\n"))
+        d = gf.files.read_delivery(out)
+        self.assertLess(gf.drift_report_compact_fc4(d.fc4, d.tables).value, 1e-13)
 
 
 if __name__ == "__main__":

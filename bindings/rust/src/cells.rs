@@ -8,8 +8,8 @@ use std::{error, fmt};
 pub enum MatchError {
     /// The call was turned down, and nothing is touched.
     Refused(Refusal),
-    /// The match failed, and a distance was NaN: of the pairs of position and free slot that the search tried, the first whose distance
-    /// is no number. The slots are those of the failed match.
+    /// The match failed, and a distance was NaN: the first pair of position and free slot with such a distance that the search came
+    /// to. The slots are those of the failed match.
     NoNumber {
         /// The position.
         position: usize,
@@ -36,8 +36,8 @@ impl fmt::Display for MatchError {
 impl error::Error for MatchError {}
 
 /// Which position each rotated position comes from: the lowest free slot j of `rot_atom` whose `rot_pos` j is nearer than `symprec` to
-/// `pos` i takes i, for i rising; a slot that nothing takes is -1. True exactly if all slots are filled. False does not say that no
-/// match exists. A match that fails where a distance was NaN is an error that names the first such pair.
+/// `pos` i takes i, for i rising; a slot that nothing takes is -1. True exactly if all slots are filled. After a false a match
+/// may exist all the same. A match that fails where a distance was NaN is an error that names the first such pair.
 ///
 /// The basis vectors stand in the columns of `lat`: component k of a difference is row k times the difference of the coordinates. With
 /// the vectors in the rows the distances of an oblique cell are wrong, and nothing is refused. The cell repeats along all three axes;
@@ -107,9 +107,9 @@ pub fn compute_permutation_in(
     }
 }
 
-/// A bijection of near pairs whenever one exists; that of `compute_permutation` where it gives true. True: `rot_atom` has it, and
-/// `marks` is zero. False: none exists; `rot_atom` is -1 throughout, and `marks` has 1 for each member of a group of positions that
-/// has fewer near slots than members. A NaN distance is not near. Not in phonors.
+/// A bijection of near pairs, if there is one; that of `compute_permutation` where it gives true. True: `rot_atom` has it, and
+/// `marks` is zero. False: none exists; `rot_atom` is -1 throughout, and the positions that `marks` has a 1 for have fewer near slots
+/// between them than they are. A NaN distance is not near. Not in phonors.
 ///
 /// Lengths: `rot_atom` and `marks` num_pos, `pos` and `rot_pos` 3 × num_pos; num_pos up to 1,024.
 ///

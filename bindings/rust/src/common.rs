@@ -1,7 +1,7 @@
-//! Rounding to a whole number and the square root, worked out from the bits. Never refused.
+//! Rounding to whole numbers, and square roots, worked out from the bits. Never refused.
 use crate::ffi::call;
 
-/// The nearest whole number as an integer; halves go away from zero, beyond `i64` it stops at the nearest end, NaN gives 0.
+/// The nearest whole number as an integer, ties away from zero; what is beyond `i64` gives its nearest end, and NaN 0.
 ///
 /// ```
 /// use gullyfork::common::nint;
@@ -20,7 +20,7 @@ pub fn round(x: f64) -> f64 {
     call!(gf_round(x))
 }
 
-/// The square root, IEEE 754, to nearest, ties to even; -0.0 gives -0.0, other negative numbers NaN.
+/// The square root as IEEE 754 rounds it to nearest, ties to even: of -0.0 it is -0.0, of any other negative number NaN.
 ///
 /// ```
 /// assert_eq!(gullyfork::common::sqrt(2.0).to_bits(), 0x3FF6A09E667F3BCD);

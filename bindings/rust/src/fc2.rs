@@ -238,14 +238,14 @@ pub fn distribute_fc2_with(
     )))
 }
 
-/// How far the rows and the columns of a full set are from adding up to zero.
+/// What a report says of its numbers: the sums of a drift report, the differences of the others.
 #[derive(Clone, Copy, Debug, PartialEq)]
 pub enum Drift {
-    /// All sums are zero.
+    /// All numbers are zero.
     Still,
-    /// The largest absolute value of a sum.
+    /// The largest absolute value of a number.
     Worst(f64),
-    /// A sum is NaN.
+    /// A number is NaN.
     NoNumber,
 }
 
@@ -333,16 +333,16 @@ pub fn drift_report_compact_fc2(
     Ok(placed(drift_of(number, value)?, place))
 }
 
-/// The row sums of a full set of n_satom² × 9 numbers: for each atom and pair of directions the sum over the second atom, from 0.0 and
-/// rising. Sum k of atom i is `sums[i * 9 + k]`. Not in phonors.
+/// The row sums of a full set of n_satom² × 9 numbers: for each atom and pair of directions its numbers added up over the second
+/// atom, from 0.0 on. Sum k of atom i is `sums[i * 9 + k]`. Not in phonors.
 pub fn row_sums_fc2(sums: &mut [f64], fc: &[f64], n_satom: usize) -> Result<(), Refusal> {
     answer(call!(gf_row_sums_fc2(&mut sums, &fc, n_satom)))
 }
 
-/// Replaces block (i, j) of a full set of n_satom² × 9 numbers, and corrects the nine sums of atom i: from each the old number is
+/// Replaces block (i, j) of a full set of n_satom² × 9 numbers, and brings the nine sums of atom i up to date: from each the old number is
 /// subtracted, and then the new one is added. Nine zeros take a block out. Not in phonors.
 ///
-/// If every number of the set is on the grid (whole multiples of 2^-20 of absolute value at most 2^20) and the sums are those of
+/// If every number of the set is on the grid (multiples of 2^-20 from -2^20 to 2^20) and the sums are those of
 /// [`row_sums_fc2`], then after any series of these calls they still are, bit for bit. A number of the old block or of the new one that is
 /// off the grid is refused.
 ///

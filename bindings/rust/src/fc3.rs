@@ -72,8 +72,83 @@ pub fn set_permutation_symmetry_compact_fc3_with(
     )))
 }
 
-/// Exchanges two of the three (atom, direction) pairs of every number of a compact set of n_patom × n_satom² × 27 numbers: type 0 pairs 0
-/// and 1, type 1 pairs 0 and 2, type 2 pairs 1 and 2; any other type changes nothing. Types 0 and 1 leave blocks that a half shift
+/// Symmetrizes a full set of num_atom³ × 27 numbers and takes its drift off. Per level: of leg 0, then 1, then 2 the mean over that leg's
+/// atom is taken off every number; then the six orders of any three (atom, direction) pairs get their mean. Level 0 is
+/// [`set_permutation_symmetry_fc3`]. num_atom up to 256, level up to 1,000. Not in phonors.
+///
+/// ```
+/// use gullyfork::{fc3, Refusal};
+///
+/// let mut set = [0.0; 216]; // two atoms
+/// set[189] = 8.0; // block (1, 1, 1), x x x
+/// fc3::perm_trans_symmetrize_fc3(&mut set, 2, 1)?;
+/// assert_eq!([set[0], set[27], set[189]], [-1.0, 1.0, 1.0]);
+/// # Ok::<(), Refusal>(())
+/// ```
+pub fn perm_trans_symmetrize_fc3(fc3: &mut [f64], num_atom: usize, level: usize) -> Result<(), Refusal> {
+    let mut drift = vec![0.0; room(&[(num_atom, LIMIT), (num_atom, LIMIT), (27, 27)])];
+    perm_trans_symmetrize_fc3_with(fc3, &mut drift, num_atom, level)
+}
+
+/// [`perm_trans_symmetrize_fc3`] with num_atom² × 27 numbers of work memory.
+pub fn perm_trans_symmetrize_fc3_with(fc3: &mut [f64], drift: &mut [f64], num_atom: usize, level: usize) -> Result<(), Refusal> {
+    answer(call!(gf_perm_trans_symmetrize_fc3(&mut fc3, &mut drift, num_atom, level)))
+}
+
+/// Symmetrizes a compact set of n_patom × n_satom² × 27 numbers and takes its drift off: as [`perm_trans_symmetrize_fc3`], with the sums
+/// over all atoms of the supercell of what the set reads out to, half shifts or not. Level 0 is
+/// [`set_permutation_symmetry_compact_fc3`]. Not in phonors.
+///
+/// ```
+/// use gullyfork::fc2::Drift;
+/// use gullyfork::{fc3, report, Refusal};
+///
+/// let t = (&[0][..], &[0; 3][..], &[0, 2, 1][..], &[0, 1, 2, 1, 2, 0, 2, 0, 1][..]);
+/// let mut set: Vec<f64> = (0..243).map(|k| f64::from(k * k % 17)).collect();
+/// fc3::perm_trans_symmetrize_compact_fc3(&mut set, t.0, t.1, t.2, t.3, 3, 1, 1)?;
+/// let left = report::drift_report_compact_fc3(&set, t.0, t.1, t.2, t.3, 3, 1)?;
+/// assert!(matches!(left.drift, Drift::Still) || matches!(left.drift, Drift::Worst(x) if x < 1e-13));
+/// # Ok::<(), Refusal>(())
+/// ```
+#[allow(clippy::too_many_arguments)]
+pub fn perm_trans_symmetrize_compact_fc3(
+    fc3: &mut [f64],
+    p2s: &[i64],
+    s2pp: &[i64],
+    nsym_list: &[i64],
+    perms: &[i64],
+    n_satom: usize,
+    n_patom: usize,
+    level: usize,
+) -> Result<(), Refusal> {
+    let blocks = room(&[(n_patom, LIMIT), (n_satom, LIMIT)]);
+    let (mut done, mut drift) = (vec![0; blocks * n_satom.min(LIMIT)], vec![0.0; blocks * 27]);
+    let num_trans = rows(perms.len(), n_satom);
+    perm_trans_symmetrize_compact_fc3_with(fc3, p2s, s2pp, nsym_list, perms, &mut done, &mut drift, n_satom, n_patom, num_trans, level)
+}
+
+/// [`perm_trans_symmetrize_compact_fc3`] with n_patom × n_satom² bytes and n_patom × n_satom × 27 numbers of work memory.
+#[allow(clippy::too_many_arguments)]
+pub fn perm_trans_symmetrize_compact_fc3_with(
+    fc3: &mut [f64],
+    p2s: &[i64],
+    s2pp: &[i64],
+    nsym_list: &[i64],
+    perms: &[i64],
+    done: &mut [u8],
+    drift: &mut [f64],
+    n_satom: usize,
+    n_patom: usize,
+    num_trans: usize,
+    level: usize,
+) -> Result<(), Refusal> {
+    answer(call!(gf_perm_trans_symmetrize_compact_fc3(
+        &mut fc3, &p2s, &s2pp, &nsym_list, &perms, &mut done, &mut drift, n_satom, n_patom, num_trans, level
+    )))
+}
+
+/// Exchanges two of the three (atom, direction) pairs of every number of a compact set of n_patom × n_satom² × 27 numbers: type 0 the
+/// first two, type 1 the first and the third, type 2 the last two; any other type changes nothing. Types 0 and 1 leave blocks that a half shift
 /// exchanges, as phonors does.
 ///
 /// ```
@@ -119,8 +194,8 @@ pub fn transpose_compact_fc3_with(
     answer(call!(gf_transpose_compact_fc3(&mut fc3, &p2s, &s2pp, &nsym_list, &perms, &mut done, n_satom, n_patom, num_trans, t_type)))
 }
 
-/// Exchanges two of the three (atom, direction) pairs of every number of a compact set of n_patom × n_satom² × 27 numbers: type 0 pairs 0
-/// and 1, type 1 pairs 0 and 2, type 2 pairs 1 and 2; any other type changes nothing. Every block moves, also those that a half shift
+/// Exchanges two of the three (atom, direction) pairs of every number of a compact set of n_patom × n_satom² × 27 numbers: type 0 the
+/// first two, type 1 the first and the third, type 2 the last two; any other type changes nothing. Every block moves, also those that a half shift
 /// exchanges; phonors has no such call.
 ///
 /// ```

@@ -163,7 +163,7 @@ pub fn true_transpose_compact_fc4_with(
 }
 
 /// Exchanges two of the four (atom, direction) pairs of every number of a compact set of n_patom × n_satom³ × 81 numbers, named by their legs
-/// 0 to 3 in either order; equal legs leave the set as it is, a leg above 3 is refused as an index out of range. Every block moves, also those
+/// 0 to 3 in either order; with equal legs nothing moves, a leg above 3 is refused as an index out of range. Every block moves, also those
 /// that a half shift exchanges; phonors has no such call.
 ///
 /// ```

@@ -38,6 +38,21 @@ extern "C" {
         n_patom: usize,
         num_trans: usize,
     ) -> u8;
+    pub fn gf_explain_shift_tables(
+        p2s: *const i64,
+        p2s_len: usize,
+        s2pp: *const i64,
+        s2pp_len: usize,
+        nsym_list: *const i64,
+        nsym_list_len: usize,
+        perms: *const i64,
+        perms_len: usize,
+        place: *mut usize,
+        place_len: usize,
+        n_satom: usize,
+        n_patom: usize,
+        num_trans: usize,
+    ) -> u8;
     pub fn gf_compute_permutation(
         rot_atom: *mut i64,
         rot_atom_len: usize,
@@ -199,6 +214,34 @@ extern "C" {
         n_satom: usize,
         n_patom: usize,
         num_trans: usize,
+    ) -> u8;
+    pub fn gf_perm_trans_symmetrize_fc3(
+        fc3: *mut f64,
+        fc3_len: usize,
+        drift: *mut f64,
+        drift_len: usize,
+        num_atom: usize,
+        level: usize,
+    ) -> u8;
+    pub fn gf_perm_trans_symmetrize_compact_fc3(
+        fc3: *mut f64,
+        fc3_len: usize,
+        p2s: *const i64,
+        p2s_len: usize,
+        s2pp: *const i64,
+        s2pp_len: usize,
+        nsym_list: *const i64,
+        nsym_list_len: usize,
+        perms: *const i64,
+        perms_len: usize,
+        done: *mut u8,
+        done_len: usize,
+        drift: *mut f64,
+        drift_len: usize,
+        n_satom: usize,
+        n_patom: usize,
+        num_trans: usize,
+        level: usize,
     ) -> u8;
     pub fn gf_transpose_compact_fc3(
         fc3: *mut f64,

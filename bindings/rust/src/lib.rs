@@ -1,12 +1,12 @@
-//! Force constants of second, third and fourth order, the matching of atoms, and delivery rolls: safe functions over the proved library
+//! Force constants up to fourth order, the matching of atoms, and delivery rolls: safe functions over the proved library
 //! Gullyfork.
 //!
 //! The modules and functions have the names and the arguments of [phonors](https://github.com/phonopy/phonors). What differs:
 //!
 //! - every input is taken: a call does its work, or returns the first [`Refusal`] that applies and leaves every slice as it was;
 //! - a second form, `.._with`, takes work memory and the counts that phonors does not ask for (`num_trans`, `num_first`, `num_rot`).
-//!   The plain form allocates the one and works out the others from the lengths. What work memory holds has no influence; a call
-//!   that ends well leaves zeros in it.
+//!   The plain form allocates the one and works out the others from the lengths. What work memory holds does not matter; it is
+//!   zero after a call that is not refused.
 //!
 //! The module [`tables`] has every call once more with less to pass: the shift tables as one argument, the work memory the caller's, and an
 //! error, [`Refused`], that names the argument which is the reason of a refusal.
@@ -46,7 +46,7 @@ pub mod tables;
 mod ffi;
 mod refused;
 
-pub use refused::{Argument, Refused};
+pub use refused::{Argument, Refused, Rule};
 
 use ffi::call;
 use std::ffi::{c_char, CStr};
@@ -59,18 +59,18 @@ use std::{error, fmt};
 pub enum Refusal {
     /// A count is above its limit.
     CountAboveLimit = 1,
-    /// A slice has a length other than the one stated for it.
+    /// A slice has not the length that is stated for it.
     WrongLength = 2,
-    /// An index table holds a negative number, or one not below the count it points into, whether that entry is read or not; or an index
-    /// that is given is not below its count.
+    /// An entry of an index table is negative or not below its count, also one that the call would not read; or an index that is given is not
+    /// below its count.
     IndexOutOfRange = 3,
-    /// The source or the target slab is not below num_first, or the two are equal.
+    /// A slab that the set does not have, or one slab as source and target.
     BadSlab = 4,
-    /// A listed atom's representative is not itself a listed atom that represents itself.
+    /// The representative of a listed atom is not in the list, or has another representative.
     BadRepresentative = 5,
     /// The shift tables break a rule.
     BadShiftTables = 6,
-    /// The bytes are not a roll, the count passes the slice, nothing starts at the position, or the record to add breaks the rules.
+    /// The bytes are no roll, or more than the slice has; nothing starts at the position; or the record to add breaks the rules.
     NotARoll = 7,
     /// The roll would pass 1,000 records, 65,536 bytes or the lent slice.
     NoRoom = 8,

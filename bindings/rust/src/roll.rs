@@ -129,7 +129,7 @@ pub fn stands_now(lent: &[u8], count: usize, set: u32) -> Result<Standing, Refus
     }
 }
 
-/// Retires `set` and every set linked to it by replacements, earlier or later, by the roll in the first `count` bytes, which grows inside
+/// Retires `set` and all sets that replacements link with it, before and after it, by the roll in the first `count` bytes, which grows inside
 /// the slice, and gives its new count. On a refusal no byte is written.
 pub fn retire_all(lent: &mut [u8], count: usize, set: u32) -> Result<usize, Refusal> {
     let mut new_count = [0];

@@ -18,7 +18,7 @@
 //! let refused = tables::transpose_compact_fc3(&mut fc3, &tables, &mut done, 0).unwrap_err();
 //! assert_eq!(
 //!     refused.to_string(),
-//!     "transpose_compact_fc3: refusal 2, a slice has a length other than the one stated for it (done: length 9, stated n_patom * n_satom = 3)"
+//!     "transpose_compact_fc3: refusal 2, a slice is not as long as stated (done: length 9, stated n_patom * n_satom = 3)"
 //! );
 //! # Ok::<(), gullyfork::Refused>(())
 //! ```
@@ -32,13 +32,13 @@ use crate::fc2::{self, DriftReport};
 use crate::fc3::{self, LegReport};
 use crate::fc4;
 use crate::ffi::call;
-use crate::refused::{count, entries, index, length, refused, slab, Refused, Stated};
+use crate::refused::{count, entries, index, length, refused, slab, Argument, Refused, Rule, Stated};
 use crate::report::{self, CrystalReport, LegSums, Report};
 use crate::{answer, Refusal};
 
-/// Whether shift tables keep every rule, as every compact call of second order judges them: row t of `perms` sends atom a to
+/// Whether shift tables keep every rule, as every compact call of second order judges them: shift t takes atom a to
 /// `perms[t * n_satom + a]`, `p2s` has the atom that stands for each atom of the primitive cell, `s2pp` the atom of the primitive cell
-/// that each atom is an image of, and row `nsym_list[a]` sends a to `p2s[s2pp[a]]`.
+/// that each atom is an image of, and shift `nsym_list[a]` takes a to `p2s[s2pp[a]]`.
 ///
 /// ```
 /// use gullyfork::{tables::check_shift_tables, Refusal};
@@ -57,6 +57,42 @@ pub fn check_shift_tables(
     num_trans: usize,
 ) -> Result<(), Refusal> {
     answer(call!(gf_check_shift_tables(&p2s, &s2pp, &nsym_list, &perms, n_satom, n_patom, num_trans)))
+}
+
+/// What [`explain_shift_tables`] says of tables.
+#[derive(Clone, Copy, Debug, PartialEq, Eq)]
+#[non_exhaustive]
+pub struct Explanation {
+    /// What [`check_shift_tables`] answers.
+    pub answer: Result<(), Refusal>,
+    /// Refusal 1: 0 `n_satom`, 1 `n_patom`, 2 `num_trans`. 2 and 3: 0 `perms`, 1 `p2s`, 2 `s2pp`, 3 `nsym_list`. 6: the rule, from 0 to 7, in the
+    /// order of [`Rule`].
+    pub which: usize,
+    /// 3: the entry. 6: the least numbers that break the rule. What is not named is 0.
+    pub place: [usize; 3],
+}
+
+/// Why [`check_shift_tables`] refuses tables: the first count, table, entry or rule that is wrong. Never refused.
+///
+/// ```
+/// use gullyfork::{tables::explain_shift_tables, Refusal};
+///
+/// let e = explain_shift_tables(&[0], &[0, 0, 0], &[0, 1, 2], &[0, 1, 2, 1, 2, 0, 2, 0, 1], 3, 1, 3);
+/// assert_eq!((e.answer, e.which, e.place), (Err(Refusal::BadShiftTables), 7, [1, 0, 0]));
+/// ```
+pub fn explain_shift_tables(
+    p2s: &[i64],
+    s2pp: &[i64],
+    nsym_list: &[i64],
+    perms: &[i64],
+    n_satom: usize,
+    n_patom: usize,
+    num_trans: usize,
+) -> Explanation {
+    let mut place = [0; 5];
+    call!(gf_explain_shift_tables(&p2s, &s2pp, &nsym_list, &perms, &mut place, n_satom, n_patom, num_trans));
+    let [number, which, i, j, k] = place;
+    Explanation { answer: answer(number as u8), which, place: [i, j, k] }
 }
 
 /// Shift tables whose lengths fit each other. What is in them is judged by each call; [`Tables::check`] judges it alone.
@@ -120,6 +156,29 @@ impl<'a> Tables<'a> {
             .map_err(|r| self.refused(r, "check_shift_tables", 1024, &[]))
     }
 
+    /// [`explain_shift_tables`]: what a refusal of the tables is about.
+    pub fn explain(&self) -> Explanation {
+        open!(self, p2s, s2pp, nsym_list, perms, n_satom, n_patom, num_trans);
+        explain_shift_tables(p2s, s2pp, nsym_list, perms, n_satom, n_patom, num_trans)
+    }
+
+    /// The first rule that the tables break, where they get refusal 6.
+    fn broken(&self) -> Option<Rule> {
+        open!(self, p2s, s2pp, nsym_list, perms, n_satom, n_patom, num_trans);
+        let Explanation { answer: Err(Refusal::BadShiftTables), which, place: [i, j, k] } = self.explain() else { return None };
+        let row = |t: usize, a: usize| perms[t * n_satom + a];
+        Some(match which {
+            0 => Rule::Counts { n_satom, n_patom, num_trans },
+            1 => Rule::Injective { row: i, atoms: [j, k] },
+            2 => Rule::Null,
+            3 => Rule::Closed { first: i, then: j },
+            4 => Rule::Free { rows: [i, j], atom: k, to: row(i, k) },
+            5 => Rule::Back { p: i, atom: p2s[i], s2pp: s2pp[p2s[i] as usize] },
+            6 => Rule::Kept { row: i, atom: j, s2pp: s2pp[j], image: row(i, j), other: s2pp[row(i, j) as usize] },
+            _ => Rule::Lands { atom: i, row: nsym_list[i], to: row(nsym_list[i] as usize, i), representative: p2s[s2pp[i] as usize] },
+        })
+    }
+
     /// The refusal of a compact call: its arguments `stated`, and the tables with the limit of their counts.
     fn refused(&self, refusal: Refusal, call: &'static str, limit: usize, stated: &[Stated]) -> Refused {
         open!(self, p2s, s2pp, nsym_list, perms, n_satom, n_patom, num_trans);
@@ -135,6 +194,9 @@ impl<'a> Tables<'a> {
         let first = refused(refusal, call, &own);
         if first.argument.is_some() {
             return first;
+        }
+        if refusal == Refusal::BadShiftTables {
+            return Refused { argument: self.broken().map(Argument::Rule), ..first };
         }
         refused(refusal, call, stated)
     }
@@ -370,6 +432,37 @@ pub fn set_permutation_symmetry_compact_fc3(fc3: &mut [f64], tables: &Tables, do
         let stated = [length!(fc3, n_patom * n_satom * n_satom * 27), length!(done, n_patom * n_satom * n_satom)];
         tables.refused(r, "set_permutation_symmetry_compact_fc3", 256, &stated)
     })
+}
+
+/// [`fc3::perm_trans_symmetrize_fc3`], with num_atom² × 27 numbers of work memory.
+pub fn perm_trans_symmetrize_fc3(fc3: &mut [f64], drift: &mut [f64], num_atom: usize, level: usize) -> Result<(), Refused> {
+    fc3::perm_trans_symmetrize_fc3_with(fc3, drift, num_atom, level).map_err(|r| {
+        let lengths = [length!(fc3, num_atom * num_atom * num_atom * 27), length!(drift, num_atom * num_atom * 27)];
+        let counts = [count!(num_atom, 256), count!(level, 1000)];
+        refused(r, "perm_trans_symmetrize_fc3", &[lengths, counts].concat())
+    })
+}
+
+/// [`fc3::perm_trans_symmetrize_compact_fc3`], with n_patom × n_satom² bytes and n_patom × n_satom × 27 numbers of work memory.
+pub fn perm_trans_symmetrize_compact_fc3(
+    fc3: &mut [f64],
+    tables: &Tables,
+    done: &mut [u8],
+    drift: &mut [f64],
+    level: usize,
+) -> Result<(), Refused> {
+    open!(tables, p2s, s2pp, nsym_list, perms, n_satom, n_patom, num_trans);
+    fc3::perm_trans_symmetrize_compact_fc3_with(fc3, p2s, s2pp, nsym_list, perms, done, drift, n_satom, n_patom, num_trans, level).map_err(
+        |r| {
+            let stated = [
+                length!(fc3, n_patom * n_satom * n_satom * 27),
+                length!(done, n_patom * n_satom * n_satom),
+                length!(drift, n_patom * n_satom * 27),
+                count!(level, 1000),
+            ];
+            tables.refused(r, "perm_trans_symmetrize_compact_fc3", 256, &stated)
+        },
+    )
 }
 
 /// [`fc3::transpose_compact_fc3`], with n_patom × n_satom bytes of work memory.

@@ -28,6 +28,9 @@ fn huge_counts_are_refused_before_memory_is_asked_for() {
     assert_eq!(fc4::compact_to_full_fc4(&mut set, &[], &[], &[], &[], &[], 1, 65), above);
     assert_eq!(fc3::set_permutation_symmetry_fc3(&mut set, HUGE), above);
     assert_eq!(fc3::set_permutation_symmetry_compact_fc3(&mut set, &[], &[], &[], &[], 257, 1), above);
+    assert_eq!(fc3::perm_trans_symmetrize_fc3(&mut set, HUGE, 1), above);
+    assert_eq!(fc3::perm_trans_symmetrize_fc3(&mut set, 1, 1001), above);
+    assert_eq!(fc3::perm_trans_symmetrize_compact_fc3(&mut set, &[], &[], &[], &[], HUGE, 1, 1), above);
     assert_eq!(fc3::transpose_compact_fc3(&mut set, &[], &[], &[], &[], 1, HUGE, 0), above);
     assert_eq!(fc3::distribute_fc3(&mut set, 1, 0, &[], HUGE, &IDENTITY), above);
     assert_eq!(fc3::rotate_delta_fc2s(&mut set, &[], &[], &[], &[], 1, HUGE, HUGE), above);

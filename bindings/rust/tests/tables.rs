@@ -16,6 +16,7 @@ struct Input {
     inv_u: Vec<f64>,
     site_sym_cart: Vec<f64>,
     rot_delta: Vec<f64>,
+    drift: Vec<f64>,
     rot_cart: Vec<f64>,
     r_carts: Vec<f64>,
     pos: Vec<f64>,
@@ -70,6 +71,7 @@ fn input(set: usize, full: usize, done: usize) -> Input {
         inv_u: numbers(60),
         site_sym_cart: numbers(45),
         rot_delta: vec![],
+        drift: vec![],
         rot_cart: numbers(9),
         r_carts: numbers(18),
         pos: at([0.0, 0.2, 0.4, 0.6, 0.8]),
@@ -258,7 +260,7 @@ macro_rules! reading {
     };
 }
 
-/// A call that reads a compact set out.
+/// `compact_to_full`.
 macro_rules! read_out {
     ($module:ident::$name:ident, $set:literal $set_len:expr, $full_len:expr, $limit:literal) => {
         beside(
@@ -294,6 +296,22 @@ fn compact_sets() {
     compact!(fc4::set_permutation_symmetry_compact_fc4_with, set_permutation_symmetry_compact_fc4(), "fc4" C4, 1024, 64,);
     compact!(fc4::transpose_compact_fc4_with, transpose_compact_fc4(|_| 0), "fc4" C4, 16, 64,);
     compact!(fc4::true_transpose_compact_fc4_with, true_transpose_compact_fc4(|_| 0), "fc4" C4, 16, 64,);
+    beside(
+        "perm_trans_symmetrize_compact_fc3",
+        Input { drift: vec![7.0; 16 * 27], ..input(C3, 0, 128) },
+        vec![lengths!("fc3" set, "done" done, "drift" drift), of_tables!(256), counts!(1000: level)],
+        |w| {
+            let (v, num_trans) = (w.clone(), w.perms.len() / w.s2pp.len());
+            let (set, done, drift) = (&mut w.set, &mut w.done, &mut w.drift);
+            said(fc3::perm_trans_symmetrize_compact_fc3_with(
+                set, &v.p2s, &v.s2pp, &v.nsym_list, &v.perms, done, drift, v.n_satom, v.n_patom, num_trans, v.level,
+            ))
+        },
+        |w| {
+            let v = w.clone();
+            said(tables::perm_trans_symmetrize_compact_fc3(&mut w.set, &v.tables()?, &mut w.done, &mut w.drift, v.level))
+        },
+    );
     compact!(fc4::swap_pairs_compact_fc4_with, swap_pairs_compact_fc4(|w| w.leg_a, |w| w.leg_b), "fc4" C4, 16, 64, indices!(IndexOutOfRange: leg_a 4, leg_b 4));
 }
 
@@ -360,6 +378,13 @@ fn full_sets() {
         |w| said(tables::perm_trans_symmetrize_fc(&mut w.full, w.n_satom, w.level)),
     );
     beside(
+        "perm_trans_symmetrize_fc3",
+        Input { drift: vec![7.0; 16 * 27], ..input(0, 64 * 27, 0) },
+        vec![lengths!("fc3" full, "drift" drift), counts!(256: num_atom), counts!(1000: level)],
+        |w| said(fc3::perm_trans_symmetrize_fc3_with(&mut w.full, &mut w.drift, w.num_atom, w.level)),
+        |w| said(tables::perm_trans_symmetrize_fc3(&mut w.full, &mut w.drift, w.num_atom, w.level)),
+    );
+    beside(
         "set_permutation_symmetry_fc4",
         input(0, 256 * 81, 256),
         vec![lengths!("fc4" full, "done" done), counts!(64: num_atom)],
@@ -411,11 +436,11 @@ fn crystal_operations() {
     macro_rules! compact_crystal {
         ($name:ident, $len:expr, $limit:literal) => {{
             let mut good = input($len, 0, 0);
-            good.permutations = good.perms[..12].to_vec();
+            good.permutations = good.perms[..16].to_vec();
             beside(
                 stringify!($name),
                 good,
-                vec![lengths!("fc" set, "r_carts" r_carts, "operations" permutations), of_tables!($limit), of_operations!(6)],
+                vec![lengths!("fc" set, "r_carts" r_carts, "operations" permutations), of_tables!($limit), of_operations!(8)],
                 |w| said(report::$name(&w.set, &w.p2s, &w.s2pp, &w.nsym_list, &w.perms, &w.r_carts, &w.permutations, w.n_satom, w.n_patom)),
                 |w| said(tables::$name(&w.set, &w.tables()?, &w.r_carts, &w.permutations)),
             )
@@ -567,14 +592,17 @@ fn matching() {
 }
 
 #[test]
-fn other_refusals_name_no_argument() {
+fn other_refusals() {
     let mut w = input(C3, 576, 16);
     w.nsym_list[1] = 0;
     let tables = w.tables().unwrap();
     assert_eq!((tables.n_satom(), tables.n_patom(), tables.num_trans()), (8, 2, 4));
     let refused = tables.check().unwrap_err();
-    assert_eq!((refused.refusal, refused.argument), (Refusal::BadShiftTables, None));
-    assert_eq!(refused.to_string(), "check_shift_tables: refusal 6, the shift tables break a rule");
+    assert_eq!(refused.refusal, Refusal::BadShiftTables);
+    assert_eq!(
+        refused.to_string(),
+        "check_shift_tables: refusal 6, the shift tables break a rule (nsym_list: entry 1 is 0, which sends atom 1 to 1, not to 0)"
+    );
     w.map_atoms[0] = 4;
     let refused = tables::distribute_fc2(&mut vec![0.0; 135], &w.listed(), &mut [0; 5]).unwrap_err();
     assert_eq!((refused.refusal, refused.argument), (Refusal::BadRepresentative, None));
@@ -583,6 +611,37 @@ fn other_refusals_name_no_argument() {
     let refused = tables::distribute_fc3(&mut vec![0.0; 54], 1, 1, &[0], 1, &w.rot_cart, 2).unwrap_err();
     assert_eq!((refused.refusal, refused.argument), (Refusal::BadSlab, None));
     assert!(Tables::new(&[], &[], &[], &[0]).is_err() && Tables::new(&[], &[], &[], &[]).is_ok());
+}
+
+/// Each rule by its number, its place and its words, which are those of the layer for C.
+#[test]
+fn rules_that_are_broken() {
+    let circle = [0, 1, 2, 1, 2, 0, 2, 0, 1];
+    let pairs = [0, 1, 2, 3, 1, 0, 3, 2];
+    let broken: [(&[i64], &[i64], &[i64], &[i64], [usize; 3], &str); 8] = [
+        (&[0], &[0; 3], &[0, 1, 1], &circle[..6], [0, 0, 0], "perms: 2 rows: n_satom 3 is not n_patom 1 x num_trans 2"),
+        (&[0], &[0; 3], &[0, 2, 1], &[0, 1, 2, 1, 1, 0, 2, 0, 1], [1, 0, 1], "perms: row 1 sends atoms 0 and 1 to the same place"),
+        (&[0], &[0; 3], &[0, 1, 2], &[1, 2, 0, 2, 0, 1, 1, 2, 0], [0, 0, 0], "perms: no row sends each atom to itself (the null shift)"),
+        (&[0], &[0; 3], &[0, 1, 2], &[0, 1, 2, 1, 0, 2, 2, 1, 0], [1, 2, 0], "perms: row 1 and then row 2 is no row: a shift is missing"),
+        (&[0], &[0; 2], &[0, 1], &[0, 1, 0, 1], [0, 1, 0], "perms: rows 0 and 1 both send atom 0 to atom 0"),
+        (&[0, 2], &[1, 1, 0, 0], &[0, 1, 0, 1], &pairs, [0, 0, 0], "s2pp: entry 0 is 1, and p2s[0] is 0"),
+        (&[0, 2], &[0, 1, 1, 1], &[0, 1, 0, 1], &pairs, [1, 0, 0], "s2pp: it is 0 for atom 0 and 1 for atom 1, where row 1 sends it"),
+        (&[0], &[0; 3], &[0, 1, 2], &circle, [1, 0, 0], "nsym_list: entry 1 is 1, which sends atom 1 to 2, not to 0"),
+    ];
+    for (which, (p2s, s2pp, nsym_list, perms, place, text)) in broken.into_iter().enumerate() {
+        let tables = Tables::new(p2s, s2pp, nsym_list, perms).unwrap();
+        let e = tables.explain();
+        assert_eq!((e.answer, e.which, e.place), (Err(Refusal::BadShiftTables), which, place));
+        assert_eq!(tables.check().unwrap_err().argument.unwrap().to_string(), text);
+    }
+    let e = tables::explain_shift_tables(&[0], &[0; 3], &[0, 2, 1], &circle, 3, 1, 3);
+    assert_eq!((e.answer, e.which, e.place), (Ok(()), 0, [0; 3]));
+    let e = tables::explain_shift_tables(&[0], &[0; 3], &[0, -1, 1], &circle, 3, 1, 3);
+    assert_eq!((e.answer, e.which, e.place), (Err(Refusal::IndexOutOfRange), 3, [1, 0, 0]));
+    let e = tables::explain_shift_tables(&[0], &[0; 3], &[0, 2, 1], &circle, 3, 1, 4);
+    assert_eq!((e.answer, e.which, e.place), (Err(Refusal::WrongLength), 0, [0; 3]));
+    let e = tables::explain_shift_tables(&[0], &[0; 3], &[0, 2, 1], &circle, usize::MAX, usize::MAX, usize::MAX);
+    assert_eq!((e.answer, e.which, e.place), (Err(Refusal::CountAboveLimit), 0, [0; 3]));
 }
 
 /// A C name that is added has to come here too, and to be tried.

@@ -1,4 +1,4 @@
-"""Force constants of second, third and fourth order, the matching of atoms, and delivery rolls: the proved library Gullyfork on numpy.
+"""Force constants up to fourth order, the matching of atoms, and delivery rolls: the proved library Gullyfork on numpy.
 
 >>> import numpy as np, gullyfork
 >>> fc = np.random.default_rng(1).standard_normal((4, 4, 3, 3))
@@ -14,6 +14,7 @@ lent by name.
 Calls, by what they do (the number is the order):
 
     symmetrize      perm_trans_symmetrize_fc, perm_trans_symmetrize_compact_fc, set_index_permutation_symmetry_compact_fc (2);
+                    perm_trans_symmetrize_fc3, perm_trans_symmetrize_compact_fc3 (without drift);
                     set_permutation_symmetry_fc3, .._fc4, set_permutation_symmetry_compact_fc3, .._fc4
     exchange atoms  true_transpose_compact_fc2, .._fc3, .._fc4, swap_pairs_compact_fc4 (any two of four); as phonopy and phono3py have
                     it, half shifts left out: transpose_compact_fc3, .._fc4
@@ -24,7 +25,7 @@ Calls, by what they do (the number is the order):
     make            distribute_fc2, .._fc3, .._fc4; rotate_delta_fc2s, rotate_delta_fc3s; compact_to_full_fc2, .._fc3, .._fc4;
                     replace_block_fc2
     match atoms     compute_permutation, find_permutation
-    shift tables    Tables, Tables.of (phonopy), Tables.from_cell (ASE, phonopy, arrays), check_shift_tables
+    shift tables    Tables, Tables.of (phonopy), Tables.from_cell (ASE, phonopy, arrays), check_shift_tables, explain_shift_tables
     rolls           append_roll, read_roll, is_roll, stands_now, retire_all, read_roll_former, is_roll_former
     numbers         nint, round, sqrt; version, words
 
@@ -62,8 +63,9 @@ from .fc2 import (
     perm_trans_symmetrize_fc, replace_block_fc2, row_sums_fc2, set_index_permutation_symmetry_compact_fc, true_transpose_compact_fc2,
 )
 from .fc3 import (
-    LegDrift, compact_to_full_fc3, distribute_fc3, drift_report_fc3, rotate_delta_fc2s, set_permutation_symmetry_compact_fc3,
-    set_permutation_symmetry_fc3, transpose_compact_fc3, true_transpose_compact_fc3,
+    LegDrift, compact_to_full_fc3, distribute_fc3, drift_report_fc3, perm_trans_symmetrize_compact_fc3, perm_trans_symmetrize_fc3,
+    rotate_delta_fc2s, set_permutation_symmetry_compact_fc3, set_permutation_symmetry_fc3, transpose_compact_fc3,
+    true_transpose_compact_fc3,
 )
 from .fc4 import (
     compact_to_full_fc4, distribute_fc4, rotate_delta_fc3s, set_permutation_symmetry_compact_fc4, set_permutation_symmetry_fc4,
@@ -76,14 +78,14 @@ from .report import (
     drift_report_compact_fc4, drift_report_fc4, set_difference,
 )
 from .roll import append_roll, is_roll, is_roll_former, read_roll, read_roll_former, retire_all, stands_now
-from .tables import Tables, check_shift_tables
+from .tables import Explanation, Tables, check_shift_tables, explain_shift_tables
 
 from . import certificate, check, crystal, files, picture  # isort: skip  # they stand on the calls
 
 __version__ = version()
 # a plain list: type checkers read no other, and take a name that it leaves out for private
 __all__ = [
-    "Along", "Audit", "CrystalReport", "Drift", "DriftKind", "LegDrift", "LegSums", "Match", "Pairing", "Refused", "Report",
+    "Along", "Audit", "CrystalReport", "Drift", "DriftKind", "Explanation", "LegDrift", "LegSums", "Match", "Pairing", "Refused", "Report",
     "Tables", "append_roll", "audit", "audit_compact_fc2", "audit_compact_fc3", "audit_compact_fc4", "audit_fc2", "audit_fc3",
     "audit_fc4", "cells", "certificate", "check", "check_shift_tables", "common", "compact_to_full_fc2", "compact_to_full_fc3",
     "compact_to_full_fc4", "compute_permutation", "crystal", "crystal_report_compact_fc2", "crystal_report_compact_fc3",
@@ -91,8 +93,8 @@ __all__ = [
     "difference_report_compact_fc2", "difference_report_compact_fc3", "difference_report_compact_fc4", "difference_report_fc2",
     "difference_report_fc3", "difference_report_fc4", "distribute_fc2", "distribute_fc3", "distribute_fc4", "drift_report",
     "drift_report_compact_fc2", "drift_report_compact_fc3", "drift_report_compact_fc4", "drift_report_fc3", "drift_report_fc4",
-    "fc2", "fc3", "fc4", "files", "find_permutation", "is_roll", "is_roll_former", "nint", "perm_trans_symmetrize_compact_fc",
-    "perm_trans_symmetrize_fc", "picture", "read_roll", "read_roll_former", "replace_block_fc2", "retire_all", "roll",
+    "explain_shift_tables", "fc2", "fc3", "fc4", "files", "find_permutation", "is_roll", "is_roll_former", "nint", "perm_trans_symmetrize_compact_fc",
+    "perm_trans_symmetrize_compact_fc3", "perm_trans_symmetrize_fc", "perm_trans_symmetrize_fc3", "picture", "read_roll", "read_roll_former", "replace_block_fc2", "retire_all", "roll",
     "rotate_delta_fc2s", "rotate_delta_fc3s", "row_sums_fc2", "same_set", "set_difference",
     "set_index_permutation_symmetry_compact_fc", "set_permutation_symmetry_compact_fc3", "set_permutation_symmetry_compact_fc4",
     "set_permutation_symmetry_fc3", "set_permutation_symmetry_fc4", "sqrt", "stands_now", "swap_pairs_compact_fc4", "tables",

@@ -6,10 +6,10 @@ import sys
 from typing import Callable, Dict, List, Optional, Tuple
 
 import gullyfork as gf
-from gullyfork import _desk, certificate, check, picture
+from gullyfork import _desk, certificate, check, crystal, picture
 from gullyfork._commands import STATUSES, UNREAD
 
-COMMANDS = (check.command, picture.command, certificate.verify_command, certificate.certify_command)
+COMMANDS = (check.command, picture.command, certificate.verify_command, certificate.certify_command, crystal.command)
 """Each adds its sub-command to the parser."""
 
 OWN_WORDS: Dict[str, Tuple[Callable[[List[str]], int], str]] = {"roll": (_desk.main, "the dispatch desk's roll; gullyfork roll help says more")}

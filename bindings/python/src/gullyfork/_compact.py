@@ -8,7 +8,7 @@ import numpy as np
 from . import _arrays
 from ._library import CALLS
 from ._refused import LIMITS
-from ._run import memory, run
+from ._run import both, memory, room, run
 from .tables import Tables
 
 if TYPE_CHECKING:
@@ -38,6 +38,17 @@ def compact(name: str, fc: Doubles, order: int, tables: TablesLike, work_legs: i
         _arrays.of_order(fc, key, order)
     marks = memory("done", work, "work", _marks(t, order, work_legs), np.uint8)
     run(name, order, changed={key: (fc, shape)}, **marks, tables=t, values=values)
+
+
+def without_drift(name: str, fc: Doubles, order: int, tables: TablesLike, level: int, work: Optional[Bytes], drift: Optional[Doubles]) -> None:
+    """A symmetrizer that takes the drift off: it works in marks, one to a block, and in the sums over a leg, a set of one leg fewer."""
+    t = tables if type(tables) is Tables else Tables.given(tables)
+    key, shape, limit = f"fc{order}", t.shapes[order - 2], LIMITS[order]
+    if not isinstance(fc, np.ndarray) or fc.shape != shape:
+        _arrays.of_order(fc, key, order)
+    sums = memory("drift", drift, "drift", room((t.n_patom, limit), *[(t.n_satom, limit)] * (order - 2), (3**order, 3**order)))
+    marks = memory("done", work, "work", _marks(t, order, order), np.uint8)
+    run(name, order, changed={key: (fc, shape)}, **both(marks, sums), tables=t, values={"level": level})
 
 
 def full_set(name: str, fc: ArrayLike, order: int, tables: TablesLike, out: Optional[Doubles]) -> Doubles:

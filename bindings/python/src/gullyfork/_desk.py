@@ -13,8 +13,8 @@ from .roll import Kind, State
 
 _USAGE = """usage: roll list FILE [SET]
        roll new FILE
-       roll append [--anyway] FILE delivery SET [LABEL]
-       roll append [--anyway] FILE replacement SET EARLIER [LABEL]
+       roll append [--anyway] FILE delivery SET [LABEL | --certificate CERTIFICATE]
+       roll append [--anyway] FILE replacement SET EARLIER [LABEL | --certificate CERTIFICATE]
        roll append [--anyway] FILE retirement SET [LABEL]
        roll retire [--yes] FILE SET
        roll renew [--anyway] OLD NEW
@@ -22,7 +22,8 @@ _USAGE = """usage: roll list FILE [SET]
 """
 _HELP = """list    the records, or which set stands now for SET
 new     an empty roll, in a file that is not there yet
-append  a record at the end; --anyway: even one that the others do not allow, after which no standing can be told
+append  a record at the end; --anyway: even one that the others do not allow, after which no standing can be told;
+        --certificate: the label is the checksum of a delivery's certificate.txt, by which verify --roll finds the set
 retire  SET and every set linked to it by replacements; --yes: without asking
 renew   the records of an older roll, in a file that is not there yet
 A word that begins with - is an option; after -- none is.
@@ -161,6 +162,7 @@ def _retire(path: str, set: int, yes: bool) -> int:
 class _Request(NamedTuple):
     options: List[str]
     words: List[str]  # the first one is the command
+    certificate: List[str]  # none or one
 
     def asked(self, command: str, least: int, most: int, *options: str) -> bool:
         """Whether this command was asked for, with so many words after it, and no options but these."""
@@ -168,15 +170,21 @@ class _Request(NamedTuple):
 
 
 def _sort(arguments: List[str]) -> _Request:
-    q = _Request([], [])
+    q = _Request([], [], [])
     ended = False
-    for word in arguments:
+    left = iter(arguments)
+    for word in left:
         if ended or word[:1] != "-" or word == "-":
             q.words.append(word)
         elif word == "--":
             ended = True
         elif word in ("--help", "--anyway", "--yes"):
             q.options.append(word)
+        elif word == "--certificate" and not q.certificate:
+            named = next(left, None)
+            if named is None:
+                raise _Wrong
+            q.certificate.append(named)
         else:
             raise _Wrong
     if len(q.words) > _MOST_WORDS:
@@ -199,7 +207,21 @@ def _append_words(q: _Request) -> int:
         raise _Wrong
     set = _number(q.words[3])
     earlier = _number(q.words[4]) if kind is Kind.REPLACEMENT else 0
-    return _append(q.words[1], kind, set, earlier, os.fsencode("".join(q.words[label:])), "--anyway" in q.options)
+    given = os.fsencode("".join(q.words[label:]))
+    if q.certificate and (kind is Kind.RETIREMENT or len(q.words) > label):
+        raise _Wrong
+    return _append(q.words[1], kind, set, earlier, _certified(q.certificate[0], set) if q.certificate else given, "--anyway" in q.options)
+
+
+def _certified(path: str, set: int) -> bytes:
+    """The label that names a certificate, whose set is the one to deliver."""
+    try:
+        label, stated = roll.label_of(path)
+    except ValueError:
+        raise OSError(0, "it is no certificate of a delivery", path) from None
+    if stated not in ("not stated", str(set)):
+        raise OSError(0, f"it is the certificate of set {stated}, not of {set}", path)
+    return label
 
 
 def _run(arguments: List[str]) -> int:
@@ -209,6 +231,8 @@ def _run(arguments: List[str]) -> int:
         return 0
     if q.asked("append", 3, 5, "--anyway"):
         return _append_words(q)
+    if q.certificate:
+        raise _Wrong
     if q.asked("renew", 2, 2, "--anyway"):
         return _renew(q.words[1], q.words[2], bool(q.options))
     if q.asked("retire", 2, 2, "--yes"):

@@ -3,7 +3,7 @@ compact."""
 from __future__ import annotations
 
 import itertools
-from typing import TYPE_CHECKING, Callable, Dict, Iterator, List, Optional, Sequence, Tuple
+from typing import TYPE_CHECKING, Callable, Dict, Iterator, List, Optional, Sequence, Tuple, Union
 
 import numpy as np
 
@@ -12,13 +12,15 @@ import gullyfork as gf
 from .tables import Tables
 
 if TYPE_CHECKING:
-    from ._types import Doubles, Flags
+    from ._types import Doubles, Flags, Integers
 
 _TYPE = {(0, 1): 0, (0, 2): 1, (1, 2): 2}  # of a transpose of third order, by its legs
-_SYMMETRIZERS: Dict[int, Tuple[Callable[[Doubles], None], Callable[[Doubles, Tables], None]]] = {
-    3: (gf.set_permutation_symmetry_fc3, gf.set_permutation_symmetry_compact_fc3),
-    4: (gf.set_permutation_symmetry_fc4, gf.set_permutation_symmetry_compact_fc4)}
+# by order, of a full set and of a compact one
 _AUDITS = {2: (gf.audit_fc2, gf.audit_compact_fc2), 3: (gf.audit_fc3, gf.audit_compact_fc3), 4: (gf.audit_fc4, gf.audit_compact_fc4)}
+_DIFFERENCES = {2: (gf.difference_report_fc2, gf.difference_report_compact_fc2), 3: (gf.difference_report_fc3, gf.difference_report_compact_fc3),
+                4: (gf.difference_report_fc4, gf.difference_report_compact_fc4)}
+_CRYSTALS = {2: (gf.crystal_report_fc2, gf.crystal_report_compact_fc2), 3: (gf.crystal_report_fc3, gf.crystal_report_compact_fc3),
+             4: (gf.crystal_report_fc4, gf.crystal_report_compact_fc4)}
 
 
 def place(k: Sequence[int], atoms: int) -> str:
@@ -83,6 +85,30 @@ def audit(fc: Doubles, tables: Optional[Tables]) -> gf.Audit:
     return full(fc) if tables is None else compact(fc, tables)
 
 
+def difference(fc: Doubles, tables: Optional[Tables]) -> gf.Report:
+    """The widest difference between permutations of the same pairs, by the proved report."""
+    full, compact = _DIFFERENCES[fc.ndim // 2]
+    return full(fc) if tables is None else compact(fc, tables)
+
+
+def deviation(fc: Doubles, tables: Optional[Tables], rotations: Doubles, maps: Integers) -> gf.CrystalReport:
+    """How far a set is from obeying operations, by the proved report."""
+    full, compact = _CRYSTALS[fc.ndim // 2]
+    return full(fc, rotations, maps) if tables is None else compact(fc, tables, rotations, maps)
+
+
+def drift(fc: Doubles, tables: Optional[Tables]) -> Tuple[float, str]:
+    """The worst sum over an atom and where it is, by the proved report."""
+    if fc.ndim == 4:
+        d = gf.drift_report(fc) if tables is None else gf.drift_report_compact_fc2(fc, tables)
+        return d.value, f"along {d.along.name.lower()}, {place((d.atom, *d.directions), 1)}"
+    if fc.ndim == 6:
+        leg: Union[gf.LegDrift, gf.LegSums] = gf.drift_report_fc3(fc) if tables is None else gf.drift_report_compact_fc3(fc, tables)
+    else:
+        leg = gf.drift_report_fc4(fc) if tables is None else gf.drift_report_compact_fc4(fc, tables)
+    return leg.value, f"over leg {leg.leg}, {place((*leg.atoms, *leg.directions), len(leg.atoms))}"
+
+
 def sums(fc: Doubles, tables: Optional[Tables], leg: int) -> Doubles:
     """The sums over a leg's atom. Over the first leg of a compact set: those over the last one, the two exchanged."""
     last = fc.ndim // 2 - 1
@@ -97,7 +123,7 @@ def sums(fc: Doubles, tables: Optional[Tables], leg: int) -> Doubles:
 
 
 def _without_drift(fc: Doubles, tables: Optional[Tables]) -> None:
-    """Takes the mean over each leg's atom off every number, in place: by numpy, not proved."""
+    """Takes the mean over each leg's atom off every number of a set of fourth order, in place: by numpy, not proved."""
     last = fc.ndim // 2 - 1
     for leg in range(last + 1):
         if leg == 0 and tables is not None:  # the first atom of a compact set is not every atom: the two are exchanged and back
@@ -109,8 +135,8 @@ def _without_drift(fc: Doubles, tables: Optional[Tables]) -> None:
 
 
 def symmetrized(fc: Doubles, tables: Optional[Tables], level: int) -> Doubles:
-    """A copy without drift and alike under exchange. The permutations are the proved calls', and at second order the drift's removal too; at
-    third and fourth order the means over the legs are numpy's."""
+    """A copy without drift and alike under exchange, by the proved calls; at fourth order the means over the legs are numpy's. level: of second
+    order; above it one level leaves rounding alone."""
     order = fc.ndim // 2
     if order == 2:
         out = fc.copy() if tables is None else gf.compact_to_full_fc2(fc, tables)
@@ -121,19 +147,21 @@ def symmetrized(fc: Doubles, tables: Optional[Tables], level: int) -> Doubles:
         gf.set_index_permutation_symmetry_compact_fc(out, tables, False)
         return out
     out = fc.copy()
+    if order == 3:
+        if tables is None:
+            gf.perm_trans_symmetrize_fc3(out)
+        else:
+            gf.perm_trans_symmetrize_compact_fc3(out, tables)
+        return out
     _without_drift(out, tables)
-    full, compact = _SYMMETRIZERS[order]
     if tables is None:
-        full(out)
+        gf.set_permutation_symmetry_fc4(out)
     else:
-        compact(out, tables)
+        gf.set_permutation_symmetry_compact_fc4(out, tables)
     return out
 
 
-# ---- verdicts of the proved calls, in the words of delivery/verdicts.c
-
-MOST_READ_OUT = 128  # atoms of a compact set of third order that is read out for its drift
-
+# ---- verdicts of the proved calls, in the words of delivery/measures.c
 
 def number(x: float, bits: bool = True) -> str:
     """A number to read, and all its bits, as C's %a has them.
@@ -149,31 +177,33 @@ def number(x: float, bits: bool = True) -> str:
     return f"{x:.6g} ({digits}{power}{exponent})"
 
 
-def drift_words(fc: Doubles, tables: Optional[Tables], bits: bool = True) -> str:
-    """The proved drift report of a set; of a compact one, of the set that it reads out to. bits: whether the number has its bits beside it."""
+_LEGS: Dict[int, Tuple[Callable[[Doubles], Union[gf.LegDrift, gf.LegSums]], Callable[[Doubles, Tables], gf.LegSums]]] = {
+    3: (gf.drift_report_fc3, gf.drift_report_compact_fc3), 4: (gf.drift_report_fc4, gf.drift_report_compact_fc4)}
+
+
+def drift_words(fc: Doubles, tables: Optional[Tables], bits: bool = True) -> Tuple[float, str]:
+    """The proved drift report of a set, of a compact one of what it reads out to: the worst sum, and in words. bits: whether these have its bits."""
     if fc.ndim == 4:
-        drift = gf.drift_report(fc) if tables is None else gf.drift_report_compact_fc2(fc, tables)
-        return _drift(drift.kind, drift.value, f"along {drift.along.name.lower()}, atom {drift.atom}", drift.directions, bits)
-    if tables is not None and tables.n_satom > MOST_READ_OUT:
-        return f"not worked out for more than {MOST_READ_OUT} atoms"
-    leg = gf.drift_report_fc3(fc if tables is None else gf.compact_to_full_fc3(fc, tables))
-    return _drift(leg.kind, leg.value, f"over leg {leg.leg}, atoms {leg.atoms[0]} {leg.atoms[1]}", leg.directions, bits)
+        d = gf.drift_report(fc) if tables is None else gf.drift_report_compact_fc2(fc, tables)
+        return d.value, _drift(d.kind, d.value, f"along {d.along.name.lower()}, atom {d.atom}", d.directions, bits)
+    full, compact = _LEGS[fc.ndim // 2]
+    s = full(fc) if tables is None else compact(fc, tables)
+    return s.value, _drift(s.kind, s.value, f"over leg {s.leg}, atoms {' '.join(map(str, s.atoms))}", s.directions, bits)
 
 
 def _drift(kind: gf.DriftKind, value: float, where: str, directions: Sequence[int], bits: bool) -> str:
-    where += f", directions {' '.join(map(str, directions))}"
-    if kind is gf.DriftKind.WORST:
-        return f"worst sum {number(value, bits)} {where}"
-    return gf.words(kind.value) + (f", {where}" if kind is gf.DriftKind.NO_NUMBER else "")
+    if kind is gf.DriftKind.STILL:
+        return "all sums are zero"
+    return f"worst sum {number(value, bits)} {where}, directions {' '.join(map(str, directions))}"
 
 
-def audit_words(audited: gf.Audit, compact: bool) -> str:
-    """What an audit says: alike, or the first place with its numbers."""
+def audit_words(audited: gf.Audit, compact: bool, worst: str = "") -> str:
+    """What an audit says: alike, or the first place with its numbers, after the worst difference where it is given."""
     if audited.place is None or audited.order is None or audited.here is None or audited.there is None:
         return "alike"
     order = len(audited.order)
     atoms, directions = ([str(k) for k in part] for part in (audited.place[:order], audited.place[order:]))
     if compact:
         atoms[0] += " (of the primitive cell)"
-    return (f"unlike, first at atoms {' '.join(atoms)}, directions {' '.join(directions)}: {number(audited.here)}, and "
+    return (f"unlike, {worst + '; ' if worst else ''}first at atoms {' '.join(atoms)}, directions {' '.join(directions)}: {number(audited.here)}, and "
             f"{number(audited.there)} with the pairs in the order {' '.join(map(str, audited.order))}")

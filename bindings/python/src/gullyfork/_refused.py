@@ -5,7 +5,7 @@ from typing import TYPE_CHECKING, Dict, Mapping, NamedTuple, Optional, Tuple, Ty
 
 import numpy as np
 
-from ._library import words
+from ._library import CALLS, words
 
 if TYPE_CHECKING:
     from ._types import Given, Integers
@@ -160,56 +160,43 @@ def _grid(c: _Call) -> Blame:
             off = np.argwhere(~((np.abs(block) <= GRID_MOST) & (block / GRID == np.rint(block / GRID))))
         if len(off):
             place = tuple(int(k) for k in off[0])
-            return name, f"entry {before + place} is {float(block[place])!r}, no whole multiple of 2^-20 of absolute value at most 2^20"
+            return name, f"entry {before + place} is {float(block[place])!r}, no multiple of 2^-20 from -2^20 to 2^20"
     return _NOBODY
 
 
 def _rule(c: _Call) -> Blame:
-    return broken_rule(c.tables) if c.tables is not None else _NOBODY
+    return broken_rule(c.tables, reason(c.tables)) if c.tables is not None else _NOBODY
 
 
-def broken_rule(t: "Tables") -> Blame:
-    """The first rule of shift tables that is broken, in the order in which it is worth looking; entries are in range."""
-    if t.n_satom != t.n_patom * t.num_trans:
+def reason(t: "Tables") -> Tuple[int, int, int, int, int]:
+    """The five numbers of gf_explain_shift_tables, which is never refused with room for them."""
+    place = np.zeros(5, np.uintp)
+    CALLS["explain_shift_tables"].function(*t.slices, place.ctypes.data, place.size, *t.counts)
+    number, which, i, j, k = (int(x) for x in place)
+    return number, which, i, j, k
+
+
+def broken_rule(t: "Tables", numbers: Tuple[int, int, int, int, int]) -> Blame:
+    """The rule of shift tables that the reason of refusal 6 names, in words."""
+    _, rule, i, j, k = numbers
+    if rule == 0:
         return "perms", f"{t.num_trans} rows: n_satom {t.n_satom} is not n_patom {t.n_patom} x num_trans {t.num_trans}"
-    atoms = np.arange(t.n_satom)
-    if not (t.perms == atoms).all(axis=1).any():
+    if rule == 1:
+        return "perms", f"row {i} sends atoms {j} and {k} to the same place"
+    if rule == 2:
         return "perms", "no row sends each atom to itself (the null shift)"
-    for row, images in enumerate(np.sort(t.perms, axis=1)):
-        if (images != atoms).any():
-            return "perms", f"row {row} sends two atoms to the same place"
-    for a in range(t.n_satom):
-        rows = np.argsort(t.perms[:, a], kind="stable")
-        same = np.flatnonzero(np.diff(t.perms[rows, a]) == 0)
-        if same.size:
-            return "perms", f"rows {rows[same[0]]} and {rows[same[0] + 1]} both send atom {a} to atom {t.perms[rows[same[0]], a]}"
-    return _not_closed(t) or _wrong_maps(t)
-
-
-def _not_closed(t: "Tables") -> Optional[Blame]:
-    known = {row.tobytes() for row in t.perms}
-    for first in range(t.num_trans):
-        for second, both in enumerate(t.perms[:, t.perms[first]]):
-            if both.tobytes() not in known:
-                return "perms", f"row {first} and then row {second} is no row: a shift is missing"
-    return None
-
-
-def _wrong_maps(t: "Tables") -> Blame:
-    for p, a in enumerate(t.p2s):
-        if t.s2pp[a] != p:
-            return "s2pp", f"entry {a} is {t.s2pp[a]}, and p2s[{p}] is {a}"
-    moved = np.argwhere(t.s2pp[t.perms] != t.s2pp)
-    if len(moved):
-        row, a = (int(k) for k in moved[0])
-        return "s2pp", f"it is {t.s2pp[a]} for atom {a} and {t.s2pp[t.perms[row, a]]} for atom {t.perms[row, a]}, where row {row} sends it"
-    atoms = np.arange(t.n_satom)
-    wrong = np.flatnonzero(t.perms[t.nsym_list, atoms] != t.p2s[t.s2pp])
-    if wrong.size:
-        a = int(wrong[0])
-        row = t.nsym_list[a]
-        return "nsym_list", f"entry {a} is {row}, which sends atom {a} to {t.perms[row, a]}, not to {t.p2s[t.s2pp[a]]}"
-    return _NOBODY
+    if rule == 3:
+        return "perms", f"row {i} and then row {j} is no row: a shift is missing"
+    if rule == 4:
+        return "perms", f"rows {i} and {j} both send atom {k} to atom {t.perms[i, k]}"
+    if rule == 5:
+        a = int(t.p2s[i])
+        return "s2pp", f"entry {a} is {t.s2pp[a]}, and p2s[{i}] is {a}"
+    if rule == 6:
+        image = int(t.perms[i, j])
+        return "s2pp", f"it is {t.s2pp[j]} for atom {j} and {t.s2pp[image]} for atom {image}, where row {i} sends it"
+    row = int(t.nsym_list[i])
+    return "nsym_list", f"entry {i} is {row}, which sends atom {i} to {t.perms[row, i]}, not to {t.p2s[t.s2pp[i]]}"
 
 
 _BLAME = {1: _above, 2: _length, 3: _entry, 4: _slab, 5: _representative, 6: _rule, 10: _grid}

@@ -19,6 +19,7 @@ _NONE: Dict[str, Given] = {}
 _NO_NAMES: Dict[str, str] = {}
 _NO_VALUES: Dict[str, object] = {}
 _NOTHING_MADE: Dict[str, Made] = {}
+_OF_ANY_SHAPE = ("work", "drift")  # memory to work in
 
 # the C type of each slice, by call and name
 _TYPES = {c.name: {a.name: a.type for a in c.arguments if a.form == "slice"} for c in CALLS.values()}
@@ -63,7 +64,7 @@ def run(name: str, order: int, *, changed: Mapping[str, Given] = _NONE, read: Ma
     for some in (changed, read):
         for key, given in some.items():
             a, shape = arrays[key], given[1]
-            if a.shape != shape and a.size == _size(shape) and names.get(key) != "work":
+            if a.shape != shape and a.size == _size(shape) and names.get(key) not in _OF_ANY_SHAPE:
                 raise ValueError(f"{names.get(key, key)} has the shape {a.shape}, {name} asks for {shape}")
     if changed and (read or len(changed) > 1):
         _all_apart(changed, read, names)
@@ -108,3 +109,8 @@ def memory(key: str, given: Optional[NDArray[Scalar]], name: str, shape: Union[i
     if given is None:
         return {"made": {key: np.empty(shape, dtype)}}
     return {"lent": {key: (given, shape if isinstance(shape, tuple) else (shape,), name)}}
+
+
+def both(one: Memory, other: Memory) -> Memory:
+    """Memory for two slices."""
+    return {"made": {**one.get("made", {}), **other.get("made", {})}, "lent": {**one.get("lent", {}), **other.get("lent", {})}}

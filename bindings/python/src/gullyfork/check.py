@@ -38,7 +38,6 @@ if TYPE_CHECKING:
 __all__ = ["Bounds", "Cell", "Finding", "MEASURES", "Measure", "Reading", "Seen", "Subject", "check", "read_cell"]
 
 _LARGEST, _SMALLEST = 1e30, 1e-290  # of the largest number of a set, in any unit in use
-_MOST_WORK = 4e9  # numbers times operations that the check of the crystal takes in numpy
 
 
 class Bounds(NamedTuple):
@@ -226,40 +225,31 @@ def _rows(s: Subject) -> Seen:
 
 
 def _drift(s: Subject) -> Seen:
-    """The proved report, where there is one for this kind of set."""
     s.numbers()
     try:
         t = s.whole()
     except Unknown:
-        return _sums(s, None, 1)
-    if s.order == 2:
-        d = gf.drift_report(s.fc) if t is None else gf.drift_report_compact_fc2(s.fc, t)
-        where = f"along {d.along.name.lower()}, {look.place((d.atom, *d.directions), 1)}"
-        return Seen(s.part(d.value), f"worst sum {d.value:.3e} {where}")
-    if s.order == 3 and (t is None or t.n_satom <= look.MOST_READ_OUT):
-        leg = gf.drift_report_fc3(s.fc if t is None else gf.compact_to_full_fc3(s.fc, t))
-        return Seen(s.part(leg.value), f"worst sum {leg.value:.3e} over leg {leg.leg}, {look.place((*leg.atoms, *leg.directions), 2)}")
-    return _sums(s, t, 0)
+        return _sums(s)
+    value, where = look.drift(s.fc, t)
+    return Seen(s.part(value), f"worst sum {value:.3e} {where}")
 
 
-def _sums(s: Subject, t: Optional[Tables], first: int) -> Seen:
+def _sums(s: Subject) -> Seen:
+    """Of a compact set without its tables, over the other atoms."""
     value, words = 0.0, ""
-    for leg in range(s.order - 1, first - 1, -1):
-        most, k = look.worst(look.sums(s.fc, t, leg))
+    for leg in range(s.order - 1, 0, -1):
+        most, k = look.worst(look.sums(s.fc, None, leg))
         if not words or most > value:
             value, words = most, f"worst sum {most:.3e} over leg {leg}, {look.place(k, s.order - 1)}"
-    return Seen(s.part(value), words + ("; over the first leg not known without shift tables" if first else ""), "numpy")
+    return Seen(s.part(value), words + "; over the first leg not known without shift tables", "numpy")
 
 
 def _exchange(s: Subject) -> Seen:
-    t = s.whole()
-    same = np.ones(s.fc.shape, bool)
-    widest: Tuple[float, Tuple[int, ...]] = (0.0, (0,) * s.fc.ndim)
-    for other in look.exchanged(s.fc, t):
-        widest = max(widest, look.worst(s.fc - other), key=lambda w: w[0])
-        same &= look.same_bits(s.fc, other)
-    return Seen(s.part(widest[0]), f"widest difference {widest[0]:.3e} at {look.place(widest[1], s.order)}; {int(same.sum()):,} of "
-                                   f"{same.size:,} numbers have the same bits in all orders of their legs")
+    report = look.difference(s.fc, s.whole())
+    if report.place is None or report.order is None:
+        return Seen(0.0, "no number changes, in any order of its legs")
+    order = " ".join(map(str, report.order))
+    return Seen(s.part(report.value), f"widest difference {report.value:.3e} at {look.place(report.place, s.order)}, pairs in the order {order}")
 
 
 def _audit(s: Subject) -> Seen:
@@ -276,9 +266,9 @@ def _crystal(s: Subject) -> Seen:
         found = crystal.operations((s.cell.lattice, s.cell.positions, s.cell.elements))
     except (ImportError, ValueError) as e:
         raise Unknown(str(e)) from None
-    if s.fc.size * len(found.maps) > _MOST_WORK:
-        raise Unknown(f"not worked out: {s.fc.size:,} numbers and {len(found.maps)} operations are too many for numpy")
-    d = crystal.deviation(s.fc, s.given if s.full and s.order > 2 else t, found, lambda words: s.tell(f"{s.found.source}: {words}"))
+    d = look.deviation(s.fc, t, found.rotations, found.maps)
+    if d.place is None:
+        return Seen(0.0, f"{len(found.maps)} operations; all are obeyed exactly")
     return Seen(s.part(d.value), f"{len(found.maps)} operations; widest difference {d.value:.3e} under operation {d.operation}, "
                                  f"{look.place(d.place, s.order)}")
 
@@ -295,8 +285,11 @@ def _highest(s: Subject) -> Seen:
 
 def _symmetrizing(s: Subject) -> Seen:
     s.symmetrized = look.symmetrized(s.fc, s.whole(), s.level)
-    value, k = look.worst(s.symmetrized - s.fc)
-    return Seen(s.part(value), f"a number would change by {value:.3e} at most, at {look.place(k, s.order)}")
+    change = gf.set_difference(s.symmetrized, s.fc)
+    by = "proved; the drift by numpy" if s.order == 4 else None
+    if change.place is None:
+        return Seen(0.0, "no number would change", by)
+    return Seen(s.part(change.value), f"a number would change by {change.value:.3e} at most, at {look.place(change.place, s.order)}", by)
 
 
 def _none(_: Bounds) -> Optional[float]:
@@ -316,14 +309,14 @@ MEASURES: Tuple[Measure, ...] = (
     Measure("size", "largest number", _NUMPY, _size, lambda b: _SMALLEST, lambda b: _LARGEST, "numbers of no possible size: is their byte order right?"),
     Measure("zero rows", "rows", _NUMPY, _rows, _none, _zero, "rows that are zero throughout"),
     Measure("drift", _PART, _LIBRARY, _drift, _none, lambda b: b.tolerance, "sums over an atom that are not zero"),
-    Measure("exchange", _PART, "proved transposes, numpy differences", _exchange, _none, lambda b: b.tolerance,
+    Measure("exchange", _PART, _LIBRARY, _exchange, _none, lambda b: b.tolerance,
             "numbers that change when atoms are exchanged"),
     Measure("audit", "places", _LIBRARY, _audit, _none, _none, ""),
-    Measure("crystal", _PART, "spglib, numpy: not proved", _crystal, _none, lambda b: b.crystal,
+    Measure("crystal", _PART, "proved, for the operations that spglib finds", _crystal, _none, lambda b: b.crystal,
             "numbers that do not obey the crystal's operations"),
     Measure("lowest", "THz", _PHONOPY, _lowest, lambda b: b.lowest, _none, "imaginary frequencies"),
     Measure("highest", "THz", _PHONOPY, _highest, _none, lambda b: b.highest, "frequencies that no crystal has: is the unit right?"),
-    Measure("symmetrizing", _PART, "proved; above second order the drift by numpy", _symmetrizing, _none, _none, ""),
+    Measure("symmetrizing", _PART, _LIBRARY, _symmetrizing, _none, _none, ""),
 )
 """What is worked out of a set, in this order."""
 
@@ -407,7 +400,7 @@ def check(found: ForceConstants, cell: Union[Cell, Tables, None] = None, bounds:
     []
     >>> fc[0, 1, 0, 0] += 0.5
     >>> check(ForceConstants(fc, "an example")).reading("exchange").words
-    'widest difference 5.000e-01 at atoms 0 1, xx; 142 of 144 numbers have the same bits in all orders of their legs'
+    'widest difference 5.000e-01 at atoms 0 1, xx, pairs in the order 1 0'
     """
     tables = cell.tables if isinstance(cell, Cell) else cell
     s = Subject(found, tables, cell if isinstance(cell, Cell) else None, level, tell)
@@ -492,14 +485,15 @@ def _bounds(a: argparse.Namespace) -> Bounds:
     return Bounds(a.tolerance, a.crystal, a.lowest, a.highest)
 
 
-def _draw(report: _Report, path: str, name: str, found: ForceConstants, finding: Finding, cell: Optional[Cell], tell: Tell) -> None:
+def _draw(report: _Report, path: str, name: str, found: ForceConstants, finding: Finding, cell: Optional[Cell], tell: Tell,
+          length: Optional[str] = None) -> None:
     if not np.isfinite(found.array).all():
         report.say("drawn   nothing: numbers that are not finite")
     elif cell is not None and finding.symmetrized is None:
         report.say("drawn   nothing: tables that are not of this set")
     else:
         tell(f"drawing of {path}")
-        picture.draw(path, name, found, finding.symmetrized, cell)
+        picture.draw(path, name, found, finding.symmetrized, cell, length)
         tell("")
         report.say(f"drawn   {path}")
         report.more["drawn"] = path
@@ -544,7 +538,6 @@ def _delivery(a: argparse.Namespace) -> int:
     if a.cell:
         raise Unreadable(f"{a.file}: a delivery has its own cell; leave --cell out")
     report, tell = _Report(a.json), terminal()
-    plots = picture.paths(a.plot, ["fc2", "fc3"]) if a.plot else []
     _certified(report, a.file)
     try:
         d = files.read_delivery(a.file)
@@ -554,17 +547,20 @@ def _delivery(a: argparse.Namespace) -> int:
         print(f"gullyfork: {e}", file=sys.stderr)
         return report.ended()
     cell = crystal.of_supercell(d.tables, d.lattice, d.positions, d.elements)
-    sets: List[Optional[Doubles]] = []
-    for name, array in (("fc2.f64", d.fc2), ("fc3.f64", d.fc3)):
-        found, path = ForceConstants(array, name), os.path.join(a.file, name)
+    plots = picture.paths(a.plot, list(d.sets)) if a.plot else []
+    units = files.units_of(a.file)
+    sets: Dict[str, Optional[Doubles]] = {}
+    for short, array in d.sets.items():
+        name = f"{short}.f64"
+        found, path = ForceConstants(array, name, None, f"{units[0]}/{units[1]}^{array.ndim // 2}" if units else None), os.path.join(a.file, name)
         finding = check(found, cell, _bounds(a), a.level, tell)
         report.judged(path, found, finding)
         report.faults += [f"{name}: {fault}" for fault in finding.faults]
         if plots:
-            _draw(report, plots[len(sets)], path, found, finding, cell, tell)
-        sets.append(finding.symmetrized)
-    fc2, fc3 = sets
-    if a.symmetrize and fc2 is not None and fc3 is not None:
-        files.write_delivery(a.symmetrize, d._replace(fc2=fc2, fc3=fc3), a.overwrite)
-    _written(report, a, fc2 is not None and fc3 is not None)
+            _draw(report, plots[len(sets)], path, found, finding, cell, tell, units[1] if units else None)
+        sets[short] = finding.symmetrized
+    known = {short: array for short, array in sets.items() if array is not None}
+    if a.symmetrize and len(known) == len(sets):
+        files.write_delivery(a.symmetrize, d._replace(fc2=known["fc2"], fc3=known["fc3"], fc4=known.get("fc4")), a.overwrite)
+    _written(report, a, len(known) == len(sets))
     return report.ended()

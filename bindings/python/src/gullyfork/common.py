@@ -13,7 +13,7 @@ def nint(x: float) -> int:
     Parameters
     ----------
     x : float
-        Halves go away from zero; beyond int64 it stops at the nearest end; NaN gives 0.
+        Ties go away from zero; what is beyond int64 gives its nearest end, and NaN 0.
 
     Examples
     --------

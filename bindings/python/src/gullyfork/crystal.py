@@ -1,22 +1,25 @@
 """The crystal that a set belongs to: its cell, its symmetry operations, and what phonopy knows of it.
 
-Operations are spglib's, the maps of the atoms the library's proved matching's. How far a set is from obeying them is worked out here in
-numpy: it is not proved.
+Operations are spglib's, the maps of the atoms the library's proved matching's. How far a set is from obeying them, the `crystal_report_*` calls
+say.
 """
 from __future__ import annotations
 
+import argparse
 import os
 from typing import TYPE_CHECKING, Dict, List, Mapping, NamedTuple, Optional, Protocol, Tuple, cast
 
 import numpy as np
 
 from . import files
-from ._progress import Tell, quiet
+from ._commands import DONE, added
 from ._shifts import Atoms, atoms_of, nearest
 from .cells import compute_permutation
+from .files import Operations
 from .tables import Tables
 
 if TYPE_CHECKING:
+    from ._commands import Commands
     from ._shifts import CellLike, PhonopyAtomsLike
     from ._types import Doubles, Integers, PrimitiveLike
 
@@ -38,7 +41,7 @@ if TYPE_CHECKING:
 
         def get_qpoints_dict(self) -> Dict[str, Doubles]: ...
 
-__all__ = ["Cell", "Deviation", "Operations", "Unknown", "cell_of", "deviation", "frequencies", "operations", "read_cell", "read_set"]
+__all__ = ["Cell", "Operations", "Unknown", "cell_of", "frequencies", "operations", "read_cell", "read_set"]
 
 
 class Unknown(ValueError):
@@ -67,21 +70,6 @@ class Cell(NamedTuple):
     positions: Doubles
     elements: Tuple[str, ...] = ()
     phonon: Optional[Phonon] = None
-
-
-class Operations(NamedTuple):
-    """Operations of a crystal.
-
-    Attributes
-    ----------
-    rotations : ndarray of float64, shape (num_rot, 3, 3)
-        Cartesian matrices.
-    maps : ndarray of int64, shape (num_rot, n)
-        Operation r sends atom a to maps[r, a].
-    """
-
-    rotations: Doubles
-    maps: Integers
 
 
 def operations(cell: CellLike, symprec: float = 1e-5) -> Operations:
@@ -126,7 +114,16 @@ def operations(cell: CellLike, symprec: float = 1e-5) -> Operations:
     turns, first = np.unique(group["rotations"], axis=0, return_index=True)
     maps = np.array([_sent(atoms, w, v, symprec) for w, v in zip(turns, group["translations"][first])])
     basis = atoms.lattice.T
-    return Operations(np.ascontiguousarray(basis @ turns @ np.linalg.inv(basis)), maps)
+    return Operations(_plain(basis @ turns @ np.linalg.inv(basis)), maps)
+
+
+def _plain(matrices: Doubles) -> Doubles:
+    """Without what rounding left of the numbers that operations have along the usual axes."""
+    out: Doubles = np.ascontiguousarray(matrices)
+    for x in (0.0, 0.5, np.sqrt(0.75), 1.0):
+        near = np.abs(np.abs(out) - x) < 1e-12
+        out[near] = np.copysign(x, out[near]) if x else 0.0
+    return out
 
 
 def _sent(atoms: Atoms, turn: Integers, shift: Doubles, symprec: float) -> Integers:
@@ -138,84 +135,6 @@ def _sent(atoms: Atoms, turn: Integers, shift: Doubles, symprec: float) -> Integ
         other, far = nearest(atoms, moved[a])
         raise ValueError(f"{atoms.name(a)}: no atom where an operation of the crystal sends it; the nearest, {atoms.name(other)}, is {far:.3g} away")
     return match.slots
-
-
-class Deviation(NamedTuple):
-    """How far a set is from obeying the crystal's operations.
-
-    Attributes
-    ----------
-    value : float
-        The largest difference.
-    operation, place : int, tuple of int
-        Where it is: the operation, and the place in the set.
-    """
-
-    value: float
-    operation: int
-    place: Tuple[int, ...]
-
-
-def deviation(fc: Doubles, tables: Optional[Tables], found: Operations, tell: Tell = quiet) -> Deviation:
-    """Work out how far a set is from obeying the crystal's operations, in numpy: this is not proved.
-
-    Of a number of the set and its image under an operation, the difference between the image and the rotated number.
-
-    Parameters
-    ----------
-    fc : ndarray of float64
-        Of order 2, 3 or 4, full or compact.
-    tables : Tables or None
-        Of a compact set. With those of a full set only the rows of the primitive cell's atoms are looked at.
-    found : Operations
-        Of the supercell.
-    tell : callable
-        Is given the step that begins.
-
-    Returns
-    -------
-    Deviation
-
-    Examples
-    --------
-    >>> import numpy as np
-    >>> one = operations((np.eye(3), [[0, 0, 0]], ["Po"]))
-    >>> deviation(np.diag([2.0, 2.0, 2.5]).reshape(1, 1, 3, 3), None, one).value
-    0.5
-    """
-    order = fc.ndim // 2
-    full = fc.shape[0] == fc.shape[1]
-    rows = np.arange(len(fc)) if full and tables is None else cast("Tables", tables).p2s
-    stored = rows if full else np.arange(len(fc))
-    own = fc[stored]
-    most = Deviation(0.0, 0, (0,) * fc.ndim)
-    for r, (rotation, sent) in enumerate(zip(found.rotations, found.maps)):
-        tell(f"operation {r + 1} of {len(found.maps)}")
-        turn = rotation
-        for _ in range(order - 1):
-            turn = np.kron(turn, rotation)
-        rotated = (own.reshape(-1, 3**order) @ turn.T).reshape(own.shape)
-        for k, a in enumerate(rows):
-            difference = np.abs(_image(fc, tables, sent, a, full) - rotated[k])
-            worst = float(difference.max(initial=0.0))
-            if not worst <= most.value:
-                at = np.unravel_index(int(difference.argmax()), difference.shape)
-                most = Deviation(worst, r, (int(stored[k]), *(int(i) for i in at)))
-            if worst != worst:  # NaN: nothing is larger
-                return most
-    return most
-
-
-def _image(fc: Doubles, tables: Optional[Tables], sent: Integers, a: int, full: bool) -> Doubles:
-    """The row of the image of atom a, at the images of all atoms."""
-    b = sent[a]
-    legs = fc.ndim // 2 - 1
-    if full or tables is None:
-        row, columns = fc[b], sent
-    else:
-        row, columns = fc[tables.s2pp[b]], tables.perms[tables.nsym_list[b]][sent]
-    image: Doubles = row[np.ix_(*[columns] * legs)]
-    return image
 
 
 def frequencies(phonon: Phonon, fc: Doubles) -> Tuple[float, float, int]:
@@ -337,3 +256,25 @@ def _phonon(data: Mapping[str, object], order: int, atoms: Optional[int]) -> Pho
         unit, np.array(data[f"{prefix}supercell_matrix"]), primitive_matrix=data.get(f"{prefix}primitive_matrix", data.get("primitive_matrix")),
         factor=get_default_physical_units(calculator)["factor"], calculator=calculator, is_symmetry=False, log_level=0)
     return phonon
+
+
+# ---- the command
+
+_COMMAND = """Find the operations of a delivery's crystal, and write operations.txt.
+
+FOLDER: a delivery, of which tables.txt and cell.txt are read. One operation for each rotation of the space group that spglib finds, as a
+Cartesian matrix and a map of the atoms; `delivery/run` and `delivery/verify` judge the sets by them."""
+
+
+def command(commands: Commands) -> None:
+    """Add the sub-command."""
+    c = added(commands, "operations", _run, _COMMAND)
+    c.add_argument("folder", metavar="FOLDER")
+    c.add_argument("--symprec", type=float, default=1e-5, help="how near to its place an image has to be (%(default)s)")
+    c.add_argument("--overwrite", action="store_true", help="replace operations.txt, if it is there")
+
+
+def _run(a: argparse.Namespace) -> int:
+    found = operations(files.read_supercell(a.folder), a.symprec)
+    print(f"written {files.write_operations(a.folder, found, a.overwrite)}: {len(found.maps)} operations")
+    return DONE

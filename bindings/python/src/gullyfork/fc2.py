@@ -137,7 +137,7 @@ def true_transpose_compact_fc2(fc: Doubles, tables: TablesLike, *, work: Optiona
 
 
 class DriftKind(enum.Enum):
-    """What a drift report found: all sums are zero (STILL), a worst one (WORST), or a sum that is NaN (NO_NUMBER)."""
+    """What a report says of its numbers (sums of a drift report, differences of the others): all are zero (STILL), the worst (WORST), or one is NaN (NO_NUMBER)."""
 
     STILL, WORST, NO_NUMBER = 65, 66, 67
 
@@ -280,7 +280,7 @@ def distribute_fc2(fc2: Doubles, atom_list: ArrayLike, fc_indices_of_atom_list: 
 
 
 def row_sums_fc2(fc: ArrayLike, *, out: Optional[Doubles] = None) -> Doubles:
-    """Return the row sums of a full set: for each atom and pair of directions the sum over the second atom, from 0.0 and rising.
+    """Return the row sums of a full set: for each atom and pair of directions its numbers added up over the second atom.
 
     Parameters
     ----------
@@ -311,7 +311,7 @@ def row_sums_fc2(fc: ArrayLike, *, out: Optional[Doubles] = None) -> Doubles:
 def replace_block_fc2(fc: Doubles, sums: Doubles, block: ArrayLike, i: int, j: int) -> None:
     """Replace block (i, j) of a full set and correct the nine sums of atom i, in place.
 
-    If every number of the set is on the grid (whole multiples of 2^-20 of absolute value at most 2^20), sums that were right stay right,
+    If every number of the set is on the grid (multiples of 2^-20 from -2^20 to 2^20), right sums stay right,
     bit for bit.
 
     Parameters
@@ -343,7 +343,7 @@ def replace_block_fc2(fc: Doubles, sums: Doubles, block: ArrayLike, i: int, j: i
 
 
 def compact_to_full_fc2(fc2: ArrayLike, tables: TablesLike, *, out: Optional[Doubles] = None) -> Doubles:
-    """Read a compact set out to the full one: for any atoms and directions of the supercell the number that it has for them.
+    """Return the full set that a compact set stands for: for any atoms and directions of the supercell the number that it has for them.
 
     Parameters
     ----------

@@ -6,16 +6,18 @@ from typing import TYPE_CHECKING, NamedTuple, Optional, Tuple
 import numpy as np
 
 from . import _arrays
-from ._compact import compact, full_set
+from ._compact import compact, full_set, without_drift
 from ._deltas import distribute, rotate
-from ._run import run
+from ._refused import LIMITS
+from ._run import memory, room, run
 from .fc2 import DriftKind
 
 if TYPE_CHECKING:
     from ._types import ArrayLike, Bytes, Doubles, TablesLike
 
-__all__ = ["LegDrift", "compact_to_full_fc3", "distribute_fc3", "drift_report_fc3", "rotate_delta_fc2s", "set_permutation_symmetry_compact_fc3",
-           "set_permutation_symmetry_fc3", "transpose_compact_fc3", "true_transpose_compact_fc3"]
+__all__ = ["LegDrift", "compact_to_full_fc3", "distribute_fc3", "drift_report_fc3", "perm_trans_symmetrize_compact_fc3",
+           "perm_trans_symmetrize_fc3", "rotate_delta_fc2s", "set_permutation_symmetry_compact_fc3", "set_permutation_symmetry_fc3",
+           "transpose_compact_fc3", "true_transpose_compact_fc3"]
 
 
 def set_permutation_symmetry_fc3(fc3: Doubles) -> None:
@@ -70,6 +72,73 @@ def set_permutation_symmetry_compact_fc3(fc3: Doubles, tables: TablesLike, *, wo
     1.0
     """
     compact("set_permutation_symmetry_compact_fc3", fc3, 3, tables, 3, work)
+
+
+def perm_trans_symmetrize_fc3(fc3: Doubles, level: int = 1, *, drift: Optional[Doubles] = None) -> None:
+    """Symmetrize a full set in place: acoustic sum rule and index permutation.
+
+    Of each leg in turn the mean over its atom is taken off every number, and then the six permutations of any three (atom, direction)
+    pairs get their mean, `level` times. One level leaves sums of the size of rounding. Level 0 is `set_permutation_symmetry_fc3`.
+
+    Parameters
+    ----------
+    fc3 : ndarray of float64, shape (n, n, n, 3, 3, 3)
+        The set, changed in place.
+    level : int
+        How often.
+    drift : ndarray of float64, shape (n**2 * 27,), optional
+        Memory to work in.
+
+    Raises
+    ------
+    Refused
+        1: more than 256 atoms, or a level above 1,000; 2.
+
+    Examples
+    --------
+    >>> fc3 = np.random.default_rng(1).standard_normal((3, 3, 3, 3, 3, 3))
+    >>> perm_trans_symmetrize_fc3(fc3)
+    >>> drift_report_fc3(fc3).value < 1e-14
+    True
+    """
+    n, limit = _arrays.full(fc3, "fc3", 3), LIMITS[3]
+    sums = memory("drift", drift, "drift", room((n, limit), (n, limit), (27, 27)))
+    run("perm_trans_symmetrize_fc3", 3, changed={"fc3": (fc3, (n, n, n, 3, 3, 3))}, **sums, values={"num_atom": n, "level": level})
+
+
+def perm_trans_symmetrize_compact_fc3(fc3: Doubles, tables: TablesLike, level: int = 1, *, work: Optional[Bytes] = None,
+                                      drift: Optional[Doubles] = None) -> None:
+    """Symmetrize a compact set in place: acoustic sum rule and index permutation, in place of phono3py's.
+
+    The steps of `perm_trans_symmetrize_fc3`, with the sums over all atoms of the supercell of what the set reads out to. phono3py takes
+    the sums over the first atom with transposes that leave blocks behind where a shift is half a supercell, and so leaves drift there.
+
+    Parameters
+    ----------
+    fc3 : ndarray of float64, shape (n_patom, n_satom, n_satom, 3, 3, 3)
+        The set, changed in place.
+    tables : Tables, or p2s, s2pp, nsym_list and perms
+    level : int
+        How often.
+    work : ndarray of uint8, shape (n_patom * n_satom**2,), optional
+        Memory to work in.
+    drift : ndarray of float64, shape (n_patom * n_satom * 27,), optional
+        Memory to work in.
+
+    Raises
+    ------
+    Refused
+        1: a count above 256, or a level above 1,000; 2; 3; 6: the tables break a rule.
+
+    Examples
+    --------
+    >>> tables = [0], [0, 0, 0], [0, 2, 1], [[0, 1, 2], [1, 2, 0], [2, 0, 1]]
+    >>> fc3 = np.random.default_rng(1).standard_normal((1, 3, 3, 3, 3, 3))
+    >>> perm_trans_symmetrize_compact_fc3(fc3, tables)
+    >>> drift_report_fc3(compact_to_full_fc3(fc3, tables)).value < 1e-14
+    True
+    """
+    without_drift("perm_trans_symmetrize_compact_fc3", fc3, 3, tables, level, work, drift)
 
 
 def transpose_compact_fc3(fc3: Doubles, tables: TablesLike, t_type: int, *, work: Optional[Bytes] = None) -> None:
@@ -194,9 +263,9 @@ def rotate_delta_fc2s(delta_fc2s: ArrayLike, inv_u: ArrayLike, site_sym_cart: Ar
 
 
 def compact_to_full_fc3(fc3: ArrayLike, tables: TablesLike, *, out: Optional[Doubles] = None) -> Doubles:
-    """Read a compact set out to the full one: for any atoms and directions of the supercell the number that it has for them.
+    """Return the full set that a compact set stands for: for any atoms and directions of the supercell the number that it has for them.
 
-    If every number is on the grid (whole multiples of 2^-20 of absolute value at most 2^20), reading out and then symmetrizing gives the
+    If every number is on the grid (multiples of 2^-20 from -2^20 to 2^20), reading out and then symmetrizing gives the
     same bits as symmetrizing and then reading out.
 
     Parameters

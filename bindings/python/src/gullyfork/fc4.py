@@ -142,7 +142,7 @@ def swap_pairs_compact_fc4(fc4: Doubles, tables: TablesLike, leg_a: int, leg_b: 
         The set, changed in place.
     tables : Tables, or p2s, s2pp, nsym_list and perms
     leg_a, leg_b : int
-        The legs 0 to 3, in either order; equal legs leave the set as it is.
+        The legs 0 to 3, in either order; with equal legs nothing moves.
     work : ndarray of uint8, shape (n_patom * n_satom,), optional
         Memory to work in.
 
@@ -224,9 +224,9 @@ def rotate_delta_fc3s(delta_fc3s: ArrayLike, inv_u: ArrayLike, site_sym_cart: Ar
 
 
 def compact_to_full_fc4(fc4: ArrayLike, tables: TablesLike, *, out: Optional[Doubles] = None) -> Doubles:
-    """Read a compact set out to the full one: for any atoms and directions of the supercell the number that it has for them.
+    """Return the full set that a compact set stands for: for any atoms and directions of the supercell the number that it has for them.
 
-    If every number is on the grid (whole multiples of 2^-20 of absolute value at most 2^20), reading out and then symmetrizing gives the
+    If every number is on the grid (multiples of 2^-20 from -2^20 to 2^20), reading out and then symmetrizing gives the
     same bits as symmetrizing and then reading out.
 
     Parameters

@@ -35,7 +35,8 @@ if TYPE_CHECKING:
 
     Path = Union[str, "os.PathLike[str]"]
 
-__all__ = ["Delivery", "ForceConstants", "Unreadable", "is_shengbte", "read", "read_delivery", "read_shengbte", "write", "write_delivery"]
+__all__ = ["Delivery", "ForceConstants", "Job", "Operations", "Unreadable", "is_shengbte", "read", "read_delivery", "read_job", "read_shengbte", "read_supercell", "units_of", "write", "write_delivery",
+           "write_operations"]
 
 _NPY, _HDF5 = b"\x93NUMPY", b"\x89HDF\r\n\x1a\n"
 _LONGEST = 1 << 20  # letters of a line of text
@@ -479,6 +480,21 @@ def _write_text(path: str, found: ForceConstants) -> None:
 
 # ---- the delivery folder
 
+class Operations(NamedTuple):
+    """Operations of a crystal.
+
+    Attributes
+    ----------
+    rotations : ndarray of float64, shape (num_rot, 3, 3)
+        Cartesian matrices.
+    maps : ndarray of int64, shape (num_rot, n)
+        Operation r sends atom a to maps[r, a].
+    """
+
+    rotations: Doubles
+    maps: Integers
+
+
 class Delivery(NamedTuple):
     """A delivery, as delivery/run reads it.
 
@@ -489,10 +505,14 @@ class Delivery(NamedTuple):
         Basis vectors of the supercell in rows.
     elements : list of str
     positions : ndarray of float64, shape (n_satom, 3)
-    fc2 : ndarray of float64, shape (n_satom, n_satom, 3, 3)
-        The full set of second order.
+    fc2 : ndarray of float64, shape (n_satom or n_patom, n_satom, 3, 3)
+        The set of second order, full or compact.
     fc3 : ndarray of float64, shape (n_patom, n_satom, n_satom, 3, 3, 3)
         The compact set of third order.
+    fc4 : ndarray of float64, shape (n_patom, n_satom, n_satom, n_satom, 3, 3, 3, 3), or None
+        The compact set of fourth order.
+    operations : Operations or None
+        Of the crystal, as operations.txt has them.
     """
 
     tables: Tables
@@ -501,10 +521,17 @@ class Delivery(NamedTuple):
     positions: Doubles
     fc2: Doubles
     fc3: Doubles
+    fc4: Optional[Doubles] = None
+    operations: Optional[Operations] = None
+
+    @property
+    def sets(self) -> Dict[str, Doubles]:
+        """Its sets by the names fc2, fc3 and fc4."""
+        return {name: a for name, a in (("fc2", self.fc2), ("fc3", self.fc3), ("fc4", self.fc4)) if a is not None}
 
 
 def read_delivery(folder: Path) -> Delivery:
-    """Read the delivery in a folder: tables.txt, cell.txt, fc2.f64 and fc3.f64.
+    """Read the delivery in a folder: tables.txt, cell.txt, fc2.f64 and fc3.f64, and, where they are there, fc4.f64 and operations.txt.
 
     Parameters
     ----------
@@ -523,12 +550,112 @@ def read_delivery(folder: Path) -> Delivery:
     try:
         tables = _read_tables(os.path.join(folder, "tables.txt"))
         lattice, elements, positions = _read_cell(os.path.join(folder, "cell.txt"), tables.n_satom)
+        operations = _read_operations(os.path.join(folder, "operations.txt"), tables.n_satom)
         n, p = tables.n_satom, tables.n_patom
-        fc2 = _read_numbers(os.path.join(folder, "fc2.f64"), (n, n, 3, 3))
+        fc2 = _read_numbers(os.path.join(folder, "fc2.f64"), (n, n, 3, 3), (p, n, 3, 3))
         fc3 = _read_numbers(os.path.join(folder, "fc3.f64"), (p, n, n, 3, 3, 3))
+        fourth = os.path.join(folder, "fc4.f64")
+        if n > 64 and os.path.lexists(fourth):
+            raise Unreadable(f"{fourth}: the cell has more than 64 atoms, the limit of fourth order")
+        fc4 = _read_numbers(fourth, (p, n, n, n, 3, 3, 3, 3)) if os.path.lexists(fourth) else None
     except OSError as e:
         raise Unreadable(f"{e.filename}: {e.strerror}") from None
-    return Delivery(tables, lattice, elements, positions, fc2, fc3)
+    return Delivery(tables, lattice, elements, positions, fc2, fc3, fc4, operations)
+
+
+class Job(NamedTuple):
+    """What job.txt tells of a delivery: set number and unit in words, empty where they are not stated, and the bounds that it changes."""
+
+    set: str
+    unit: str
+    bounds: Dict[str, float]
+
+
+def read_job(folder: Path) -> Job:
+    """Read FOLDER/job.txt, in which any line may be missing; there need not be one.
+
+    Parameters
+    ----------
+    folder : str or path
+
+    Returns
+    -------
+    Job
+
+    Raises
+    ------
+    Unreadable
+        It does not hold what it should; the message says where.
+    """
+    path, job = os.path.join(os.fspath(folder), "job.txt"), Job("", "", {})
+    if not os.path.lexists(path):
+        return job
+    try:
+        with _Lines(path) as t:
+            while words := t._words():
+                job = _job(t, job, t.number, words)
+    except OSError as e:
+        raise Unreadable(f"{e.filename}: {e.strerror}") from None
+    return job
+
+
+_MEASURES = ("orders", "drift", "change", "crystal", "left")
+
+
+def _job(t: _Lines, job: Job, number: int, words: List[str]) -> Job:
+    name, entries = words[0], words[1:]
+    if name == "unit" and len(entries) == 2:
+        return job._replace(unit=f"{entries[0]}/{entries[1]}^2, ^3, ^4 at order 2, 3, 4; the lattice in {entries[1]}")
+    if name not in ("set", *_MEASURES):
+        raise t.bad(number, "unit asks for two entries, of energy and of length, as in: unit eV Angstrom" if name == "unit" else
+                    f"it begins with {name}: a job has set, unit, {', '.join(_MEASURES)}")
+    if len(entries) != 1:
+        raise t.bad(number, f"{name} asks for one entry")
+    if name == "set":
+        n = t.integers(number, entries)[0]
+        if not 1 <= n < 2**32:
+            raise t.bad(number, f"set has {n}: a set number is from 1 to 4,294,967,295")
+        return job._replace(set=str(n))
+    x = t.reals(number, entries)[0]
+    if not 0.0 <= x or float(f"{x:g}") != x:
+        raise t.bad(number, f"{name} has {entries[0]}: a bound is a part of the largest number, from 0 on, of six digits at most")
+    return job._replace(bounds={**job.bounds, name: x})
+
+
+def units_of(folder: Path) -> Optional[Tuple[str, str]]:
+    """Return the units of energy and length that a delivery's certificate states, or else its job.txt; None if neither does.
+
+    Parameters
+    ----------
+    folder : str or path
+    """
+    found = ""
+    for name, start in (("certificate.txt", "unit: "), ("job.txt", "unit ")):
+        path = os.path.join(os.fspath(folder), name)
+        if os.path.isfile(path) and not found:
+            with open(path, encoding="utf-8", errors="replace") as f:
+                found = next((line[len(start):].strip() for line in f if line.startswith(start)), "")
+    words = re.fullmatch(r"(\S+)/(\S+)\^2, .*|(\S+)\s+(\S+)", found)
+    if words is None or found == "not stated":
+        return None
+    energy, length = words[1] or words[3], words[2] or words[4]
+    return energy, length
+
+
+def read_supercell(folder: Path) -> Tuple[Doubles, Doubles, List[str]]:
+    """Read the supercell of a delivery: lattice, positions and elements, as `crystal.operations` takes them.
+
+    Parameters
+    ----------
+    folder : str or path
+    """
+    folder = os.fspath(folder)
+    try:
+        n = _read_tables(os.path.join(folder, "tables.txt")).n_satom
+        lattice, elements, positions = _read_cell(os.path.join(folder, "cell.txt"), n)
+    except OSError as e:
+        raise Unreadable(f"{e.filename}: {e.strerror}") from None
+    return lattice, positions, elements
 
 
 def _read_tables(path: str) -> Tables:
@@ -578,17 +705,41 @@ def _read_cell(path: str, n_satom: int) -> Tuple[Doubles, List[str], Doubles]:
     return found[0], elements, found[1]
 
 
-def _read_numbers(path: str, shape: Tuple[int, ...]) -> Doubles:
-    asked = 8 * math.prod(shape)
+def _read_operations(path: str, n_satom: int) -> Optional[Operations]:
+    if not os.path.lexists(path):
+        return None
+    rotations: List[List[float]] = []
+    maps: List[List[int]] = []
+    with _Lines(path) as t:
+        number, words = t.named("num_rot", 1, "a count")
+        count = t.integers(number, words)[0]
+        if not 1 <= count <= 48:
+            raise t.bad(number, f"num_rot is {count}: a crystal has from 1 to 48 operations, apart from the shifts")
+        for _ in range(count):
+            number, words = t.named("matrix", 9, "a matrix")
+            rotations.append(t.reals(number, words))
+            number, words = t.named("atoms", n_satom, "n_satom")
+            maps.append(t.integers(number, words))
+        t.end("the atoms of the last operation")
+    matrices = np.array(rotations).reshape(count, 3, 3)
+    if not np.isfinite(matrices).all():
+        raise Unreadable(f"{path}: a number is not finite")
+    return Operations(matrices, np.array(maps, np.int64).reshape(count, n_satom))
+
+
+def _read_numbers(path: str, shape: Tuple[int, ...], *others: Tuple[int, ...]) -> Doubles:
+    """Of the shape, or of another one, if the file has its length."""
     with opened(path) as f:
         size = os.fstat(f.fileno()).st_size
+        shape = next((other for other in others if size == 8 * math.prod(other) < 8 * math.prod(shape)), shape)
+        asked = 8 * math.prod(shape)
         if size != asked:
             raise Unreadable(f"{path}: it has {size} bytes, the counts ask for {asked // 8} numbers of 8 bytes, {asked}")
         return np.fromfile(f, "<f8").reshape(shape).astype(np.float64, copy=False)
 
 
 def write_delivery(folder: Path, d: Delivery, overwrite: bool = False) -> None:
-    """Write the four files of a delivery; the folder is made if it is not there.
+    """Write the files of a delivery; the folder is made if it is not there.
 
     Parameters
     ----------
@@ -606,14 +757,19 @@ def write_delivery(folder: Path, d: Delivery, overwrite: bool = False) -> None:
     """
     folder = os.fspath(folder)
     n, p = d.tables.n_satom, d.tables.n_patom
-    shapes = {"lattice": (3, 3), "positions": (n, 3), "fc2": (n, n, 3, 3), "fc3": (p, n, n, 3, 3, 3)}
+    second = (p if np.shape(d.fc2)[:1] == (p,) else n, n, 3, 3)
+    shapes = {"lattice": (3, 3), "positions": (n, 3), "fc2": second, "fc3": (p, n, n, 3, 3, 3)}
+    if d.fc4 is not None:
+        shapes["fc4"] = (p, n, n, n, 3, 3, 3, 3)
     for name, shape in shapes.items():
         if np.shape(getattr(d, name)) != shape:
             raise ValueError(f"{name} has the shape {np.shape(getattr(d, name))}, the tables ask for {shape}")
     if len(d.elements) != n:
         raise ValueError(f"elements has {len(d.elements)} entries, the tables ask for {n}")
     os.makedirs(folder, exist_ok=True)
-    paths = {name: os.path.join(folder, name) for name in ("tables.txt", "cell.txt", "fc2.f64", "fc3.f64")}
+    sets = {f"{name}.f64": array for name, array in d.sets.items()}
+    texts = ("tables.txt", "cell.txt") if d.operations is None else ("tables.txt", "cell.txt", "operations.txt")
+    paths = {name: os.path.join(folder, name) for name in (*texts, *sets)}
     there = [path for path in paths.values() if os.path.lexists(path)]
     if there and not overwrite:
         raise FileExistsError(f"{there[0]} is there; overwrite=True replaces it")
@@ -623,9 +779,39 @@ def write_delivery(folder: Path, d: Delivery, overwrite: bool = False) -> None:
     cell: List[Tuple[str, List[float]]] = [("lattice", v) for v in np.asarray(d.lattice).tolist()]
     cell += zip(d.elements, np.asarray(d.positions).tolist())
     for name, lines in (("tables.txt", rows), ("cell.txt", cell)):
-        put_bytes(paths[name], overwrite, "".join(f"{word} {' '.join(map(repr, entries))}\n" for word, entries in lines).encode("ascii"))
-    for name, array in (("fc2.f64", d.fc2), ("fc3.f64", d.fc3)):
+        put_bytes(paths[name], overwrite, _rows(lines))
+    if d.operations is not None:
+        write_operations(folder, d.operations, overwrite)
+    for name, array in sets.items():
         put_bytes(paths[name], overwrite, np.asarray(array).astype("<f8").tobytes())
+
+
+def _rows(lines: List[Tuple[str, List[float]]]) -> bytes:
+    return "".join(f"{word} {' '.join(map(repr, entries))}\n" for word, entries in lines).encode("ascii")
+
+
+def write_operations(folder: Path, found: Operations, overwrite: bool = False) -> str:
+    """Write FOLDER/operations.txt, by which a delivery is judged.
+
+    Parameters
+    ----------
+    folder : str or path
+    found : Operations
+        As `crystal.operations` returns them.
+    overwrite : bool
+        Whether a file that is there is replaced.
+
+    Returns
+    -------
+    str
+        The path of the file.
+    """
+    lines: List[Tuple[str, List[float]]] = [("num_rot", [len(found.maps)])]
+    for rotation, sent in zip(found.rotations, found.maps):
+        lines += [("matrix", rotation.ravel().tolist()), ("atoms", sent.tolist())]
+    path = os.path.join(os.fspath(folder), "operations.txt")
+    put_bytes(path, overwrite, _rows(lines))
+    return path
 
 
 def put_bytes(path: str, overwrite: bool, data: bytes) -> None:

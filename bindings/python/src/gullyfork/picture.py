@@ -1,4 +1,5 @@
-"""The picture of a set: how large the drift is by atom, the largest number of each pair of atoms before and after, and where the audit fails.
+"""The picture of a set: how large the drift is by atom, how its blocks fall off, and by pair of atoms the largest number, what symmetrizing changes
+and how far the orders of the same legs are apart, with the worst place marked.
 
 `draw(..)` draws it; the command is `python -m gullyfork picture FILE OUT.png`.
 """
@@ -7,7 +8,7 @@ from __future__ import annotations
 import argparse
 import itertools
 import os
-from typing import TYPE_CHECKING, Dict, List, Optional, Tuple, Union
+from typing import TYPE_CHECKING, Dict, List, Optional, Tuple
 
 import numpy as np
 
@@ -20,13 +21,11 @@ from .files import ForceConstants, Unreadable
 
 if TYPE_CHECKING:
     from matplotlib.axes import Axes
+    from matplotlib.axis import Axis
     from matplotlib.figure import Figure
-    from matplotlib.image import AxesImage
 
     from ._commands import Commands
-    from ._types import Doubles, Flags, Integers
-
-    Shown = Union[Doubles, Flags]
+    from ._types import Doubles, Integers
 
 __all__ = ["draw"]
 
@@ -46,11 +45,16 @@ def _distances(cell: Cell, first: Integers) -> Doubles:
 class _Set:
     """A set as it is and symmetrized (None where that is not known), and what the panels ask of both."""
 
-    def __init__(self, found: ForceConstants, after: Optional[Doubles], cell: Optional[Cell]) -> None:
+    def __init__(self, found: ForceConstants, after: Optional[Doubles], cell: Optional[Cell], length: Optional[str]) -> None:
         self.fc, self.after, self.cell, self.order, self.full = found.array, after, cell, found.order, found.full
         self.tables = cell.tables if cell and not found.full else None
         self.known = found.full or self.tables is not None
         self.unit = f"({found.unit})" if found.unit else "(unit of the file)"
+        self.length = f"({length})" if length else "(unit of the cell)"
+        elements = cell.elements if cell else ()
+        self.columns = [f"{elements[a]} {a}" if elements else str(a) for a in range(self.fc.shape[1])]
+        first = list(range(len(self.fc))) if self.full or cell is None else cell.tables.p2s.tolist()
+        self.rows = [self.columns[a] for a in first]
 
     def both(self) -> List[Tuple[Doubles, str, str]]:
         """Each with its name and colour."""
@@ -65,9 +69,9 @@ class _Set:
         atom = self.order - 2
         return {name: np.abs(a).max(axis=tuple(k for k in range(a.ndim) if k != atom), initial=0.0) for name, a in found.items()}
 
-    def by_pair(self, a: Shown) -> Shown:
+    def by_pair(self, a: Doubles) -> Doubles:
         """The largest of all numbers that have the first two atoms."""
-        most: Shown = a.max(axis=tuple(range(2, 2 * self.order)), initial=0)
+        most: Doubles = a.max(axis=tuple(range(2, 2 * self.order)), initial=0)
         return most
 
 
@@ -82,7 +86,8 @@ def _drift(axes: Axes, s: _Set) -> None:
     axes.set(xlabel="atom" if s.order == 2 else "second of the two atoms that are left", ylabel=f"largest |sum| {s.unit}{zero}",
              title="Drift by atom")
     axes.legend(fontsize="x-small", loc="upper center", bbox_to_anchor=(0.5, -0.15), ncol=len(s.both()))
-    _ticks(axes, both=False)
+    axes.grid(alpha=0.3)
+    _named(axes.xaxis, s.columns)
 
 
 def _blocks(axes: Axes, s: _Set) -> None:
@@ -95,84 +100,84 @@ def _blocks(axes: Axes, s: _Set) -> None:
     for _ in range(s.order - 2):  # of every further leg
         far = np.maximum(far[..., None], pairs.reshape(len(pairs), *[1] * (far.ndim - 1), -1))
     axes.semilogy(far.ravel(), np.maximum(norms.ravel(), _ZERO), ".", color=_BEFORE, markersize=4)
-    axes.set(xlabel="distance (unit of the cell)" if s.order == 2 else "larger distance from the first atom (unit of the cell)",
+    axes.set(xlabel=("distance " if s.order == 2 else "largest distance from the first atom ") + s.length,
              ylabel=f"norm of a block {s.unit}", title="Blocks by distance, as it is")
     axes.grid(alpha=0.3, which="both")
 
 
-def _exchange(axes: Axes, s: _Set) -> None:
-    axes.set(xlabel=f"log10 of the widest difference {s.unit}", ylabel="number of entries")
-    title = "Differences when atoms are exchanged, as it is"
-    if not s.known:
+def _exchange(axes: Axes, s: _Set, wide: Optional[Doubles]) -> None:
+    title = "Orders of the same legs"
+    if wide is None:
         axes.set_axis_off()
         axes.set_title(f"{title}\nnot known without shift tables (--cell)")
         return
-    wide = np.max([np.abs(s.fc - other) for other in look.exchanged(s.fc, s.tables)], axis=0)
+    axes.set(xlabel=f"log10 of the widest difference {s.unit}", ylabel="number of entries")
     some = wide[wide > 0]
     if some.size:
         axes.hist(np.log10(some), bins=60, color=_RED)
-        axes.set_title(f"{title}\n{some.size:,} of {wide.size:,} entries differ", color=_RED)
+        axes.set_title(f"{title}\n{some.size:,} of {wide.size:,} entries differ")
     else:
         axes.set_title(f"{title}\nnone of {wide.size:,} entries differs", color=_GREEN)
         axes.set(xticks=[], yticks=[])
 
 
-def _ticks(axes: Axes, both: bool = True) -> None:
-    """Atoms are whole numbers."""
-    from matplotlib.ticker import MaxNLocator
-    for axis in (axes.xaxis, axes.yaxis) if both else (axes.xaxis,):
-        axis.set_major_locator(MaxNLocator(integer=True))
-    if not both:
-        axes.grid(alpha=0.3)
+def _named(axis: Axis, names: List[str]) -> None:
+    """Atoms are whole numbers, and have their elements beside them; so many as can be read."""
+    from matplotlib.ticker import FuncFormatter, MaxNLocator
+    axis.set_major_locator(MaxNLocator(nbins=8, integer=True))
+    axis.set_major_formatter(FuncFormatter(lambda x, _: names[int(x)] if x == int(x) and 0 <= x < len(names) else ""))
+    axis.set_tick_params(labelsize="small")
 
 
-def _map(axes: Axes, s: _Set, a: Shown, **how: object) -> AxesImage:
-    """A field for each pair of atoms."""
-    axes.set(xlabel="second atom", ylabel="first atom" if s.full else "first atom (of the primitive cell)")
-    shown = axes.imshow(a, aspect="auto", interpolation="nearest", **how)
-    _ticks(axes)
-    return shown
-
-
-def _maps(figure: Figure, both: List[Axes], s: _Set) -> None:
-    """One scale of colours for both, so that they can be compared; what is zero is white."""
+def _map(figure: Figure, axes: Axes, s: _Set, a: Doubles, title: str, label: str) -> None:
+    """A field for each pair of atoms, of what is positive there; the largest has a ring, and what is zero is white."""
     from matplotlib.colors import LogNorm
-    large = [s.by_pair(np.abs(fc)) for fc, _, _ in s.both()]
-    seen = np.concatenate([a[a > 0.0] for a in large])
-    norm = LogNorm(*((seen.min(), seen.max()) if seen.size and seen.min() < seen.max() else (0.1, 10.0)))
-    for axes, a, (_, name, _) in zip(both, large, s.both()):
-        shown = _map(axes, s, np.where(a > 0.0, a, np.nan), norm=norm)
-        axes.set_title(f"|fc{s.order}| by pair of atoms, {name}")
-        figure.colorbar(shown, ax=axes, label=f"largest |number| of the pair {s.unit}")
+    axes.set(xlabel="second atom", ylabel="first atom" if s.full else "first atom (of the primitive cell)")
+    axes.set_title(title)
+    some = a[a > 0.0]
+    low, high = (some.min(), some.max()) if some.size else (0.1, 10.0)
+    norm = LogNorm(low if low < high else 0.1 * high, high)
+    shown = axes.imshow(np.where(a > 0.0, a, np.nan), aspect="auto", interpolation="nearest", norm=norm)
+    _named(axes.xaxis, s.columns)
+    _named(axes.yaxis, s.rows)
+    if some.size:
+        figure.colorbar(shown, ax=axes, label=f"{label} {s.unit}")
+        row, column = np.unravel_index(int(a.argmax()), a.shape)
+        axes.plot(column, row, "o", color="black", fillstyle="none", markersize=16, markeredgewidth=3)
+        axes.plot(column, row, "o", color="white", fillstyle="none", markersize=16, markeredgewidth=1)
+
+
+def _nothing(axes: Axes, title: str) -> None:
+    axes.set_axis_off()
+    axes.set_title(title)
+
+
+def _change(figure: Figure, axes: Axes, s: _Set) -> None:
     if s.after is None:
-        both[1].set_axis_off()
-        both[1].set_title(f"|fc{s.order}| by pair of atoms, symmetrized:\nnot known, the set cannot be symmetrized")
+        _nothing(axes, "What symmetrizing changes:\nnot known, the set cannot be symmetrized")
+        return
+    change = np.abs(s.after - s.fc)
+    value, k = look.worst(change)
+    at = "" if value == 0.0 else f"\n{value:.3g} at {look.place(k, s.order)} (ring)"
+    _map(figure, axes, s, s.by_pair(change), f"What symmetrizing changes{at or ': nothing'}", "largest change")
 
 
-def _audit(axes: Axes, s: _Set) -> str:
-    """Draws where it fails; what it says."""
-    from matplotlib.colors import ListedColormap
-    if not s.known:
-        axes.set_axis_off()
-        axes.set_title("Audit\nnot known without shift tables (--cell)")
+def _orders(figure: Figure, axes: Axes, s: _Set, wide: Optional[Doubles]) -> str:
+    """Draws how far the orders of the same legs are apart; what the audit says."""
+    if wide is None:
+        _nothing(axes, "Orders of the same legs\nnot known without shift tables (--cell)")
         return "audit not known without shift tables"
-    unlike: Flags = np.zeros(s.fc.shape, bool)
-    for other in look.exchanged(s.fc, s.tables):
-        unlike |= ~look.same_bits(s.fc, other)
-    failing = s.by_pair(unlike)
-    _map(axes, s, failing, cmap=ListedColormap(["honeydew", _RED]), vmin=0, vmax=1)
+    report = look.difference(s.fc, s.tables)
+    at = "none differs" if report.place is None else f"{report.value:.3g} at {look.place(report.place, s.order)} (ring)"
+    _map(figure, axes, s, s.by_pair(wide), f"How far the orders of the same legs are apart\n{at}", "widest difference")
     said = look.audit(s.fc, s.tables)
-    if said.place is None:
-        axes.set_title("Audit of the set as it is: ALIKE\nall orders of any legs read out the same bits", color=_GREEN)
-        return "audit: alike"
-    first = look.place(said.place, s.order)
-    axes.plot(said.place[1], said.place[0], "o", color="black", fillstyle="none", markersize=16, markeredgewidth=2)
-    axes.set_title(f"Audit of the set as it is: FAILS at {int(failing.sum()):,} of {failing.size:,} pairs (red)\nfirst (ring): {first}", color=_RED)
-    return f"AUDIT FAILS, first at {first}"
+    return "audit: alike" if said.place is None else f"audit: unlike, worst {report.value:.3g}, first at {look.place(said.place, s.order)}"
 
 
-def draw(path: str, name: str, found: ForceConstants, symmetrized: Optional[Doubles], cell: Optional[Cell]) -> None:
+def draw(path: str, name: str, found: ForceConstants, symmetrized: Optional[Doubles], cell: Optional[Cell], length: Optional[str] = None) -> None:
     """Draw a set: drift by atom before and after, the norm of blocks by distance, differences under exchange, and maps by pair of atoms.
+
+    The maps: the largest number of a pair, what symmetrizing changes, and how far the orders of the same legs are apart, the worst place in a ring.
 
     Parameters
     ----------
@@ -185,6 +190,8 @@ def draw(path: str, name: str, found: ForceConstants, symmetrized: Optional[Doub
         The same set, symmetrized.
     cell : Cell, optional
         Without it, the distribution of the norms stands in the place of that by distance.
+    length : str, optional
+        The unit of the cell.
 
     Raises
     ------
@@ -198,19 +205,18 @@ def draw(path: str, name: str, found: ForceConstants, symmetrized: Optional[Doub
     matplotlib.use("Agg")
     import matplotlib.pyplot as plt
 
-    s = _Set(found, symmetrized, cell)
+    s = _Set(found, symmetrized, cell, length)
+    wide = np.max([np.abs(s.fc - other) for other in look.exchanged(s.fc, s.tables)], axis=0) if s.known else None
     figure, (above, below) = plt.subplots(2, 3, figsize=(18, 10), layout="constrained")
     _drift(above[0], s)
     _blocks(above[1], s)
-    _exchange(above[2], s)
-    _maps(figure, below[:2], s)
-    said = _audit(below[2], s)
+    _exchange(above[2], s, wide)
+    _map(figure, below[0], s, s.by_pair(np.abs(s.fc)), f"|fc{s.order}| by pair of atoms, as it is", "largest |number|")
+    _change(figure, below[1], s)
+    said = _orders(figure, below[2], s, wide)
     kind = f"{'full' if s.full else 'compact'} set of order {s.order}, {' x '.join(map(str, s.fc.shape[:s.order]))} atoms"
-    if s.known and s.order < 4:
-        drift = f"drift: {look.drift_words(s.fc, s.tables, bits=False)}"
-    else:
-        drift = "drift: no report of fourth order yet" if s.known else "drift of columns not known without shift tables"
-    figure.suptitle(f"{name}: {kind}\n{said}; {drift}", color=_RED if said.startswith("AUDIT") else "black")
+    drift = f"drift: {look.drift_words(s.fc, s.tables, bits=False)[1]}" if s.known else "drift of columns not known without shift tables"
+    figure.suptitle(f"{name}: {kind}\n{said}; {drift}", fontsize="x-large", color=_RED if "unlike" in said else "black")
     figure.savefig(path, dpi=90)
     plt.close(figure)
 
@@ -219,7 +225,8 @@ def draw(path: str, name: str, found: ForceConstants, symmetrized: Optional[Doub
 
 _COMMAND = """Draw a set: where its drift is, how its blocks fall off, and where numbers that should be the same are not.
 
-FILE: as for `check`. OUT.png: of a delivery OUT-fc2.png and OUT-fc3.png are drawn. An older drawing is replaced, nothing else is."""
+FILE: as for `check`. OUT.png: of a delivery OUT-fc2.png and OUT-fc3.png are drawn, and OUT-fc4.png if it has fourth order. An older drawing is
+replaced, nothing else is."""
 
 
 def command(commands: Commands) -> None:
@@ -246,13 +253,17 @@ def paths(path: str, names: List[str]) -> List[str]:
 
 def _run(a: argparse.Namespace) -> int:
     folder = os.path.isdir(a.file)
-    outs = paths(a.out, ["fc2", "fc3"] if folder else [])
     cell: Optional[Cell]
+    length: Optional[str] = None
     if folder:
         d = files.read_delivery(a.file)
         cell = Cell(d.tables, d.lattice, d.positions, tuple(d.elements))
-        sets = [ForceConstants(d.fc2, "fc2.f64"), ForceConstants(d.fc3, "fc3.f64")]
+        units = files.units_of(a.file)
+        length = units[1] if units else None
+        sets = [ForceConstants(array, f"{name}.f64", None, f"{units[0]}/{units[1]}^{array.ndim // 2}" if units else None) for name, array in d.sets.items()]
+        outs = paths(a.out, list(d.sets))
     else:
+        outs = paths(a.out, [])
         one, cell = crystal.read_set(a.file, a.cell)
         sets = [one]
     tell = terminal()
@@ -262,7 +273,7 @@ def _run(a: argparse.Namespace) -> int:
         tables = None if cell is None or found.full else cell.tables
         tell(f"drawing of {out}")
         after = look.symmetrized(found.array, tables, 3) if found.full or tables is not None else None
-        draw(out, os.path.join(a.file, found.source) if folder else a.file, found, after, cell)
+        draw(out, os.path.join(a.file, found.source) if folder else a.file, found, after, cell, length)
         tell("")
         print(f"drawn   {out}")
     return DONE

@@ -25,6 +25,8 @@ replaced as a whole, and never with a record that the others do not allow. `pyth
 from __future__ import annotations
 
 import enum
+import hashlib
+import os
 from typing import Iterator, List, NamedTuple, Optional, Protocol, Tuple, Union
 
 import numpy as np
@@ -39,7 +41,7 @@ from ._refused import Refused
 from ._run import run
 
 __all__ = [
-    "EMPTY", "Kind", "Record", "Standing", "State", "append", "append_roll", "appended", "begin", "is_roll", "is_roll_former", "load",
+    "EMPTY", "Kind", "Record", "Standing", "State", "append", "append_roll", "appended", "begin", "is_roll", "is_roll_former", "label_of", "load",
     "read_roll", "read_roll_former", "records", "records_former", "renew", "retire", "retire_all", "retired", "stands_now",
 ]
 
@@ -433,7 +435,7 @@ def stands_now(lent: BytesLike, set: int, *, count: Optional[int] = None) -> Sta
 
 
 def retire_all(lent: BytesLike, set: int, *, count: int) -> int:
-    """Retire a set and every set linked to it by replacements, earlier or later, in place.
+    """Retire a set, those it replaces and those that replace it, step by step, in place.
 
     A retirement with an empty label is added for each that has none, by rising number.
 
@@ -646,7 +648,7 @@ def append(path: Path, kind: int, set: int, earlier: int = 0, label: bytes = b""
 
 
 def retire(path: Path, set: int, *, tell: Tell = quiet) -> List[int]:
-    """Retire a set of the roll in a file, and every set linked to it by replacements.
+    """Retire a set of the roll in a file, and all sets that replacements link with it.
 
     Parameters
     ----------
@@ -708,3 +710,27 @@ def renew(older: Path, path: Path, *, anyway: bool = False) -> None:
     for r in records_former(data):
         new = appended(new, r.kind, r.set, r.earlier, r.label)
     _begin(path, new if anyway else _allowed("renew", new))
+
+
+# ---- certificates
+
+def label_of(path: Path) -> Tuple[bytes, str]:
+    """Return the label of the record that delivers a certificate, and the set number that the certificate states, or "not stated".
+
+    Parameters
+    ----------
+    path : str or path
+        A delivery's certificate.txt.
+
+    Raises
+    ------
+    ValueError
+        It is no certificate of a delivery.
+    """
+    with open(path, "rb") as f:
+        text = f.read(1 << 19)
+    _, found, rest = text.partition(b"\nset: ")
+    stated = rest.split(b"\n")[0]
+    if len(text) == 1 << 19 or not text.startswith(b"gullyfork certificate ") or not found or len(stated) >= 16:
+        raise ValueError(f"{os.fsdecode(path)}: it is no certificate of a delivery")
+    return b"sha256 " + hashlib.sha256(text).hexdigest().encode(), stated.decode("utf-8", "replace")

@@ -1,19 +1,19 @@
 """Shift tables: how the translations of the primitive cell permute the atoms of the supercell."""
 from __future__ import annotations
 
-from typing import TYPE_CHECKING, Iterator, List, Optional, Tuple, Type, Union
+from typing import TYPE_CHECKING, Iterator, List, NamedTuple, Optional, Tuple, Type, Union
 
 import numpy as np
 
 from . import _arrays, _shifts
-from ._refused import Refused
+from ._refused import Refused, broken_rule, reason
 from ._run import run
 
 if TYPE_CHECKING:
     from ._shifts import CellLike
     from ._types import ArrayLike, Integers, PrimitiveLike, TablesLike
 
-__all__ = ["Tables", "check_shift_tables"]
+__all__ = ["Explanation", "Tables", "check_shift_tables", "explain_shift_tables"]
 
 
 class Tables:
@@ -217,3 +217,42 @@ def check_shift_tables(tables: TablesLike) -> None:
     >>> check_shift_tables(([0], [0, 0], [0, 1], [[0, 1], [1, 0]]))
     """
     Tables.given(tables).check()
+
+
+class Explanation(NamedTuple):
+    """Why shift tables are refused, as `explain_shift_tables` says it.
+
+    Attributes
+    ----------
+    number : int
+        What `check_shift_tables` answers: 0, or the refusal 1, 2, 3 or 6.
+    which : int
+        1: 0 n_satom, 1 n_patom, 2 num_trans. 2 and 3: 0 perms, 1 p2s, 2 s2pp, 3 nsym_list. 6: the rule, 0 to 7, in the order of the
+        header gullyfork.h.
+    place : tuple of three ints
+        3: the entry of the table, row after row. 6: the least rows and atoms that break the rule. What is not named is 0.
+    words : str or None
+        The rule that is broken, in words.
+    """
+
+    number: int
+    which: int
+    place: Tuple[int, int, int]
+    words: Optional[str]
+
+
+def explain_shift_tables(tables: TablesLike) -> Explanation:
+    """Say why shift tables are refused: the first count, table, entry or rule that is wrong. Proved, and never refused.
+
+    Parameters
+    ----------
+    tables : Tables, or p2s, s2pp, nsym_list and perms
+
+    Examples
+    --------
+    >>> explain_shift_tables(([0], [0, 0, 0], [0, 1, 2], [[0, 1, 2], [1, 2, 0], [2, 0, 1]]))
+    Explanation(number=6, which=7, place=(1, 0, 0), words='nsym_list: entry 1 is 1, which sends atom 1 to 2, not to 0')
+    """
+    t = Tables.given(tables)
+    number, which, i, j, k = numbers = reason(t)
+    return Explanation(number, which, (i, j, k), ": ".join(str(w) for w in broken_rule(t, numbers)) if number == 6 else None)
