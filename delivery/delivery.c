@@ -1,22 +1,40 @@
 /* A delivery on disk: text for cell and tables, raw numbers of 8 bytes (the lowest byte first) for the sets. */
 #include "delivery.h"
 #include "progress.h"
+#include "text.h"
 
 #include <errno.h>
 #include <fcntl.h>
-#include <math.h>
-#include <stdarg.h>
 #include <stdio.h>
 #include <stdlib.h>
 #include <string.h>
 #include <sys/stat.h>
 
 #define MOST_ATOMS 256         /* the limit of third order */
-#define MOST_TEXT (16u << 20u) /* bytes; tables of so many atoms have no more than a tenth of it */
+#define MOST_FOURTH 64         /* the limit of fourth order */
+#define MOST_OPERATIONS 48     /* of a crystal, apart from the shifts */
 #define PART (1u << 17u)       /* numbers that are read or written between two looks at the clock */
 
 const char *program = "delivery";
-const char *const delivered[DELIVERED] = {"tables.txt", "cell.txt", "fc2.f64", "fc3.f64"};
+const char *const delivered[DELIVERED] = {"tables.txt", "cell.txt", "operations.txt", "fc2.f64", "fc3.f64", "fc4.f64"};
+
+int optional(const char *name)
+{
+    return strcmp(name, "operations.txt") == 0 || strcmp(name, "fc4.f64") == 0;
+}
+
+const char *set_name(const struct set *s)
+{
+    return delivered[s->order + 1];
+}
+
+int there(const char *folder, const char *name)
+{
+    char path[PATH_ROOM];
+    struct stat is;
+    path_in(folder, name, path);
+    return lstat(path, &is) == 0;
+}
 
 void fail(const char *name, const char *what)
 {
@@ -59,7 +77,7 @@ const char *open_to_read(const char *path, FILE **f, long long *bytes)
     return *f ? NULL : strerror(errno);
 }
 
-static FILE *open_in(const char *folder, const char *name, char path[PATH_ROOM], long long *bytes)
+FILE *open_in(const char *folder, const char *name, char path[PATH_ROOM], long long *bytes)
 {
     FILE *f = NULL;
     path_in(folder, name, path);
@@ -69,124 +87,7 @@ static FILE *open_in(const char *folder, const char *name, char path[PATH_ROOM],
     return f;
 }
 
-/* ---- text: one line at a time, split into words, so that a message can say where it is */
-
-struct text {
-    char path[PATH_ROOM];
-    FILE *f;
-    size_t number; /* of the line, from 1 */
-    char *line;
-    size_t size;
-};
-
-static void bad_line(const struct text *t, const char *what, ...)
-{
-    va_list args;
-    va_start(args, what);
-    fflush(stdout);
-    fprintf(stderr, "%s: %s, line %zu: ", program, t->path, t->number);
-    vfprintf(stderr, what, args);
-    fputc('\n', stderr);
-    va_end(args);
-    exit(1);
-}
-
-static void open_text(struct text *t, const char *folder, const char *name)
-{
-    long long bytes = 0;
-    t->f = open_in(folder, name, t->path, &bytes);
-    if (bytes > MOST_TEXT)
-        fail(t->path, "it is larger than 16 megabytes, and no text of a delivery is");
-    t->number = 0;
-    t->line = NULL;
-    t->size = 0;
-}
-
-/* the next word of the line, NULL if there is none */
-static char *next_word(void)
-{
-    return strtok(NULL, " \t\r\n");
-}
-
-/* whether a byte may stand in a text: ASCII, and of what is not printed only the tabulator and the ends of lines */
-static int of_text(char c)
-{
-    return (c >= ' ' && c <= '~') || c == '\t' || c == '\r' || c == '\n';
-}
-
-/* the first word of the next line that has one, NULL at the end of the file */
-static char *next_line(struct text *t)
-{
-    errno = 0;
-    for (;;) {
-        t->number++;
-        ssize_t length = getline(&t->line, &t->size, t->f);
-        if (length < 0) {
-            if (ferror(t->f))
-                fail(t->path, strerror(errno));
-            return NULL;
-        }
-        for (ssize_t k = 0; k < length; k++)
-            if (!of_text(t->line[k]))
-                bad_line(t, "it has a byte that is none of a text");
-        char *word = strtok(t->line, " \t\r\n");
-        if (word)
-            return word;
-    }
-}
-
-static void expect(struct text *t, const char *name)
-{
-    const char *word = next_line(t);
-    if (!word)
-        bad_line(t, "the file ends where a line %s is expected", name);
-    if (strcmp(word, name) != 0)
-        bad_line(t, "it begins with %s where %s is expected", word, name);
-}
-
-static void close_text(struct text *t, const char *last)
-{
-    const char *word = next_line(t);
-    if (word)
-        bad_line(t, "%s stands after %s, which is the last that is expected", word, last);
-    free(t->line);
-    fclose(t->f);
-}
-
-static int64_t integer(const struct text *t, const char *name, const char *word)
-{
-    char *end;
-    errno = 0;
-    long long x = strtoll(word, &end, 10);
-    if (*end != '\0' || errno != 0)
-        bad_line(t, "%s has %s, which is no whole number", name, word);
-    return x;
-}
-
-static double real(const struct text *t, const char *name, const char *word)
-{
-    char *end;
-    double x = strtod(word, &end);
-    if (*end != '\0')
-        bad_line(t, "%s has %s, which is no number", name, word);
-    if (!isfinite(x))
-        bad_line(t, "%s has %s, which is not finite", name, word);
-    return x;
-}
-
-/* the rest of the line has as many words as the count says: `what` names it */
-static void read_words(const struct text *t, const char *name, const char *what, size_t n, int64_t *integers, double *reals)
-{
-    size_t got = 0;
-    for (char *word = next_word(); word; word = next_word(), got++) {
-        if (got < n && integers)
-            integers[got] = integer(t, name, word);
-        if (got < n && reals)
-            reals[got] = real(t, name, word);
-    }
-    if (got != n)
-        bad_line(t, "%s has %zu entries, %s asks for %zu", name, got, what, n);
-}
+/* ---- texts */
 
 static size_t read_count(struct text *t, const char *name)
 {
@@ -196,12 +97,6 @@ static size_t read_count(struct text *t, const char *name)
     if (n < 0 || n > MOST_ATOMS)
         bad_line(t, "%s is %lld: a count is from 0 to %d, the limit of third order", name, (long long)n, MOST_ATOMS);
     return (size_t)n;
-}
-
-static void read_integers(struct text *t, const char *name, const char *what, int64_t *out, size_t n)
-{
-    expect(t, name);
-    read_words(t, name, what, n, out, NULL);
 }
 
 static void read_tables(const char *folder, struct delivery *d)
@@ -235,25 +130,47 @@ static void read_cell(const char *folder, struct delivery *d)
             d->lattice[x * 3 + i] = vector[x];
     }
     d->pos = room(d->n_satom * 3, sizeof *d->pos);
+    d->elements = room(d->n_satom, sizeof *d->elements);
     for (size_t a = 0; a < d->n_satom; a++) {
-        if (!next_line(&t))
+        const char *element = next_line(&t);
+        if (!element)
             bad_line(&t, "the file ends after %zu atoms, n_satom of tables.txt asks for %zu", a, d->n_satom);
+        if (strlen(element) >= ELEMENT)
+            bad_line(&t, "an element's name has at most %d letters", ELEMENT - 1);
+        strcpy(d->elements[a], element);
         read_words(&t, "the atom", "a position", 3, NULL, d->pos + a * 3);
     }
     close_text(&t, "the last of n_satom atoms");
 }
 
+static void read_operations(const char *folder, struct delivery *d)
+{
+    struct text t;
+    d->num_rot = 0;
+    d->r_carts = NULL;
+    d->operations = NULL;
+    if (!there(folder, "operations.txt"))
+        return;
+    open_text(&t, folder, "operations.txt");
+    int64_t count;
+    read_integers(&t, "num_rot", "a count", &count, 1);
+    if (count < 1 || count > MOST_OPERATIONS)
+        bad_line(&t, "num_rot is %lld: a crystal has from 1 to %d operations, apart from the shifts", (long long)count, MOST_OPERATIONS);
+    d->num_rot = (size_t)count;
+    d->r_carts = room(d->num_rot * 9, sizeof *d->r_carts);
+    d->operations = room(d->num_rot * d->n_satom, sizeof *d->operations);
+    for (size_t r = 0; r < d->num_rot; r++) {
+        expect(&t, "matrix");
+        read_words(&t, "matrix", "a matrix", 9, NULL, d->r_carts + r * 9);
+        read_integers(&t, "atoms", "n_satom", d->operations + r * d->n_satom, d->n_satom);
+    }
+    close_text(&t, "the atoms of the last operation");
+}
+
 /* ---- sets */
 
-static double *read_set(const char *folder, const char *name, size_t n)
+static double *read_numbers(FILE *f, const char *path, const char *name, size_t n)
 {
-    char path[PATH_ROOM];
-    long long bytes = 0;
-    FILE *f = open_in(folder, name, path, &bytes);
-    if (bytes != (long long)(n * 8)) {
-        fprintf(stderr, "%s: %s: it has %lld bytes, the counts ask for %zu numbers of 8 bytes, %zu\n", program, path, bytes, n, n * 8);
-        exit(1);
-    }
     double *set = room(n, sizeof *set);
     size_t got = 0, part = 1;
     begin_step("reading of", name);
@@ -264,8 +181,39 @@ static double *read_set(const char *folder, const char *name, size_t n)
     end_step();
     if (got < n)
         fail(path, ferror(f) ? strerror(errno) : "it became shorter while it was read");
-    fclose(f);
     return set;
+}
+
+/* how many numbers the set has, full or compact */
+static size_t numbers_of(const struct delivery *d, size_t order, int full)
+{
+    size_t n = (full ? d->n_satom : d->n_patom) * 3;
+    for (size_t k = 1; k < order; k++)
+        n *= d->n_satom * 3;
+    return n;
+}
+
+/* a set of second order is full or compact, as its length says */
+static void read_set(const char *folder, const struct delivery *d, size_t order, struct set *s)
+{
+    char path[PATH_ROOM];
+    long long bytes = 0;
+    *s = (struct set){order, order == 2, NULL, numbers_of(d, order, order == 2)};
+    if (optional(set_name(s)) && !there(folder, set_name(s)))
+        return;
+    FILE *f = open_in(folder, set_name(s), path, &bytes);
+    if (order == 4 && d->n_satom > MOST_FOURTH)
+        fail(path, "the cell has more than 64 atoms, the limit of fourth order");
+    if (order == 2 && bytes == (long long)(numbers_of(d, 2, 0) * 8) && d->n_patom < d->n_satom) {
+        s->full = 0;
+        s->count = numbers_of(d, 2, 0);
+    }
+    if (bytes != (long long)(s->count * 8)) {
+        fprintf(stderr, "%s: %s: it has %lld bytes, the counts ask for %zu numbers of 8 bytes, %zu\n", program, path, bytes, s->count, s->count * 8);
+        exit(1);
+    }
+    s->numbers = read_numbers(f, path, set_name(s), s->count);
+    fclose(f);
 }
 
 /* a new file of the set; 0, or the error */
@@ -291,8 +239,9 @@ void read_delivery(const char *folder, struct delivery *d)
 {
     read_tables(folder, d);
     read_cell(folder, d);
-    d->fc2 = read_set(folder, "fc2.f64", d->n_satom * d->n_satom * 9);
-    d->fc3 = read_set(folder, "fc3.f64", d->n_patom * d->n_satom * d->n_satom * 27);
+    read_operations(folder, d);
+    for (size_t order = 2; order <= 4; order++)
+        read_set(folder, d, order, &d->sets[order - 2]);
 }
 
 int same_folder(const char *folder, const char *out)
@@ -323,25 +272,29 @@ static int copy_file(const char *from, const char *path)
 
 int write_files(const char *from, const char *folder, const struct delivery *d)
 {
-    const double *sets[] = {NULL, NULL, d->fc2, d->fc3};
-    size_t numbers[] = {0, 0, d->n_satom * d->n_satom * 9, d->n_patom * d->n_satom * d->n_satom * 27};
     char path[PATH_ROOM], text[PATH_ROOM];
     int why = 0;
     for (size_t k = 0; k < DELIVERED && why == 0; k++) {
+        const struct set *s = k < 3 ? NULL : &d->sets[k - 3];
+        if (s ? !s->numbers : k == 2 && d->num_rot == 0)
+            continue;
         path_in(from, delivered[k], text);
         path_in(folder, delivered[k], path);
-        why = sets[k] ? write_set(path, delivered[k], sets[k], numbers[k]) : copy_file(text, path);
+        why = s ? write_set(path, delivered[k], s->numbers, s->count) : copy_file(text, path);
     }
     return why;
 }
 
 void free_delivery(struct delivery *d)
 {
+    free(d->elements);
     free(d->pos);
     free(d->p2s);
     free(d->s2pp);
     free(d->nsym_list);
     free(d->perms);
-    free(d->fc2);
-    free(d->fc3);
+    free(d->r_carts);
+    free(d->operations);
+    for (size_t k = 0; k < 3; k++)
+        free(d->sets[k].numbers);
 }

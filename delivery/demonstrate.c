@@ -23,7 +23,7 @@ static double read_out(const struct delivery *d, size_t x, size_t y, size_t z)
     size_t n = d->n_satom;
     const int64_t *row = d->perms + (size_t)d->nsym_list[x / 3] * n;
     size_t block = ((size_t)d->s2pp[x / 3] * n + (size_t)row[y / 3]) * n + (size_t)row[z / 3];
-    return d->fc3[block * 27 + (x % 3) * 9 + (y % 3) * 3 + z % 3];
+    return d->sets[1].numbers[block * 27 + (x % 3) * 9 + (y % 3) * 3 + z % 3];
 }
 
 static int same_bits(double a, double b)
@@ -70,7 +70,7 @@ static void symmetrized(struct delivery *d)
     uint8_t *done = room(blocks, 1);
     printf("all orders of legs\n");
     print_alike(d, "before");
-    must(symmetrize_third(d, d->nsym_list, d->fc3, blocks * 27, done), "set_permutation_symmetry_compact_fc3");
+    must(symmetrize_third(d, d->nsym_list, d->sets[1].numbers, blocks * 27, done), "set_permutation_symmetry_compact_fc3");
     size_t unlike = print_alike(d, "after");
     if (unlike != 0)
         fault("fc3.f64: %zu triples read out differing bits after symmetrizing", unlike);
@@ -111,24 +111,24 @@ static void transposes(const struct delivery *d)
     static const int64_t list[] = {0, 1, 2, 2, 1, 0};
     size_t n = d->n_satom, numbers = d->n_patom * n * n * 27, legs = n * 3, all = legs * legs * legs;
     struct delivery copy = *d;
-    copy.fc3 = room(numbers, sizeof *copy.fc3);
+    copy.sets[1].numbers = room(numbers, sizeof *copy.sets[1].numbers);
     uint8_t *done = room(d->n_patom * n, 1);
-    memcpy(copy.fc3, d->fc3, numbers * sizeof *copy.fc3);
-    transpose_third(d, gf_transpose_compact_fc3, copy.fc3, done, 0);
+    memcpy(copy.sets[1].numbers, d->sets[1].numbers, numbers * sizeof *copy.sets[1].numbers);
+    transpose_third(d, gf_transpose_compact_fc3, copy.sets[1].numbers, done, 0);
     size_t by_old = moved(d, &copy);
-    memcpy(copy.fc3, d->fc3, numbers * sizeof *copy.fc3);
-    transpose_third(d, gf_true_transpose_compact_fc3, copy.fc3, done, 0);
+    memcpy(copy.sets[1].numbers, d->sets[1].numbers, numbers * sizeof *copy.sets[1].numbers);
+    transpose_third(d, gf_true_transpose_compact_fc3, copy.sets[1].numbers, done, 0);
     size_t by_true = moved(d, &copy);
-    memcpy(copy.fc3, d->fc3, numbers * sizeof *copy.fc3);
+    memcpy(copy.sets[1].numbers, d->sets[1].numbers, numbers * sizeof *copy.sets[1].numbers);
     for (size_t k = 0; k < sizeof list / sizeof *list; k++)
-        transpose_third(d, gf_true_transpose_compact_fc3, copy.fc3, done, list[k]);
-    int back = memcmp(copy.fc3, d->fc3, numbers * sizeof *copy.fc3) == 0;
+        transpose_third(d, gf_true_transpose_compact_fc3, copy.sets[1].numbers, done, list[k]);
+    int back = memcmp(copy.sets[1].numbers, d->sets[1].numbers, numbers * sizeof *copy.sets[1].numbers) == 0;
     printf("transposes of type 0, as delivered: of %zu read-out entries %zu are right after the Rust's, %zu after the true one\n", all, by_old,
            by_true);
     printf("  true transposes 0, 1, 2, then 2, 1, 0: the bits are %s\n", back ? "as they were" : "NOT as they were");
     if (by_true != all || !back)
         fault("fc3.f64: the true transposes did not move every number");
-    free(copy.fc3);
+    free(copy.sets[1].numbers);
     free(done);
 }
 
@@ -139,9 +139,9 @@ static void refuse(const struct delivery *d, const char *damage, const int64_t *
     size_t blocks = d->n_patom * d->n_satom * d->n_satom;
     double *set = room(blocks * 27, sizeof *set);
     uint8_t *done = room(blocks, 1);
-    memcpy(set, d->fc3, blocks * 27 * sizeof *set);
+    memcpy(set, d->sets[1].numbers, blocks * 27 * sizeof *set);
     uint8_t answer = symmetrize_third(d, nsym_list, set, len, done);
-    int kept = memcmp(set, d->fc3, blocks * 27 * sizeof *set) == 0;
+    int kept = memcmp(set, d->sets[1].numbers, blocks * 27 * sizeof *set) == 0;
     printf("  %s: refusal %d, %s; the set is %s\n", damage, answer, gf_words(answer), kept ? "as it was" : "CHANGED");
     if (answer == GF_DONE || !kept)
         fault("a damaged copy was not refused, or was changed");
@@ -166,6 +166,7 @@ static void damaged_copies(const struct delivery *d)
 
 int main(int argc, char **argv)
 {
+    fill_standard_streams();
     int help = argc == 2 && strcmp(argv[1], "--help") == 0;
     if (argc != 2 || help) {
         fputs("usage: demonstrate FOLDER\nShows on the delivery in FOLDER what the calls of third order do; writes nothing. Status 0: all is as it should be.\n",

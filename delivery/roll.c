@@ -1,6 +1,6 @@
 /*
  * The dispatch desk's roll: lists one, begins one, appends to one, retires a set everywhere, brings an older one over. `roll help` says how,
- * and docs/GUIDE.md has the clerk's page. The Python package has the same command, with the same words (bindings/python/src/gullyfork/_desk.py).
+ * and docs/DELIVERIES.md has the clerk's page. The Python package has the same command, with the same words (bindings/python/src/gullyfork/_desk.py).
  *
  * No record is written that another one does not allow (gf_stands_now refuses such a roll whole) unless the clerk says --anyway; a file that is
  * not a roll is named and left alone; how a roll is replaced is alone.c's. The button shows what it would append, and asks first. An older
@@ -8,17 +8,15 @@
  */
 #include "alone.h"
 #include "gullyfork.h"
+#include "records.h"
 
 #include <errno.h>
-#include <fcntl.h>
 #include <inttypes.h>
 #include <signal.h>
 #include <stdlib.h>
 #include <string.h>
 #include <unistd.h>
 
-#define MOST 65536 /* bytes of a roll */
-#define RECORDS 1000
 #define WRONG_USAGE 2
 #define NOT_AGREED 3
 
@@ -30,8 +28,8 @@ static void say(FILE *out)
 {
     fputs("usage: roll list FILE [SET]\n"
           "       roll new FILE\n"
-          "       roll append [--anyway] FILE delivery SET [LABEL]\n"
-          "       roll append [--anyway] FILE replacement SET EARLIER [LABEL]\n"
+          "       roll append [--anyway] FILE delivery SET [LABEL | --certificate CERTIFICATE]\n"
+          "       roll append [--anyway] FILE replacement SET EARLIER [LABEL | --certificate CERTIFICATE]\n"
           "       roll append [--anyway] FILE retirement SET [LABEL]\n"
           "       roll retire [--yes] FILE SET\n"
           "       roll renew [--anyway] OLD NEW\n"
@@ -57,7 +55,8 @@ static int help(void)
     say(stdout);
     puts("list    the records, or which set stands now for SET\n"
          "new     an empty roll, in a file that is not there yet\n"
-         "append  a record at the end; --anyway: even one that the others do not allow, after which no standing can be told\n"
+         "append  a record at the end; --anyway: even one that the others do not allow, after which no standing can be told;\n"
+         "        --certificate: the label is the checksum of a delivery's certificate.txt, by which verify --roll finds the set\n"
          "retire  SET and every set linked to it by replacements; --yes: without asking\n"
          "renew   the records of an older roll, in a file that is not there yet\n"
          "A word that begins with - is an option; after -- none is.\n"
@@ -84,10 +83,6 @@ static int full(const char *path)
 }
 
 /* ---- records */
-
-struct record {
-    size_t kind, set, earlier, label, length;
-};
 
 /* how many bytes the character of UTF-8 at s has; 0 where there is none, or one that would move a terminal's cursor */
 static size_t shown(const uint8_t *s, size_t n)
@@ -130,19 +125,6 @@ static void print_record(FILE *out, const uint8_t *bytes, const struct record *r
         fprintf(out, " of %zu", r->earlier);
     if (r->length > 0)
         fputc(' ', out), print_label(out, bytes + r->label, r->length);
-}
-
-/* all records of the first n bytes; GF_ROLL_END, or GF_NOT_A_ROLL */
-static uint8_t read_records(const uint8_t *bytes, size_t n, struct record records[RECORDS], size_t *count)
-{
-    size_t at = 0, s[6];
-    uint8_t answer;
-    *count = 0;
-    while ((answer = gf_read_roll(bytes, MOST + 1, n, at, s, 6)) == GF_DONE) {
-        records[(*count)++] = (struct record){s[0], s[1], s[2], s[3], s[4]};
-        at = s[5];
-    }
-    return answer;
 }
 
 static int delivered_before(const struct record *records, size_t k, size_t set)
@@ -203,31 +185,6 @@ static int lawful(const uint8_t *bytes, size_t n)
 #define NO_STANDING ": no standing can be told"
 
 /* ---- reading */
-
-/* all bytes of the file, at most one more than a roll has */
-static size_t read_bytes(int fd, const char *path, uint8_t *bytes)
-{
-    size_t n = 0;
-    while (n < MOST + 1) {
-        ssize_t k = read(fd, bytes + n, MOST + 1 - n);
-        if (k < 0 && errno != EINTR)
-            fail(path, strerror(errno));
-        if (k == 0)
-            break;
-        n += k > 0 ? (size_t)k : 0;
-    }
-    return n;
-}
-
-static size_t read_file(const char *path, uint8_t *bytes)
-{
-    int fd = open(path, O_RDONLY);
-    if (fd < 0)
-        fail(path, strerror(errno));
-    size_t n = read_bytes(fd, path, bytes);
-    close(fd);
-    return n;
-}
 
 static int list(const char *path)
 {
@@ -392,6 +349,7 @@ static int retire(const char *named, uint32_t set, int yes)
 
 struct request {
     int help, anyway, yes;
+    const char *certificate; /* NULL: none was named */
     int count; /* of words; the first one is the command */
     const char *words[MOST_WORDS];
 };
@@ -413,6 +371,8 @@ static int sort_words(int argc, char **argv, struct request *q)
             q->anyway = 1;
         else if (option && strcmp(word, "--yes") == 0)
             q->yes = 1;
+        else if (option && strcmp(word, "--certificate") == 0 && !q->certificate && k + 1 < argc)
+            q->certificate = argv[++k];
         else
             return 0;
     }
@@ -437,9 +397,21 @@ static uint32_t number(const char *word)
     return (uint32_t)n;
 }
 
+/* the label that names a certificate, whose set is the one to deliver */
+static void certified(const char *path, size_t set, char label[LABEL])
+{
+    char stated[16], why[128];
+    label_of(path, label, stated);
+    if (strcmp(stated, "not stated") != 0 && strtoull(stated, NULL, 10) != set) {
+        snprintf(why, sizeof why, "it is the certificate of set %s, not of %zu", stated, set);
+        fail(path, why);
+    }
+}
+
 static int append_words(const struct request *q)
 {
     struct record r = {1, 0, 0, 0, 0};
+    char sum[LABEL];
     while (r.kind <= 3 && strcmp(q->words[2], kinds[r.kind]) != 0)
         r.kind++;
     int label = r.kind == 2 ? 5 : 4;
@@ -448,7 +420,11 @@ static int append_words(const struct request *q)
     r.set = number(q->words[3]);
     if (r.kind == 2)
         r.earlier = number(q->words[4]);
-    return append(q->words[1], &r, q->count > label ? q->words[label] : "", q->anyway);
+    if (q->certificate && (r.kind == 3 || q->count > label))
+        return usage();
+    if (q->certificate)
+        certified(q->certificate, r.set, sum);
+    return append(q->words[1], &r, q->certificate ? sum : q->count > label ? q->words[label] : "", q->anyway);
 }
 
 int main(int argc, char **argv)
@@ -463,6 +439,8 @@ int main(int argc, char **argv)
         return help();
     if (asked(&q, "append", 3, 5) && !q.yes)
         return append_words(&q);
+    if (q.certificate)
+        return usage();
     if (asked(&q, "renew", 2, 2) && !q.yes)
         return renew(q.words[1], q.words[2], q.anyway);
     if (q.anyway)

@@ -1,186 +1,203 @@
 /*
- * Symmetrizes a delivery: symmetrize FOLDER [OUT]
+ * Symmetrizes a delivery and judges it: symmetrize FOLDER [OUT]
  *
- * FOLDER holds cell.txt (lattice, positions), tables.txt (shift tables), fc2.f64 (full set of second order) and
- * fc3.f64 (compact set of third order); samples/README.md says what is in them. Prints the drift of both before and after, what the audits say,
- * and the time taken; delivery/demonstrate shows more of what the calls do.
- * With OUT, another folder, writes the symmetrized sets to OUT/fc2.f64 and OUT/fc3.f64, tables.txt and cell.txt beside them, and a
- * certificate of all four (certificate.c), which delivery/verify holds them against. Exit status 0 only if all went well, 2 for a wrong call of
- * the program: a number that is not finite or of no possible size, positions that the tables do not fit, drift that is left, orders that differ
- * are each a fault in words, and with a fault nothing is written. Where standard error is a terminal, long steps say there how far they are.
+ * FOLDER holds cell.txt, tables.txt, fc2.f64 and fc3.f64, and may hold operations.txt, fc4.f64 and job.txt; samples/README.md says what is in them.
+ * What is measured, before and after, is printed as the certificate has it (certificate.c). What is beyond its bound is a FAULT in words: then
+ * the exit status is 1 and nothing is written. With OUT, another folder, the symmetrized sets, the texts and the certificate are written there,
+ * which delivery/verify holds against each other. Exit status 2: a wrong call of the program. Where standard error is a terminal, long steps say
+ * there how far they are.
  */
 #include "gullyfork.h"
 #include "certificate.h"
 #include "job.h"
 #include "progress.h"
-#include "verdicts.h"
 
 #include <math.h>
 #include <stdio.h>
 #include <stdlib.h>
 #include <string.h>
 
-/* ---- the numbers as delivered */
+static struct certificate c;
 
-/* Force constants in any unit in use lie far within these; numbers whose bytes stand in the wrong order do not. */
-#define LARGEST 1e30
-#define SMALLEST 1e-290
+/* a line as it was worked out, or what is wrong */
+static void tell(const char *form, const char *set, const char *file, const char *wrong)
+{
+    const struct line *l = line_of(&c, form, set);
+    if (l->is.fault)
+        fault("%s: %s (%s: %s)", file, wrong, l->name, l->is.words);
+    else
+        printf("%s: %s\n", l->name, l->is.words);
+}
+
+static const char *short_name(const struct set *s)
+{
+    static const char *const names[] = {"fc2", "fc3", "fc4"};
+    return names[s->order - 2];
+}
+
+/* ---- the numbers as delivered */
 
 static double swapped(double x)
 {
     unsigned char b[sizeof x];
     memcpy(b, &x, sizeof x);
     for (size_t i = 0; i < sizeof x / 2; i++) {
-        unsigned char c = b[i];
+        unsigned char byte = b[i];
         b[i] = b[sizeof x - 1 - i];
-        b[sizeof x - 1 - i] = c;
+        b[sizeof x - 1 - i] = byte;
     }
     memcpy(&x, b, sizeof x);
     return x;
 }
 
-/* whether the set, with the bytes of each number in the other order if asked, has a possible largest number; *first: one that it has not */
-static int possible(const double *set, size_t n, int swap, size_t *first)
+/* whether the numbers are possible once the bytes of each are in the other order */
+static int turned_round(const struct delivery *d, const struct set *s)
 {
-    double largest = 0.0;
-    for (size_t q = 0; q < n; q++) {
-        double x = fabs(swap ? swapped(set[q]) : set[q]);
-        if (!(x <= largest)) {
-            largest = x;
-            *first = q;
-        }
-        if (!(x <= LARGEST))
-            return 0;
-    }
-    return largest == 0.0 || largest >= SMALLEST;
+    struct verdict v;
+    struct set other = *s;
+    other.numbers = room(s->count, sizeof *other.numbers);
+    for (size_t q = 0; q < s->count; q++)
+        other.numbers[q] = swapped(s->numbers[q]);
+    size_verdict(d, &other, &v);
+    free(other.numbers);
+    return !v.fault;
 }
 
-/* names the number by its atoms and directions; a set of the order 2 or 3 */
-static void impossible(const char *name, const double *set, size_t n_satom, size_t order, size_t q)
+static void judge_numbers(const struct delivery *d, const struct set *s)
 {
-    size_t block = order == 2 ? 9 : 27, k = q % block, b = q / block;
-    if (order == 2)
-        fault("%s: the number of atoms %zu %zu, directions %zu %zu is %g", name, b / n_satom, b % n_satom, k / 3, k % 3, set[q]);
-    else
-        fault("%s: the number of atoms %zu (of the primitive cell) %zu %zu, directions %zu %zu %zu is %g", name, b / n_satom / n_satom,
-              b / n_satom % n_satom, b % n_satom, k / 9, k / 3 % 3, k % 3, set[q]);
-}
-
-static void judge_numbers(const char *name, const double *set, size_t n, size_t n_satom, size_t order)
-{
-    size_t first = 0, other = 0;
-    if (possible(set, n, 0, &first))
+    struct verdict v;
+    size_verdict(d, s, &v);
+    if (!v.fault)
         return;
-    impossible(name, set, n_satom, order, first);
-    if (isfinite(set[first]) && fabs(set[first]) > LARGEST)
-        printf("  no force constant is larger than %g\n", LARGEST);
-    else if (isfinite(set[first]))
-        printf("  it is the largest of the set, and no force constants are all that small\n");
-    if (possible(set, n, 1, &other))
+    fault("%s: %s", set_name(s), v.words);
+    if (turned_round(d, s))
         printf("  with the bytes of each number in the other order all are possible: the file has the highest byte first, not the lowest\n");
 }
 
-/* ---- shift tables, and the same rows found by matching the positions */
+/* ---- before, and after */
 
 static void judge_cell(const struct delivery *d)
 {
-    char words[WORDS];
-    must(tables_verdict(d, words), "check of the shift tables");
-    printf("shift tables: %s\n", words);
-    size_t elsewhere = positions_verdict(d, words);
-    printf("positions: %s\n", words);
-    if (elsewhere != 0)
-        fault("cell.txt and tables.txt are not of one cell: %zu shifts send positions elsewhere than their row says", elsewhere);
+    say_cell(d, &c);
+    tell("%s", "counts", "tables.txt", "");
+    tell("%s", "cell", "cell.txt", "");
+    tell("%s", "tables", "tables.txt", "they are no shift tables");
+    if (faults == 0)
+        tell("%s", "positions", "cell.txt", "cell.txt and tables.txt are not of one cell");
+    if (faults == 0)
+        tell("%s", "operations", "operations.txt", "they are not the operations of this cell");
 }
 
-/* ---- second order */
+#define SWAPPED "the orders of the same legs differ, as where a leg is swapped"
+#define NOT_STILL "the sums over an atom are not zero, as the acoustic sum rule asks"
+#define NOT_OF_CRYSTAL "the numbers do not obey the crystal's own operations"
 
-/* what rounding leaves of the drift, as a part of the largest number */
-#define DRIFT_LEFT 1e-9
-
-/* what the proved audit says of a set after the work */
-static void judge_audit(const char *name, uint8_t answer, const char *words)
+static void judge_before(const struct delivery *d, const struct set *s, const struct bounds *b)
 {
-    printf("  audit: %s\n", words);
-    if (answer == GF_UNLIKE)
-        fault("%s: the audit says %s", name, words);
-    else if (answer != GF_ALIKE)
-        must(answer, "audit");
+    say_before(d, s, b, &c);
+    tell("orders %s before", short_name(s), set_name(s), SWAPPED);
+    tell("drift %s before", short_name(s), set_name(s), NOT_STILL);
+    tell("crystal %s before", short_name(s), set_name(s), NOT_OF_CRYSTAL);
 }
 
-/* `before` takes the drift before, in words */
-static void second_order(struct delivery *d, char *before)
+static void judge_after(const struct delivery *d, const struct set *s, const struct bounds *b)
 {
-    size_t n = d->n_satom;
-    double largest = 0.0;
-    char words[WORDS];
-    for (size_t q = 0; q < n * n * 9; q++)
-        largest = fmax(largest, fabs(d->fc2[q]));
-    printf("second order: full set of %zu numbers\n", n * n * 9);
-    second_drift(d, before);
-    printf("  drift before: %s\n", before);
-    begin_step("symmetrizing of", "fc2.f64");
+    say_set(d, s, b, &c);
+    tell("size %s", short_name(s), set_name(s), "after symmetrizing");
+    tell("audit %s", short_name(s), set_name(s), "the orders of the same legs differ after symmetrizing");
+    tell("drift %s after", short_name(s), set_name(s), NOT_STILL);
+    tell("crystal %s after", short_name(s), set_name(s), NOT_OF_CRYSTAL);
+    if (s->order == 2)
+        tell("on-site %s", short_name(s), set_name(s), "an atom that is displaced is pushed on, not back: is the sign right?");
+}
+
+static void work_on(const struct delivery *d, struct set *s, const struct bounds *b)
+{
+    struct set before = *s;
+    before.numbers = room(s->count, sizeof *before.numbers);
+    memcpy(before.numbers, s->numbers, s->count * sizeof *before.numbers);
+    begin_step("symmetrizing of", set_name(s));
     double start = seconds();
-    must(gf_perm_trans_symmetrize_fc(d->fc2, n * n * 9, n, 3), "perm_trans_symmetrize_fc");
+    symmetrize(d, s);
     double taken = seconds() - start;
     end_step();
-    double left = second_drift(d, words);
-    printf("  drift after: %s\n", words);
-    if (!(left <= DRIFT_LEFT * largest))
-        fault("fc2.f64: the drift after symmetrizing is %g, the largest number %g", left, largest);
-    judge_audit("fc2.f64", second_audit(d, words), words);
-    printf("  symmetrized at level 3 in %.1f microseconds\n", 1e6 * taken);
+    printf("%s: symmetrized in %.1f microseconds\n", set_name(s), 1e6 * taken);
+    struct line *l = line_of(&c, "change %s", short_name(s));
+    change_verdict(d, &before, s, b->at_most[CHANGE], &l->is);
+    tell("change %s", short_name(s), set_name(s), "symmetrizing changes the set by too much");
+    free(before.numbers);
+    judge_after(d, s, b);
 }
 
-/* ---- third order */
+/* a step on every set, if no fault was found so far */
+typedef void step(const struct delivery *d, struct set *s, const struct bounds *b);
 
-static void third_order(struct delivery *d, char *before)
+static void on_every_set(struct delivery *d, const struct bounds *b, step *work)
 {
-    size_t blocks = d->n_patom * d->n_satom * d->n_satom;
-    char words[WORDS];
-    uint8_t *done = room(blocks, 1);
-    printf("third order: compact set of %zu numbers\n", blocks * 27);
-    third_drift(d, before);
-    printf("  drift before: %s\n", before);
-    begin_step("symmetrizing of", "fc3.f64");
-    double start = seconds();
-    must(symmetrize_third(d, d->nsym_list, d->fc3, blocks * 27, done), "set_permutation_symmetry_compact_fc3");
-    double taken = seconds() - start;
-    end_step();
-    third_drift(d, words);
-    printf("  drift after: %s\n", words);
-    judge_audit("fc3.f64", third_audit(d, words), words);
-    printf("  symmetrized in %.1f microseconds, the check of its shift tables among them\n", 1e6 * taken);
-    free(done);
+    int go_on = faults == 0;
+    for (size_t k = 0; k < 3 && go_on; k++)
+        if (d->sets[k].numbers)
+            work(d, &d->sets[k], b);
+}
+
+static void numbers_step(const struct delivery *d, struct set *s, const struct bounds *b)
+{
+    (void)b;
+    judge_numbers(d, s);
+}
+
+static void before_step(const struct delivery *d, struct set *s, const struct bounds *b)
+{
+    judge_before(d, s, b);
+}
+
+/* the lines that are stated of the job */
+static void state(const char *folder, const struct job *j, const struct delivery *d)
+{
+    snprintf(line_of(&c, "%s", "set")->is.words, WORDS, "%s", j->set);
+    snprintf(line_of(&c, "%s", "unit")->is.words, WORDS, "%s", j->unit);
+    bounds_words(&j->bounds, line_of(&c, "%s", "bounds")->is.words);
+    for (size_t k = 0; k < 3; k++)
+        if (d->sets[k].numbers)
+            say_file(folder, set_name(&d->sets[k]), NULL, line_of(&c, "input %s", set_name(&d->sets[k]))->is.words);
+    tell("%s", "set", "job.txt", "");
+    tell("%s", "unit", "job.txt", "");
+    tell("%s", "bounds", "job.txt", "");
+}
+
+static int usage(int help)
+{
+    fputs("usage: symmetrize FOLDER [OUT]\n"
+          "Symmetrizes the delivery in FOLDER, judges it by its bounds and, with OUT, another folder, writes it there with a certificate. FOLDER has\n"
+          "tables.txt, cell.txt, fc2.f64 and fc3.f64; it may have fc4.f64, operations.txt and job.txt (set number, unit, bounds).\n"
+          "Status 0: all went well; 1: there is a fault, which is said, or something cannot be read or written; 2: wrong usage.\n",
+          help ? stdout : stderr);
+    return help ? 0 : 2;
 }
 
 int main(int argc, char **argv)
 {
+    fill_standard_streams();
     int help = argc == 2 && strcmp(argv[1], "--help") == 0;
-    if ((argc != 2 && argc != 3) || help) {
-        fputs("usage: symmetrize FOLDER [OUT]\nSymmetrizes the delivery in FOLDER and, with OUT, writes it there with a certificate. Status 0: all went "
-              "well; 1: there is a\nfault, or something cannot be read or written.\n",
-              help ? stdout : stderr);
-        return help ? 0 : 2;
-    }
+    if ((argc != 2 && argc != 3) || help)
+        return usage(help);
+    program = "symmetrize";
     if (argc == 3 && same_folder(argv[1], argv[2])) {
         fprintf(stderr, "symmetrize: %s is the folder that is read: name another one to write to\n", argv[2]);
         return 1;
     }
-    program = "symmetrize";
     struct delivery d;
-    char fc2_before[WORDS] = "", fc3_before[WORDS] = "";
+    struct job j;
+    read_job(argv[1], &j);
     read_delivery(argv[1], &d);
-    printf("%zu atoms, %zu of them in the primitive cell, %zu shifts\n", d.n_satom, d.n_patom, d.num_trans);
+    lay_out(&c, d.num_rot > 0, d.sets[2].numbers != NULL);
+    state(argv[1], &j, &d);
     judge_cell(&d);
-    judge_numbers("fc2.f64", d.fc2, d.n_satom * d.n_satom * 9, d.n_satom, 2);
-    judge_numbers("fc3.f64", d.fc3, d.n_patom * d.n_satom * d.n_satom * 27, d.n_satom, 3);
-    if (faults == 0) {
-        second_order(&d, fc2_before);
-        third_order(&d, fc3_before);
-    }
+    on_every_set(&d, &j.bounds, numbers_step);
+    on_every_set(&d, &j.bounds, before_step);
+    on_every_set(&d, &j.bounds, work_on);
     if (faults == 0 && argc == 3)
-        write_delivery(argv[1], argv[2], &d, fc2_before, fc3_before);
+        write_delivery(argv[1], argv[2], &d, &c);
     if (faults != 0)
         printf("%zu fault%s; nothing was written\n", faults, faults == 1 ? "" : "s");
     free_delivery(&d);

@@ -1,168 +1,205 @@
+/* The verdicts on tables, cell and operations; those on sets are in measures.c. */
 #include "verdicts.h"
 #include "gullyfork.h"
 #include "progress.h"
+#include "words.h"
 
 #include <math.h>
 #include <stdio.h>
 #include <stdlib.h>
 #include <string.h>
 
-uint8_t tables_verdict(const struct delivery *d, char *words)
+/* ---- tables and positions */
+
+void tables_verdict(const struct delivery *d, struct verdict *v)
 {
     size_t n = d->n_satom, p = d->n_patom, s = d->num_trans;
     begin_step("check of", "tables.txt");
     uint8_t answer = gf_check_shift_tables(d->p2s, p, d->s2pp, n, d->nsym_list, n, d->perms, s * n, n, p, s);
     end_step();
-    snprintf(words, WORDS, "%s", answer == GF_DONE ? "every rule is kept" : gf_words(answer));
-    return answer;
+    v->fault = answer != GF_DONE;
+    snprintf(v->words, WORDS, "%s", answer == GF_DONE ? "every rule is kept" : gf_words(answer));
 }
 
-/* ---- the rows of the tables, found by matching the positions */
-
-/* row t sends atom a to the atom that stands where shift t puts a; the first distance that is no number is named in `odd` */
-static int row_matches(const struct delivery *d, size_t t, double *shifted, int64_t *row, char odd[128])
+/* whether the positions, each moved by the matrix and the shift that takes atom 0 to its image, stand where the row says, each atom on one of its
+   element; what is odd is named */
+static int sends(const struct delivery *d, const double turn[9], double near, const int64_t *row, char odd[256])
 {
     size_t n = d->n_satom, pair[2] = {0, 0};
-    int64_t image = d->perms[t * n];
     const uint8_t everywhere[3] = {1, 1, 1};
-    if (image < 0 || (size_t)image >= n)
-        return 0;
     for (size_t a = 0; a < n; a++)
-        for (size_t x = 0; x < 3; x++)
-            shifted[a * 3 + x] = d->pos[a * 3 + x] + (d->pos[(size_t)image * 3 + x] - d->pos[x]);
-    uint8_t answer = gf_compute_permutation(row, n, d->lattice, 9, 1e-5, everywhere, 3, d->pos, n * 3, shifted, n * 3, pair, 2, n);
+        if (row[a] < 0 || (size_t)row[a] >= n)
+            return 0;
+    double *moved = room(n * 3, sizeof *moved);
+    int64_t *slots = room(n, sizeof *slots);
+    for (size_t a = 0; a < n; a++)
+        for (size_t x = 0; x < 3; x++) {
+            double sum = d->pos[(size_t)row[0] * 3 + x];
+            for (size_t y = 0; y < 3; y++)
+                sum += turn[x * 3 + y] * (d->pos[a * 3 + y] - d->pos[y]);
+            moved[a * 3 + x] = sum;
+        }
+    uint8_t answer = gf_compute_permutation(slots, n, d->lattice, 9, near, everywhere, 3, d->pos, n * 3, moved, n * 3, pair, 2, n);
+    int same = answer == GF_DONE && memcmp(slots, row, n * sizeof *row) == 0;
     if (answer == GF_MATCH_NO_NUMBER && !*odd)
-        snprintf(odd, 128, "; shift %zu, position %zu against slot %zu: the distance is not a number", t, pair[0], pair[1]);
-    return answer == GF_DONE && memcmp(row, d->perms + t * n, n * sizeof *row) == 0;
+        snprintf(odd, 256, ": position %zu against slot %zu: the distance is not a number", pair[0], pair[1]);
+    for (size_t a = 0; a < n && same; a++)
+        if (strcmp(d->elements[a], d->elements[row[a]]) != 0) {
+            same = 0;
+            if (!*odd)
+                snprintf(odd, 256, ": %s %zu goes to %s %zu", d->elements[a], a, d->elements[row[a]], (size_t)row[a]);
+        }
+    free(moved);
+    free(slots);
+    return same;
 }
 
-size_t positions_verdict(const struct delivery *d, char *words)
+void positions_verdict(const struct delivery *d, struct verdict *v)
 {
-    double *shifted = room(d->n_satom * 3, sizeof *shifted);
-    int64_t *row = room(d->n_satom, sizeof *row);
-    size_t same = 0;
-    char odd[128] = "";
+    static const double turn[9] = {1, 0, 0, 0, 1, 0, 0, 0, 1};
+    size_t same = 0, first = d->num_trans;
+    char odd[256] = "";
     begin_step("matching of", "cell.txt");
     for (size_t t = 0; t < d->num_trans; t++) {
-        same += (size_t)row_matches(d, t, shifted, row, odd);
+        int fits = d->n_satom > 0 && sends(d, turn, 1e-5, d->perms + t * d->n_satom, odd);
+        same += (size_t)fits;
+        first = fits || first < d->num_trans ? first : t;
         how_far(t + 1, d->num_trans);
     }
     end_step();
-    snprintf(words, WORDS, "%zu of %zu shifts send them as their row of the tables says%s", same, d->num_trans, odd);
-    free(shifted);
-    free(row);
-    return d->num_trans - same;
+    v->fault = same != d->num_trans;
+    size_t at = (size_t)snprintf(v->words, WORDS, "%zu of %zu shifts send them as their row of the tables says", same, d->num_trans);
+    if (v->fault)
+        snprintf(v->words + at, WORDS - at, "; not shift %zu%s", first, odd);
 }
 
-/* ---- drift */
+/* ---- the cell */
 
-/* a number to read, and all its bits */
-static void number_words(double x, char out[64])
+static double determinant(const double *a)
 {
-    if (isnan(x))
-        snprintf(out, 64, "nan");
-    else
-        snprintf(out, 64, "%.6g (%a)", x, x);
+    return a[0] * (a[4] * a[8] - a[5] * a[7]) - a[1] * (a[3] * a[8] - a[5] * a[6]) + a[2] * (a[3] * a[7] - a[4] * a[6]);
 }
 
-/* the first words of a drift report; `place` says where the sum is */
-static double drift_words(uint8_t answer, double value, const char *place, char *words)
+/* how many atoms of each element, in the order in which the elements come */
+static size_t formula(const struct delivery *d, char *words, size_t size)
 {
-    char number[64];
-    number_words(value, number);
-    if (answer == GF_DRIFT_WORST)
-        snprintf(words, WORDS, "worst sum %s %s", number, place);
-    else if (answer == GF_DRIFT_NO_NUMBER)
-        snprintf(words, WORDS, "a sum is NaN, %s", place);
-    else
-        snprintf(words, WORDS, "%s", gf_words(answer));
-    return value;
-}
-
-double second_drift(const struct delivery *d, char *words)
-{
-    size_t n = d->n_satom, at[4] = {0, 0, 0, 0};
-    double value = 0.0;
-    char place[128];
-    begin_step("drift of", "fc2.f64");
-    uint8_t answer = gf_drift_report(d->fc2, n * n * 9, &value, 1, at, 4, n);
-    end_step();
-    snprintf(place, sizeof place, "along %s, atom %zu, directions %zu %zu", at[0] == GF_ROWS ? "rows" : "columns", at[1], at[2], at[3]);
-    return drift_words(answer, value, place, words);
-}
-
-double third_drift(const struct delivery *d, char *words)
-{
-    size_t n = d->n_satom, p = d->n_patom, s = d->num_trans, numbers = n * n * n * 27, at[6] = {0, 0, 0, 0, 0, 0};
-    double value = 0.0;
-    char place[128];
-    if (n > MOST_READ_OUT) {
-        snprintf(words, WORDS, "not worked out for more than %d atoms", MOST_READ_OUT);
-        return 0.0;
+    size_t at = 0;
+    for (size_t a = 0; a < d->n_satom && at < size; a++) {
+        size_t count = 0, first = 0;
+        while (strcmp(d->elements[first], d->elements[a]) != 0)
+            first++;
+        for (size_t b = a; b < d->n_satom && first == a; b++)
+            count += strcmp(d->elements[a], d->elements[b]) == 0;
+        if (first == a)
+            at += (size_t)snprintf(words + at, size - at, "%s%s%zu", at ? " " : "", d->elements[a], count);
     }
-    double *full = room(numbers, sizeof *full);
-    begin_step("drift of", "fc3.f64");
-    uint8_t answer =
-        gf_compact_to_full_fc3(full, numbers, d->fc3, p * n * n * 27, d->p2s, p, d->s2pp, n, d->nsym_list, n, d->perms, s * n, n, p, s);
-    if (answer == GF_DONE)
-        answer = gf_drift_report_fc3(full, numbers, &value, 1, at, 6, n);
-    end_step();
-    free(full);
-    snprintf(place, sizeof place, "over leg %zu, atoms %zu %zu, directions %zu %zu %zu", at[0], at[1], at[2], at[3], at[4], at[5]);
-    return drift_words(answer, value, place, words);
+    return at < size ? at : size;
 }
 
-/* ---- audits */
-
-/* where a number stands: its atoms, each below n but the first, and its directions */
-static void place_words(size_t place, size_t order, size_t n, char out[128])
+/* which atoms are of which element, by rising number */
+static size_t runs(const struct delivery *d, char *words, size_t size)
 {
-    size_t atoms[3], directions[3];
-    for (size_t k = order; k-- > 0; place /= 3)
-        directions[k] = place % 3;
-    for (size_t k = order; k-- > 1; place /= n)
-        atoms[k] = place % n;
-    atoms[0] = place;
-    if (order == 2)
-        snprintf(out, 128, "atoms %zu %zu, directions %zu %zu", atoms[0], atoms[1], directions[0], directions[1]);
-    else
-        snprintf(out, 128, "atoms %zu (of the primitive cell) %zu %zu, directions %zu %zu %zu", atoms[0], atoms[1], atoms[2], directions[0],
-                 directions[1], directions[2]);
-}
-
-static uint8_t audit_words(uint8_t answer, size_t order, size_t n, const size_t *place, const double *numbers, char *words)
-{
-    static const char *const of_two[] = {"0 1", "1 0"}, *const of_three[] = {"0 1 2", "0 2 1", "1 0 2", "1 2 0", "2 0 1", "2 1 0"};
-    char where[128], here[64], there[64];
-    if (answer != GF_UNLIKE) {
-        snprintf(words, WORDS, "%s", answer == GF_ALIKE ? "alike" : gf_words(answer));
-        return answer;
+    size_t at = 0;
+    for (size_t a = 0, b; a < d->n_satom && at < size; a = b) {
+        for (b = a + 1; b < d->n_satom && strcmp(d->elements[a], d->elements[b]) == 0;)
+            b++;
+        at += (size_t)snprintf(words + at, size - at, b == a + 1 ? "%s%s %zu" : "%s%s %zu-%zu", at ? ", " : "", d->elements[a], a, b - 1);
     }
-    place_words(place[0], order, n, where);
-    number_words(numbers[0], here);
-    number_words(numbers[1], there);
-    snprintf(words, WORDS, "unlike, first at %s: %s, and %s with the pairs in the order %s", where, here, there,
-             order == 2 ? of_two[place[1]] : of_three[place[1]]);
-    return answer;
+    return at < size ? at : size;
 }
 
-uint8_t second_audit(const struct delivery *d, char *words)
+void cell_verdict(const struct delivery *d, struct verdict *v)
 {
-    size_t n = d->n_satom, place[2] = {0, 0};
-    double numbers[2] = {0.0, 0.0};
-    begin_step("audit of", "fc2.f64");
-    uint8_t answer = gf_audit_fc2(d->fc2, n * n * 9, place, 2, numbers, 2, n);
-    end_step();
-    return audit_words(answer, 2, n, place, numbers, words);
+    const double *l = d->lattice;
+    char volume[NUMBER], length[3][NUMBER];
+    size_t at = formula(d, v->words, WORDS - 512);
+    at += (size_t)snprintf(v->words + at, WORDS - at, ": ");
+    at += runs(d, v->words + at, WORDS - at - 256);
+    for (size_t i = 0; i < 3; i++)
+        digits(sqrt(l[i] * l[i] + l[3 + i] * l[3 + i] + l[6 + i] * l[6 + i]), length[i]);
+    snprintf(v->words + at, WORDS - at, "; vectors of %s %s %s, volume %s", length[0], length[1], length[2],
+             number(fabs(determinant(l)), volume));
+    v->fault = 0;
 }
 
-uint8_t third_audit(const struct delivery *d, char *words)
+/* ---- the crystal's operations */
+
+static void product(const double a[9], const double b[9], double out[9])
 {
-    size_t n = d->n_satom, p = d->n_patom, s = d->num_trans, place[2] = {0, 0};
-    double numbers[2] = {0.0, 0.0};
-    begin_step("audit of", "fc3.f64");
-    uint8_t answer = gf_audit_compact_fc3(d->fc3, p * n * n * 27, d->p2s, p, d->s2pp, n, d->nsym_list, n, d->perms, s * n, place, 2, numbers,
-                                          2, n, p, s);
+    for (size_t x = 0; x < 3; x++)
+        for (size_t y = 0; y < 3; y++)
+            out[x * 3 + y] = a[x * 3] * b[y] + a[x * 3 + 1] * b[3 + y] + a[x * 3 + 2] * b[6 + y];
+}
+
+static int near(const double a[9], const double b[9], double wide)
+{
+    for (size_t k = 0; k < 9; k++)
+        if (!(fabs(a[k] - b[k]) <= wide))
+            return 0;
+    return 1;
+}
+
+static int orthogonal(const double r[9])
+{
+    static const double one[9] = {1, 0, 0, 0, 1, 0, 0, 0, 1};
+    const double back[9] = {r[0], r[3], r[6], r[1], r[4], r[7], r[2], r[5], r[8]};
+    double both[9];
+    product(r, back, both);
+    return near(both, one, 1e-4);
+}
+
+/* the same operation on positions in the lattice's vectors; 0 if the lattice has no such operation, whose entries would be whole numbers */
+static int on_positions(const struct delivery *d, const double r[9], double out[9])
+{
+    const double *l = d->lattice;
+    double volume = determinant(l), inverse[9], half[9], exact[9];
+    for (size_t x = 0; x < 3; x++)
+        for (size_t y = 0; y < 3; y++) {
+            size_t a = (y + 1) % 3 * 3, b = (y + 2) % 3 * 3, c = (x + 1) % 3, e = (x + 2) % 3;
+            inverse[x * 3 + y] = (l[a + c] * l[b + e] - l[a + e] * l[b + c]) / volume;
+        }
+    product(r, l, half);
+    product(inverse, half, exact);
+    for (size_t k = 0; k < 9; k++)
+        out[k] = rint(exact[k]);
+    return near(exact, out, 1e-3);
+}
+
+/* the product of any two matrices is one of them; the first that is not */
+static int closed(const struct delivery *d, char odd[256])
+{
+    for (size_t a = 0; a < d->num_rot; a++)
+        for (size_t b = 0; b < d->num_rot; b++) {
+            double both[9];
+            size_t c = 0;
+            product(d->r_carts + a * 9, d->r_carts + b * 9, both);
+            while (c < d->num_rot && !near(d->r_carts + c * 9, both, 1e-3))
+                c++;
+            if (c == d->num_rot) {
+                snprintf(odd, 256, "; they are no group: operation %zu after operation %zu is none of them", a, b);
+                return 0;
+            }
+        }
+    snprintf(odd, 256, "; they are a group");
+    return 1;
+}
+
+void operations_verdict(const struct delivery *d, struct verdict *v)
+{
+    size_t n = d->n_satom, fit = 0, first = d->num_rot;
+    char odd[256] = "", group[256];
+    begin_step("matching of", "operations.txt");
+    for (size_t r = 0; r < d->num_rot; r++) {
+        double turn[9];
+        const double *matrix = d->r_carts + r * 9;
+        int good = n > 0 && orthogonal(matrix) && on_positions(d, matrix, turn) && sends(d, turn, 1e-4, d->operations + r * n, odd);
+        fit += (size_t)good;
+        first = good || first < d->num_rot ? first : r;
+        how_far(r + 1, d->num_rot);
+    }
     end_step();
-    return audit_words(answer, 3, n, place, numbers, words);
+    v->fault = !closed(d, group) || fit != d->num_rot;
+    size_t at = (size_t)snprintf(v->words, WORDS, "%zu of %zu send the atoms as they say%s", fit, d->num_rot, group);
+    if (fit != d->num_rot)
+        snprintf(v->words + at, WORDS - at, "; not operation %zu%s", first, odd);
 }

@@ -1,29 +1,48 @@
-/* What the library says of a delivery, in the words that the job prints and a certificate holds. */
+/* What the library says of a delivery, in the words that the job prints and a certificate holds, and whether that is a fault. */
 #ifndef VERDICTS_H
 #define VERDICTS_H
 
 #include "delivery.h"
 
 /* room for the words of a verdict */
-#define WORDS 320
+#define WORDS 4096
 
-/* The full set of third order has n_satom x n_satom x n_satom x 27 numbers; with more atoms its drift is not worked out. */
-#define MOST_READ_OUT 128
+struct verdict {
+    char words[WORDS];
+    int fault;
+};
 
-/* the refusal of the shift tables, GF_DONE if they keep every rule */
-uint8_t tables_verdict(const struct delivery *d, char *words);
+/* what a crystal's verdict says where there is nothing to judge by */
+#define NO_OPERATIONS "no operations are given"
 
-/* how many shifts do not send the positions as their row of the tables says */
-size_t positions_verdict(const struct delivery *d, char *words);
+/* the shift tables keep every rule */
+void tables_verdict(const struct delivery *d, struct verdict *v);
 
-/* the worst drift of the set of second order: 0.0 if there is none, NaN if a sum is no number */
-double second_drift(const struct delivery *d, char *words);
+/* every shift sends the positions as its row of the tables says, and each atom to one of its element */
+void positions_verdict(const struct delivery *d, struct verdict *v);
 
-/* the same of third order, over all three legs of the set read out; 0.0 too where it is not worked out */
-double third_drift(const struct delivery *d, char *words);
+/* elements, volume and lengths, which are no fault */
+void cell_verdict(const struct delivery *d, struct verdict *v);
 
-/* what the audit of second order answers, and that of third */
-uint8_t second_audit(const struct delivery *d, char *words);
-uint8_t third_audit(const struct delivery *d, char *words);
+/* every operation of the crystal is orthogonal, sends the positions as its row says and each atom to one of its element; together they are a group */
+void operations_verdict(const struct delivery *d, struct verdict *v);
+
+/* the largest number and the sum of squares; a fault: a number that is not finite, or no possible largest number */
+void size_verdict(const struct delivery *d, const struct set *s, struct verdict *v);
+
+/* The measures: a worst value as a part of the largest number, a fault above the bound, and where it is. */
+void orders_verdict(const struct delivery *d, const struct set *s, double at_most, struct verdict *v);
+void drift_verdict(const struct delivery *d, const struct set *s, double at_most, struct verdict *v);
+void crystal_verdict(const struct delivery *d, const struct set *s, double at_most, struct verdict *v);
+void change_verdict(const struct delivery *d, const struct set *before, const struct set *after, double at_most, struct verdict *v);
+
+/* all orders of any legs read out the same bits */
+void audit_verdict(const struct delivery *d, const struct set *s, struct verdict *v);
+
+/* no displaced atom of second order is pushed on: the smallest number on the diagonal of an on-site block is above 0 */
+void on_site_verdict(const struct delivery *d, const struct set *s, struct verdict *v);
+
+/* whether words of a measure, as a certificate states them, are above their bound, or have another bound than this */
+int states_fault(const char *words, double at_most);
 
 #endif
