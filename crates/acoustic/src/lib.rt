@@ -1,4 +1,6 @@
 // Sets of third and fourth order without drift and alike: the mean over each leg's atom is taken off, then the set is symmetrized, level by level.
+#![tactic(auto)]
+
 pub mod third;
 pub mod third_compact;
 pub mod third_full;

@@ -30,10 +30,8 @@ fn drift_block(
     inv_n: f64,
     r: usize,
 ) -> [f64; 27]
-    ghost { ShiftTables }
-    requires* num_trans_value { λ T. ⌜ shift_tables p2s.now s2pp.now nsym_list.now perms.now n_satom n_patom num_trans ≡ T ⌝ }
-    requires* fact { λ T. ⌜ Ready limit3 2 (length fc3.now) T × (leg ≤ 2) × (r < n_patom * n_satom) ⌝ }
-    ensures* { λ T v. ⌜ v ≡ drift_block (shifts_of T) 2 leg 27 fc3.now inv_n r ⌝ }
+    requires { let T : ShiftTables = shift_tables p2s.now s2pp.now nsym_list.now perms.now n_satom n_patom num_trans in Ready limit3 2 (length fc3.now) T × (leg ≤ 2) × (r < n_patom * n_satom) }
+    ensures { let T : ShiftTables = shift_tables p2s.now s2pp.now nsym_list.now perms.now n_satom n_patom num_trans in result ≡ drift_block (shifts_of T) 2 leg 27 fc3.now inv_n r }
 {
     let i = p2s_at(p2s, PrimAtom(row_of(r, n_satom)));
     let t = index_of(i.0, n_satom, column_of(r, n_satom));
@@ -57,12 +55,8 @@ fn drifts(
     num_trans: usize,
     leg: usize,
 )
-    ghost { ShiftTables }
-    requires* num_trans_value { λ T. ⌜ shift_tables p2s.now s2pp.now nsym_list.now perms.now n_satom n_patom num_trans ≡ T ⌝ }
-    requires* fact { λ T. ⌜ Room limit3 2 (length fc3.now) (length drift.old) T × (leg ≤ 2) ⌝ }
-    ensures* { λ T _. ⌜
-        drift.new
-        ≡ times (n_patom * n_satom) (drift_put (shifts_of T) 2 leg 27 fc3.now (inverse n_satom)) drift.old ⌝ }
+    requires { let T : ShiftTables = shift_tables p2s.now s2pp.now nsym_list.now perms.now n_satom n_patom num_trans in Room limit3 2 (length fc3.now) (length drift.old) T × (leg ≤ 2) }
+    ensures { let T : ShiftTables = shift_tables p2s.now s2pp.now nsym_list.now perms.now n_satom n_patom num_trans in drift.new ≡ times (n_patom * n_satom) (drift_put (shifts_of T) 2 leg 27 fc3.now (inverse n_satom)) drift.old }
 {
     let inv_n = 1.0 / (n_satom as f64);
     let count = n_patom * n_satom;
@@ -88,10 +82,8 @@ fn other_block(
     j: SuperAtom,
     k: SuperAtom,
 ) -> usize
-    ghost { ShiftTables }
-    requires* num_trans_value { λ T. ⌜ shift_tables p2s.now s2pp.now nsym_list.now perms.now n_satom n_patom num_trans ≡ T ⌝ }
-    requires* fact { λ T. ⌜ TablesFit limit3 T × (leg ≤ 2) × (i.0 < n_satom) × (j.0 < n_satom) × (k.0 < n_satom) ⌝ }
-    ensures* { λ T r. ⌜ r ≡ block_of (shifts_of T) (without leg (i.0 ∷ j.0 ∷ k.0 ∷ [])) ⌝ }
+    requires { let T : ShiftTables = shift_tables p2s.now s2pp.now nsym_list.now perms.now n_satom n_patom num_trans in TablesFit limit3 T × (leg ≤ 2) × (i.0 < n_satom) × (j.0 < n_satom) × (k.0 < n_satom) }
+    ensures { let T : ShiftTables = shift_tables p2s.now s2pp.now nsym_list.now perms.now n_satom n_patom num_trans in result ≡ block_of (shifts_of T) (without leg (i.0 ∷ j.0 ∷ k.0 ∷ [])) }
 {
     if leg == 0 {
         return stored_block2(s2pp, nsym_list, perms, j, k, n_satom);
@@ -127,10 +119,8 @@ fn row_off(
     leg: usize,
     row: usize,
 )
-    ghost { ShiftTables }
-    requires* num_trans_value { λ T. ⌜ shift_tables p2s.now s2pp.now nsym_list.now perms.now n_satom n_patom num_trans ≡ T ⌝ }
-    requires* fact { λ T. ⌜ Room limit3 2 (length fc3.old) (length drift.now) T × (leg ≤ 2) × (row < n_patom * n_satom) ⌝ }
-    ensures* { λ T _. ⌜ fc3.new ≡ row_less (shifts_of T) 2 leg 27 drift.now row fc3.old ⌝ }
+    requires { let T : ShiftTables = shift_tables p2s.now s2pp.now nsym_list.now perms.now n_satom n_patom num_trans in Room limit3 2 (length fc3.old) (length drift.now) T × (leg ≤ 2) × (row < n_patom * n_satom) }
+    ensures { let T : ShiftTables = shift_tables p2s.now s2pp.now nsym_list.now perms.now n_satom n_patom num_trans in fc3.new ≡ row_less (shifts_of T) 2 leg 27 drift.now row fc3.old }
 {
     let i = p2s_at(p2s, PrimAtom(row_of(row, n_satom)));
     let j = SuperAtom(column_of(row, n_satom));
@@ -166,10 +156,8 @@ fn rows_off(
     num_trans: usize,
     leg: usize,
 )
-    ghost { ShiftTables }
-    requires* num_trans_value { λ T. ⌜ shift_tables p2s.now s2pp.now nsym_list.now perms.now n_satom n_patom num_trans ≡ T ⌝ }
-    requires* fact { λ T. ⌜ Room limit3 2 (length fc3.old) (length drift.now) T × (leg ≤ 2) ⌝ }
-    ensures* { λ T _. ⌜ fc3.new ≡ times (n_patom * n_satom) (row_less (shifts_of T) 2 leg 27 drift.now) fc3.old ⌝ }
+    requires { let T : ShiftTables = shift_tables p2s.now s2pp.now nsym_list.now perms.now n_satom n_patom num_trans in Room limit3 2 (length fc3.old) (length drift.now) T × (leg ≤ 2) }
+    ensures { let T : ShiftTables = shift_tables p2s.now s2pp.now nsym_list.now perms.now n_satom n_patom num_trans in fc3.new ≡ times (n_patom * n_satom) (row_less (shifts_of T) 2 leg 27 drift.now) fc3.old }
 {
     let count = n_patom * n_satom;
     for row in 0..count {
@@ -192,10 +180,8 @@ fn leg_off(
     num_trans: usize,
     leg: usize,
 )
-    ghost { ShiftTables }
-    requires* num_trans_value { λ T. ⌜ shift_tables p2s.now s2pp.now nsym_list.now perms.now n_satom n_patom num_trans ≡ T ⌝ }
-    requires* fact { λ T. ⌜ Room limit3 2 (length fc3.old) (length drift.old) T × (leg ≤ 2) ⌝ }
-    ensures* { λ T _. ⌜ fc3.new ≡ without_drift (shifts_of T) 2 leg fc3.old ⌝ }
+    requires { let T : ShiftTables = shift_tables p2s.now s2pp.now nsym_list.now perms.now n_satom n_patom num_trans in Room limit3 2 (length fc3.old) (length drift.old) T × (leg ≤ 2) }
+    ensures { let T : ShiftTables = shift_tables p2s.now s2pp.now nsym_list.now perms.now n_satom n_patom num_trans in fc3.new ≡ without_drift (shifts_of T) 2 leg fc3.old }
 {
     drifts(
         fc3, drift, p2s, s2pp, nsym_list, perms, n_satom, n_patom, num_trans, leg,
@@ -217,10 +203,8 @@ pub fn legs_off(
     n_patom: usize,
     num_trans: usize,
 )
-    ghost { ShiftTables }
-    requires* num_trans_value { λ T. ⌜ shift_tables p2s.now s2pp.now nsym_list.now perms.now n_satom n_patom num_trans ≡ T ⌝ }
-    requires* fact { λ T. ⌜ Room limit3 2 (length fc3.old) (length drift.old) T ⌝ }
-    ensures* { λ T _. ⌜ fc3.new ≡ without_drifts (shifts_of T) 2 fc3.old ⌝ }
+    requires { let T : ShiftTables = shift_tables p2s.now s2pp.now nsym_list.now perms.now n_satom n_patom num_trans in Room limit3 2 (length fc3.old) (length drift.old) T }
+    ensures { let T : ShiftTables = shift_tables p2s.now s2pp.now nsym_list.now perms.now n_satom n_patom num_trans in fc3.new ≡ without_drifts (shifts_of T) 2 fc3.old }
 {
     for leg in 0..3usize {
         leg_off(

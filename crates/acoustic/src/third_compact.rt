@@ -28,10 +28,8 @@ fn level_pass(
     n_patom: usize,
     num_trans: usize,
 )
-    ghost { ShiftTables }
-    requires* num_trans_value { λ T. ⌜ shift_tables p2s.now s2pp.now nsym_list.now perms.now n_satom n_patom num_trans ≡ T ⌝ }
-    requires* fact { λ T. ⌜ Work limit3 2 (length fc3.old) (length done.old) (length drift.old) T ⌝ }
-    ensures* { λ T _. ⌜ fc3.new ≡ leveled mean6 (shifts_of T) 2 perms3 fc3.old ⌝ }
+    requires { let T : ShiftTables = shift_tables p2s.now s2pp.now nsym_list.now perms.now n_satom n_patom num_trans in Work limit3 2 (length fc3.old) (length done.old) (length drift.old) T }
+    ensures { let T : ShiftTables = shift_tables p2s.now s2pp.now nsym_list.now perms.now n_satom n_patom num_trans in fc3.new ≡ leveled mean6 (shifts_of T) 2 perms3 fc3.old }
 {
     legs_off(
         fc3, drift, p2s, s2pp, nsym_list, perms, n_satom, n_patom, num_trans,
@@ -54,10 +52,8 @@ fn levels(
     num_trans: usize,
     level: usize,
 )
-    ghost { ShiftTables }
-    requires* num_trans_value { λ T. ⌜ shift_tables p2s.now s2pp.now nsym_list.now perms.now n_satom n_patom num_trans ≡ T ⌝ }
-    requires* fact { λ T. ⌜ Work limit3 2 (length fc3.old) (length done.old) (length drift.old) T ⌝ }
-    ensures* { λ T _. ⌜ fc3.new ≡ times level (λ _. leveled mean6 (shifts_of T) 2 perms3) fc3.old ⌝ }
+    requires { let T : ShiftTables = shift_tables p2s.now s2pp.now nsym_list.now perms.now n_satom n_patom num_trans in Work limit3 2 (length fc3.old) (length done.old) (length drift.old) T }
+    ensures { let T : ShiftTables = shift_tables p2s.now s2pp.now nsym_list.now perms.now n_satom n_patom num_trans in fc3.new ≡ times level (λ _. leveled mean6 (shifts_of T) 2 perms3) fc3.old }
 {
     for t in 0..level {
         level_pass(
@@ -80,10 +76,8 @@ fn all_levels(
     num_trans: usize,
     level: usize,
 )
-    ghost { ShiftTables }
-    requires* num_trans_value { λ T. ⌜ shift_tables p2s.now s2pp.now nsym_list.now perms.now n_satom n_patom num_trans ≡ T ⌝ }
-    requires* fact { λ T. ⌜ Work limit3 2 (length fc3.old) (length done.old) (length drift.old) T ⌝ }
-    ensures* { λ T _. ⌜ fc3.new ≡ perm_trans_symmetrized mean6 (shifts_of T) 2 perms3 level fc3.old ⌝ }
+    requires { let T : ShiftTables = shift_tables p2s.now s2pp.now nsym_list.now perms.now n_satom n_patom num_trans in Work limit3 2 (length fc3.old) (length done.old) (length drift.old) T }
+    ensures { let T : ShiftTables = shift_tables p2s.now s2pp.now nsym_list.now perms.now n_satom n_patom num_trans in fc3.new ≡ perm_trans_symmetrized mean6 (shifts_of T) 2 perms3 level fc3.old }
 {
     if level == 0 {
         symmetrize(
@@ -109,9 +103,7 @@ fn judge_lengths(
     n_patom: usize,
     num_trans: usize,
 ) -> Answer
-    ghost { ShiftTables }
-    requires* { λ T. ⌜ shift_tables p2s.now s2pp.now nsym_list.now perms.now n_satom n_patom num_trans ≡ T ⌝ }
-    ensures* { λ T r. ⌜ r ≡ judged_work limit3 2 set_len done_len drift_len T ⌝ }
+    ensures { let T : ShiftTables = shift_tables p2s.now s2pp.now nsym_list.now perms.now n_satom n_patom num_trans in result ≡ judged_work limit3 2 set_len done_len drift_len T }
 {
     let a = judge_compact(
         LIMIT3, 2, set_len, 2, done_len, p2s, s2pp, nsym_list, perms, n_satom, n_patom, num_trans,
@@ -139,9 +131,7 @@ fn judge(
     num_trans: usize,
     level: usize,
 ) -> Answer
-    ghost { ShiftTables }
-    requires* { λ T. ⌜ shift_tables p2s.now s2pp.now nsym_list.now perms.now n_satom n_patom num_trans ≡ T ⌝ }
-    ensures* { λ T r. ⌜ r ≡ judged_levels limit3 2 set_len done_len drift_len T level ⌝ }
+    ensures { let T : ShiftTables = shift_tables p2s.now s2pp.now nsym_list.now perms.now n_satom n_patom num_trans in result ≡ judged_levels limit3 2 set_len done_len drift_len T level }
 {
     if level > LIMIT_LEVEL {
         return Answer::Refused(Refusal::CountAboveLimit);

@@ -60,10 +60,8 @@ fn scan(
     n_patom: usize,
     num_trans: usize,
 ) -> Audit
-    ghost { ShiftTables }
-    requires* num_trans_value { λ T. ⌜ shift_tables p2s.now s2pp.now nsym_list.now perms.now n_satom n_patom num_trans ≡ T ⌝ }
-    requires* fact { λ T. ⌜ Ready limit4 3 (length fc.now) T ⌝ }
-    ensures* { λ T r. ⌜ r ≡ audited (shifts_of T) 3 perms4 fc.now ⌝ }
+    requires { let T : ShiftTables = shift_tables p2s.now s2pp.now nsym_list.now perms.now n_satom n_patom num_trans in Ready limit4 3 (length fc.now) T }
+    ensures { let T : ShiftTables = shift_tables p2s.now s2pp.now nsym_list.now perms.now n_satom n_patom num_trans in result ≡ audited (shifts_of T) 3 perms4 fc.now }
 {
     let t = addresses();
     let count = row_of(fc.len(), 81);

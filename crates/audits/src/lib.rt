@@ -1,4 +1,6 @@
 // What an audit says of a set, the comparison of two sets, and the audits of second, third and fourth order.
+#![tactic(auto)]
+
 pub mod fourth;
 pub mod guard;
 pub mod kernel;
@@ -12,7 +14,7 @@ use common::float_word;
 use tables::Refusal;
 
 // The first place at which numbers differ that are to be the same: which permutation of the legs reads the other number, and both numbers.
-#[derive(Drop)]
+#[derive(Clone, Copy)]
 pub struct Difference {
     pub place: usize,
     pub order: usize,
@@ -21,7 +23,7 @@ pub struct Difference {
 }
 
 // Alike: all that are to be the same are. Unlike: some are not.
-#[derive(Drop)]
+#[derive(Clone, Copy)]
 pub enum Audit {
     Alike,
     Unlike(Difference),

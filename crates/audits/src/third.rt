@@ -58,10 +58,8 @@ pub fn group_blocks(
     num_trans: usize,
     b: usize,
 ) -> [usize; 6]
-    ghost { ShiftTables }
-    requires* num_trans_value { λ T. ⌜ shift_tables p2s.now s2pp.now nsym_list.now perms.now n_satom n_patom num_trans ≡ T ⌝ }
-    requires* fact { λ T. ⌜ TablesFit limit3 T × (b < times_power n_satom 2 n_patom) ⌝ }
-    ensures* { λ T r. ⌜ r ≡ group_blocks (shifts_of T) 2 perms3 b ⌝ }
+    requires { let T : ShiftTables = shift_tables p2s.now s2pp.now nsym_list.now perms.now n_satom n_patom num_trans in TablesFit limit3 T × (b < times_power n_satom 2 n_patom) }
+    ensures { let T : ShiftTables = shift_tables p2s.now s2pp.now nsym_list.now perms.now n_satom n_patom num_trans in result ≡ group_blocks (shifts_of T) 2 perms3 b }
 {
     let k = SuperAtom(column_of(b, n_satom));
     let pj = row_of(b, n_satom);
@@ -89,10 +87,8 @@ fn scan(
     num_trans: usize,
     from: usize,
 ) -> Audit
-    ghost { ShiftTables }
-    requires* num_trans_value { λ T. ⌜ shift_tables p2s.now s2pp.now nsym_list.now perms.now n_satom n_patom num_trans ≡ T ⌝ }
-    requires* fact { λ T. ⌜ Ready limit3 2 (length fc.now) T × AlikeTo (shifts_of T) 2 perms3 fc.now from ⌝ }
-    ensures* { λ T r. ⌜ r ≡ audited (shifts_of T) 2 perms3 fc.now ⌝ }
+    requires { let T : ShiftTables = shift_tables p2s.now s2pp.now nsym_list.now perms.now n_satom n_patom num_trans in Ready limit3 2 (length fc.now) T × AlikeTo (shifts_of T) 2 perms3 fc.now from }
+    ensures { let T : ShiftTables = shift_tables p2s.now s2pp.now nsym_list.now perms.now n_satom n_patom num_trans in result ≡ audited (shifts_of T) 2 perms3 fc.now }
 {
     let t = positions();
     let count = row_of(fc.len(), 27);
@@ -119,10 +115,8 @@ fn settle(
     n_patom: usize,
     num_trans: usize,
 ) -> Audit
-    ghost { ShiftTables }
-    requires* num_trans_value { λ T. ⌜ shift_tables p2s.now s2pp.now nsym_list.now perms.now n_satom n_patom num_trans ≡ T ⌝ }
-    requires* fact { λ T. ⌜ Ready limit3 2 (length fc.now) T ⌝ }
-    ensures* { λ T r. ⌜ r ≡ audited (shifts_of T) 2 perms3 fc.now ⌝ }
+    requires { let T : ShiftTables = shift_tables p2s.now s2pp.now nsym_list.now perms.now n_satom n_patom num_trans in Ready limit3 2 (length fc.now) T }
+    ensures { let T : ShiftTables = shift_tables p2s.now s2pp.now nsym_list.now perms.now n_satom n_patom num_trans in result ≡ audited (shifts_of T) 2 perms3 fc.now }
 {
     scan(
         fc, p2s, s2pp, nsym_list, perms, n_satom, n_patom, num_trans, 0,

@@ -1,5 +1,7 @@
 // Blocks of 9, 27 and 81 numbers of a set as whole values: one for each pair, triple or quadruple of atoms.
 // A block is named by its number b; where it stands in the set is worked out here only.
+#![tactic(auto)]
+
 pub mod permute;
 
 ghost use Rattle.std.specs.Prelude.{◌≡◌, length, ◌+◌, ◌*◌, ◌≤◌};

@@ -1,4 +1,6 @@
 // C names of sets without drift and alike. A slice is passed as a pointer and its length; include/gullyfork.h says the rest.
+#![tactic(auto)]
+
 ghost use Rattle.std.specs.Prelude.{◌≡◌};
 ghost use Rattle.tables.specs.Limits.{limit3};
 ghost use Rattle.tables.specs.Compact.{shift_tables};

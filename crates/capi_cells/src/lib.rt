@@ -1,4 +1,6 @@
 // C names of rounding, shift tables and matching. A slice is passed as a pointer and its length; include/gullyfork.h says the rest.
+#![tactic(auto)]
+
 pub mod capi_explaining;
 pub mod capi_finding;
 

@@ -1,5 +1,7 @@
 // C names of the reports: how far a set is from another, from its own permutations of legs, from the crystal's operations. A slice is passed as a pointer
 // and its length; include/gullyfork.h says the rest.
+#![tactic(auto)]
+
 pub mod by_crystal;
 pub mod by_legs;
 pub mod by_orders;

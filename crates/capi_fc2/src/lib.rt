@@ -1,4 +1,6 @@
 // C names of second order. A slice is passed as a pointer and its length; include/gullyfork.h says the rest.
+#![tactic(auto)]
+
 pub mod sums;
 
 ghost use Rattle.std.specs.Prelude.{◌≡◌, length};

@@ -1,4 +1,6 @@
 // C names of third order. A slice is passed as a pointer and its length; include/gullyfork.h says the rest.
+#![tactic(auto)]
+
 ghost use Rattle.std.specs.Prelude.{◌≡◌};
 ghost use Rattle.tables.specs.Compact.{shift_tables};
 ghost use Rattle.fc3.specs.Symmetrize.{set_permutation_symmetry_fc3, set_permutation_symmetry_compact_fc3};

@@ -1,4 +1,6 @@
 // C names of a delivery roll and of what it says. A slice is passed as a pointer and its length; include/gullyfork.h says the rest.
+#![tactic(auto)]
+
 ghost use Rattle.std.specs.Prelude.{◌≡◌, [], ◌∷◌, ◌+◌, length};
 ghost use Rattle.roll.specs.Format.{entry};
 ghost use Rattle.roll.specs.Reading.{holds_roll, holds_former_roll};

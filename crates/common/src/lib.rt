@@ -1,4 +1,6 @@
 // Rounding and the square root of an f64, worked out from its bits, and the bits themselves.
+#![tactic(auto)]
+
 mod root;
 
 ghost use Rattle.std.specs.Prelude.{◌≡◌, ◌^◌, ◌≤◌, ◌<◌};

@@ -36,10 +36,8 @@ fn image_block(
     r: usize,
     b: usize,
 ) -> usize
-    ghost { ShiftTables }
-    requires* num_trans_value { λ T. ⌜ shift_tables p2s.now s2pp.now nsym_list.now perms.now n_satom n_patom num_trans ≡ T ⌝ }
-    requires* fact { λ T. ⌜ TablesFit limit4 T × Sends n_satom operations.now r × (b < times_power n_satom 3 n_patom) ⌝ }
-    ensures* { λ T q. ⌜ q ≡ image_block (shifts_of T) 3 operations.now r b ⌝ }
+    requires { let T : ShiftTables = shift_tables p2s.now s2pp.now nsym_list.now perms.now n_satom n_patom num_trans in TablesFit limit4 T × Sends n_satom operations.now r × (b < times_power n_satom 3 n_patom) }
+    ensures { let T : ShiftTables = shift_tables p2s.now s2pp.now nsym_list.now perms.now n_satom n_patom num_trans in result ≡ image_block (shifts_of T) 3 operations.now r b }
 {
     let l = SuperAtom(column_of(b, n_satom));
     let pjk = row_of(b, n_satom);
@@ -81,11 +79,8 @@ fn look_operation(
     r: usize,
     seen0: Seen,
 ) -> Seen
-    ghost { ShiftTables }
-    requires* num_trans_value { λ T. ⌜ shift_tables p2s.now s2pp.now nsym_list.now perms.now n_satom n_patom num_trans ≡ T ⌝ }
-    requires* fact { λ T. ⌜ Ready limit4 3 (length fc.now) T × Sends n_satom operations.now r × (r < 1024) ⌝ }
-    ensures* { λ T q. ⌜ ((carts : List Float) → c.now ≡ coefficients (block 9 r carts) 4 81
-        → q ≡ operation_seen (shifts_of T) 3 carts operations.now fc.now 81 (times_power n_satom 3 n_patom) r seen0) ⌝ }
+    requires { let T : ShiftTables = shift_tables p2s.now s2pp.now nsym_list.now perms.now n_satom n_patom num_trans in Ready limit4 3 (length fc.now) T × Sends n_satom operations.now r × (r < 1024) }
+    ensures { let T : ShiftTables = shift_tables p2s.now s2pp.now nsym_list.now perms.now n_satom n_patom num_trans in ((carts : List Float) → c.now ≡ coefficients (block 9 r carts) 4 81 → result ≡ operation_seen (shifts_of T) 3 carts operations.now fc.now 81 (times_power n_satom 3 n_patom) r seen0) }
 {
     let count = row_of(fc.len(), 81);
     let mut seen = seen0;
@@ -114,10 +109,8 @@ fn scan(
     num_trans: usize,
     num_rot: usize,
 ) -> Seen
-    ghost { ShiftTables }
-    requires* num_trans_value { λ T. ⌜ shift_tables p2s.now s2pp.now nsym_list.now perms.now n_satom n_patom num_trans ≡ T ⌝ }
-    requires* fact { λ T. ⌜ Ready limit4 3 (length fc.now) T × Operating n_satom num_rot (length r_carts.now) operations.now ⌝ }
-    ensures* { λ T q. ⌜ q ≡ all_seen (shifts_of T) 3 r_carts.now operations.now fc.now num_rot ⌝ }
+    requires { let T : ShiftTables = shift_tables p2s.now s2pp.now nsym_list.now perms.now n_satom n_patom num_trans in Ready limit4 3 (length fc.now) T × Operating n_satom num_rot (length r_carts.now) operations.now }
+    ensures { let T : ShiftTables = shift_tables p2s.now s2pp.now nsym_list.now perms.now n_satom n_patom num_trans in result ≡ all_seen (shifts_of T) 3 r_carts.now operations.now fc.now num_rot }
 {
     let mut seen = start();
     for r in 0..num_rot {

@@ -1,5 +1,7 @@
 // The crystal reports: how far a set is from obeying the crystal's own operations, each a Cartesian matrix and a map of the atoms. The guard of the
 // operations.
+#![tactic(auto)]
+
 pub mod fourth;
 pub mod second;
 pub mod third;

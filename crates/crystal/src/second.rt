@@ -36,10 +36,8 @@ fn image_block(
     r: usize,
     b: usize,
 ) -> usize
-    ghost { ShiftTables }
-    requires* num_trans_value { λ T. ⌜ shift_tables p2s.now s2pp.now nsym_list.now perms.now n_satom n_patom num_trans ≡ T ⌝ }
-    requires* fact { λ T. ⌜ TablesFit limit2 T × Sends n_satom operations.now r × (b < times_power n_satom 1 n_patom) ⌝ }
-    ensures* { λ T q. ⌜ q ≡ image_block (shifts_of T) 1 operations.now r b ⌝ }
+    requires { let T : ShiftTables = shift_tables p2s.now s2pp.now nsym_list.now perms.now n_satom n_patom num_trans in TablesFit limit2 T × Sends n_satom operations.now r × (b < times_power n_satom 1 n_patom) }
+    ensures { let T : ShiftTables = shift_tables p2s.now s2pp.now nsym_list.now perms.now n_satom n_patom num_trans in result ≡ image_block (shifts_of T) 1 operations.now r b }
 {
     let j = SuperAtom(column_of(b, n_satom));
     let p = PrimAtom(row_of(b, n_satom));
@@ -75,11 +73,8 @@ fn look_operation(
     r: usize,
     seen0: Seen,
 ) -> Seen
-    ghost { ShiftTables }
-    requires* num_trans_value { λ T. ⌜ shift_tables p2s.now s2pp.now nsym_list.now perms.now n_satom n_patom num_trans ≡ T ⌝ }
-    requires* fact { λ T. ⌜ Ready limit2 1 (length fc.now) T × Sends n_satom operations.now r × (r < 1024) ⌝ }
-    ensures* { λ T q. ⌜ ((carts : List Float) → c.now ≡ coefficients (block 9 r carts) 2 9
-        → q ≡ operation_seen (shifts_of T) 1 carts operations.now fc.now 9 (times_power n_satom 1 n_patom) r seen0) ⌝ }
+    requires { let T : ShiftTables = shift_tables p2s.now s2pp.now nsym_list.now perms.now n_satom n_patom num_trans in Ready limit2 1 (length fc.now) T × Sends n_satom operations.now r × (r < 1024) }
+    ensures { let T : ShiftTables = shift_tables p2s.now s2pp.now nsym_list.now perms.now n_satom n_patom num_trans in ((carts : List Float) → c.now ≡ coefficients (block 9 r carts) 2 9 → result ≡ operation_seen (shifts_of T) 1 carts operations.now fc.now 9 (times_power n_satom 1 n_patom) r seen0) }
 {
     let count = row_of(fc.len(), 9);
     let mut seen = seen0;
@@ -108,10 +103,8 @@ fn scan(
     num_trans: usize,
     num_rot: usize,
 ) -> Seen
-    ghost { ShiftTables }
-    requires* num_trans_value { λ T. ⌜ shift_tables p2s.now s2pp.now nsym_list.now perms.now n_satom n_patom num_trans ≡ T ⌝ }
-    requires* fact { λ T. ⌜ Ready limit2 1 (length fc.now) T × Operating n_satom num_rot (length r_carts.now) operations.now ⌝ }
-    ensures* { λ T q. ⌜ q ≡ all_seen (shifts_of T) 1 r_carts.now operations.now fc.now num_rot ⌝ }
+    requires { let T : ShiftTables = shift_tables p2s.now s2pp.now nsym_list.now perms.now n_satom n_patom num_trans in Ready limit2 1 (length fc.now) T × Operating n_satom num_rot (length r_carts.now) operations.now }
+    ensures { let T : ShiftTables = shift_tables p2s.now s2pp.now nsym_list.now perms.now n_satom n_patom num_trans in result ≡ all_seen (shifts_of T) 1 r_carts.now operations.now fc.now num_rot }
 {
     let mut seen = start();
     for r in 0..num_rot {

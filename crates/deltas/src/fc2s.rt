@@ -105,11 +105,9 @@ fn add_pair_fc2s(
     num_site_sym: usize,
     num_disp: usize,
 )
-    ghost { Deltas }
-    requires* num_disp_value { λ D. ⌜ deltas_of delta_fc2s.now inv_u.now site_sym_cart.now rot_map_syms.now num_atom num_site_sym num_disp ≡ D ⌝ }
-    requires* fact { λ D. ⌜ Ready D 2 ⌝ }
-    requires* fact_2 { λ D. ⌜ (i < num_atom) × (n < num_disp * num_site_sym) × (length fc3.old ≡ num_atom ^ 2 * 27) ⌝ }
-    ensures* { λ D _. ⌜ fc3.new ≡ add_pair D 1 i n fc3.old ⌝ }
+    requires ready { let D : Deltas = deltas_of delta_fc2s.now inv_u.now site_sym_cart.now rot_map_syms.now num_atom num_site_sym num_disp in Ready D 2 }
+    requires in_range { (i < num_atom) × (n < num_disp * num_site_sym) × (length fc3.old ≡ num_atom ^ 2 * 27) }
+    ensures { let D : Deltas = deltas_of delta_fc2s.now inv_u.now site_sym_cart.now rot_map_syms.now num_atom num_site_sym num_disp in fc3.new ≡ add_pair D 1 i n fc3.old }
 {
     let s = places::column_of(n, num_site_sym);
     let d = places::row_of(n, num_site_sym);
@@ -132,11 +130,9 @@ fn rotate_row_fc2s(
     num_site_sym: usize,
     num_disp: usize,
 )
-    ghost { Deltas }
-    requires* num_disp_value { λ D. ⌜ deltas_of delta_fc2s.now inv_u.now site_sym_cart.now rot_map_syms.now num_atom num_site_sym num_disp ≡ D ⌝ }
-    requires* fact { λ D. ⌜ Ready D 2 ⌝ }
-    requires* fact_2 { λ D. ⌜ (i < num_atom) × (length fc3.old ≡ num_atom ^ 2 * 27) ⌝ }
-    ensures* { λ D _. ⌜ fc3.new ≡ times (num_disp * num_site_sym) (add_pair D 1 i) fc3.old ⌝ }
+    requires ready { let D : Deltas = deltas_of delta_fc2s.now inv_u.now site_sym_cart.now rot_map_syms.now num_atom num_site_sym num_disp in Ready D 2 }
+    requires in_range { (i < num_atom) × (length fc3.old ≡ num_atom ^ 2 * 27) }
+    ensures { let D : Deltas = deltas_of delta_fc2s.now inv_u.now site_sym_cart.now rot_map_syms.now num_atom num_site_sym num_disp in fc3.new ≡ times (num_disp * num_site_sym) (add_pair D 1 i) fc3.old }
 {
     for n in 0..num_disp * num_site_sym {
         add_pair_fc2s(
@@ -165,11 +161,9 @@ fn rotate_rows_fc2s(
     num_site_sym: usize,
     num_disp: usize,
 )
-    ghost { Deltas }
-    requires* num_disp_value { λ D. ⌜ deltas_of delta_fc2s.now inv_u.now site_sym_cart.now rot_map_syms.now num_atom num_site_sym num_disp ≡ D ⌝ }
-    requires* fact { λ D. ⌜ Ready D 2 ⌝ }
-    requires* fc3_value { λ D. ⌜ length fc3.old ≡ num_atom ^ 2 * 27 ⌝ }
-    ensures* { λ D _. ⌜ fc3.new ≡ rotated_deltas D 2 ⌝ }
+    requires ready { let D : Deltas = deltas_of delta_fc2s.now inv_u.now site_sym_cart.now rot_map_syms.now num_atom num_site_sym num_disp in Ready D 2 }
+    requires in_range { length fc3.old ≡ num_atom ^ 2 * 27 }
+    ensures { let D : Deltas = deltas_of delta_fc2s.now inv_u.now site_sym_cart.now rot_map_syms.now num_atom num_site_sym num_disp in fc3.new ≡ rotated_deltas D 2 }
 {
     lists::clear_floats(fc3);
     for i in 0..num_atom {

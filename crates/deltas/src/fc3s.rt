@@ -133,11 +133,9 @@ fn add_pair_fc3s(
     num_site_sym: usize,
     num_disp: usize,
 )
-    ghost { Deltas }
-    requires* num_disp_value { λ D. ⌜ deltas_of delta_fc3s.now inv_u.now site_sym_cart.now rot_map_syms.now num_atom num_site_sym num_disp ≡ D ⌝ }
-    requires* fact { λ D. ⌜ Ready D 3 ⌝ }
-    requires* fact_2 { λ D. ⌜ (i < num_atom) × (n < num_disp * num_site_sym) × (length fc4.old ≡ num_atom ^ 3 * 81) ⌝ }
-    ensures* { λ D _. ⌜ fc4.new ≡ add_pair D 2 i n fc4.old ⌝ }
+    requires ready { let D : Deltas = deltas_of delta_fc3s.now inv_u.now site_sym_cart.now rot_map_syms.now num_atom num_site_sym num_disp in Ready D 3 }
+    requires in_range { (i < num_atom) × (n < num_disp * num_site_sym) × (length fc4.old ≡ num_atom ^ 3 * 81) }
+    ensures { let D : Deltas = deltas_of delta_fc3s.now inv_u.now site_sym_cart.now rot_map_syms.now num_atom num_site_sym num_disp in fc4.new ≡ add_pair D 2 i n fc4.old }
 {
     let s = places::column_of(n, num_site_sym);
     let d = places::row_of(n, num_site_sym);
@@ -160,11 +158,9 @@ fn rotate_row_fc3s(
     num_site_sym: usize,
     num_disp: usize,
 )
-    ghost { Deltas }
-    requires* num_disp_value { λ D. ⌜ deltas_of delta_fc3s.now inv_u.now site_sym_cart.now rot_map_syms.now num_atom num_site_sym num_disp ≡ D ⌝ }
-    requires* fact { λ D. ⌜ Ready D 3 ⌝ }
-    requires* fact_2 { λ D. ⌜ (i < num_atom) × (length fc4.old ≡ num_atom ^ 3 * 81) ⌝ }
-    ensures* { λ D _. ⌜ fc4.new ≡ times (num_disp * num_site_sym) (add_pair D 2 i) fc4.old ⌝ }
+    requires ready { let D : Deltas = deltas_of delta_fc3s.now inv_u.now site_sym_cart.now rot_map_syms.now num_atom num_site_sym num_disp in Ready D 3 }
+    requires in_range { (i < num_atom) × (length fc4.old ≡ num_atom ^ 3 * 81) }
+    ensures { let D : Deltas = deltas_of delta_fc3s.now inv_u.now site_sym_cart.now rot_map_syms.now num_atom num_site_sym num_disp in fc4.new ≡ times (num_disp * num_site_sym) (add_pair D 2 i) fc4.old }
 {
     for n in 0..num_disp * num_site_sym {
         add_pair_fc3s(
@@ -193,11 +189,9 @@ fn rotate_rows_fc3s(
     num_site_sym: usize,
     num_disp: usize,
 )
-    ghost { Deltas }
-    requires* num_disp_value { λ D. ⌜ deltas_of delta_fc3s.now inv_u.now site_sym_cart.now rot_map_syms.now num_atom num_site_sym num_disp ≡ D ⌝ }
-    requires* fact { λ D. ⌜ Ready D 3 ⌝ }
-    requires* fc4_value { λ D. ⌜ length fc4.old ≡ num_atom ^ 3 * 81 ⌝ }
-    ensures* { λ D _. ⌜ fc4.new ≡ rotated_deltas D 3 ⌝ }
+    requires ready { let D : Deltas = deltas_of delta_fc3s.now inv_u.now site_sym_cart.now rot_map_syms.now num_atom num_site_sym num_disp in Ready D 3 }
+    requires in_range { length fc4.old ≡ num_atom ^ 3 * 81 }
+    ensures { let D : Deltas = deltas_of delta_fc3s.now inv_u.now site_sym_cart.now rot_map_syms.now num_atom num_site_sym num_disp in fc4.new ≡ rotated_deltas D 3 }
 {
     lists::clear_floats(fc4);
     for i in 0..num_atom {

@@ -1,4 +1,6 @@
 // The rotations of displaced force constants: what rotate_delta_fc2s and rotate_delta_fc3s share, and the guard of both.
+#![tactic(auto)]
+
 pub mod fc2s;
 pub mod fc3s;
 
@@ -49,10 +51,8 @@ pub fn lengths_wrong(
     num_site_sym: usize,
     num_disp: usize,
 ) -> bool
-    ghost { Deltas }
-    requires* num_disp_value { λ D. ⌜ deltas_of deltas.now inv_u.now site_sym_cart.now rot_map_syms.now num_atom num_site_sym num_disp ≡ D ⌝ }
-    requires* small { λ D. ⌜ (b ≤ 16777216) × (w ≤ 27) × (num_atom ≤ 256) × (num_site_sym ≤ 1024) × (num_disp ≤ 1024) ⌝ }
-    ensures* { λ D r. ⌜ r ≡ any_wrong (delta_lengths D (b * (3 * w)) b w (length res.now) (length rot_delta.now)) ⌝ }
+    requires { (b ≤ 16777216) × (w ≤ 27) × (num_atom ≤ 256) × (num_site_sym ≤ 1024) × (num_disp ≤ 1024) }
+    ensures { let D : Deltas = deltas_of deltas.now inv_u.now site_sym_cart.now rot_map_syms.now num_atom num_site_sym num_disp in result ≡ any_wrong (delta_lengths D (b * (3 * w)) b w (length res.now) (length rot_delta.now)) }
 {
     let total = num_disp * num_site_sym;
     if res.len() != b * (3 * w) {
@@ -91,10 +91,8 @@ pub fn judge_deltas(
     num_site_sym: usize,
     num_disp: usize,
 ) -> Answer
-    ghost { Deltas }
-    requires* num_disp_value { λ D. ⌜ deltas_of deltas.now inv_u.now site_sym_cart.now rot_map_syms.now num_atom num_site_sym num_disp ≡ D ⌝ }
-    requires* ranks { λ D. ⌜ (limit ≤ 256) × (m ≤ 3) × (w ≡ 3 ^ m) ⌝ }
-    ensures* { λ D r. ⌜ r ≡ judged_deltas limit m D (length res.now) (length rot_delta.now) ⌝ }
+    requires { (limit ≤ 256) × (m ≤ 3) × (w ≡ 3 ^ m) }
+    ensures { let D : Deltas = deltas_of deltas.now inv_u.now site_sym_cart.now rot_map_syms.now num_atom num_site_sym num_disp in result ≡ judged_deltas limit m D (length res.now) (length rot_delta.now) }
 {
     if counts_above(limit, num_atom, num_site_sym, num_disp) {
         return Answer::Refused(Refusal::CountAboveLimit);

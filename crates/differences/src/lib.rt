@@ -1,6 +1,8 @@
 // The difference reports: how far the numbers differ that the permutations of the same legs read out.
 // One block, whatever the rank: bs has the block of each permutation, with width numbers in each; t has the position that each permutation gives to
 // each position of a block, a row for each.
+#![tactic(auto)]
+
 pub mod fourth;
 pub mod second;
 pub mod third;

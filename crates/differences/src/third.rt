@@ -29,10 +29,8 @@ fn scan(
     n_patom: usize,
     num_trans: usize,
 ) -> Seen
-    ghost { ShiftTables }
-    requires* num_trans_value { λ T. ⌜ shift_tables p2s.now s2pp.now nsym_list.now perms.now n_satom n_patom num_trans ≡ T ⌝ }
-    requires* fact { λ T. ⌜ Ready limit3 2 (length fc.now) T ⌝ }
-    ensures* { λ T r. ⌜ r ≡ all_seen (shifts_of T) 2 perms3 fc.now ⌝ }
+    requires { let T : ShiftTables = shift_tables p2s.now s2pp.now nsym_list.now perms.now n_satom n_patom num_trans in Ready limit3 2 (length fc.now) T }
+    ensures { let T : ShiftTables = shift_tables p2s.now s2pp.now nsym_list.now perms.now n_satom n_patom num_trans in result ≡ all_seen (shifts_of T) 2 perms3 fc.now }
 {
     let t = positions();
     let count = row_of(fc.len(), 27);

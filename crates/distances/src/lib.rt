@@ -1,4 +1,6 @@
 // The distance leaf of the matchers: whether a position and a slot are near, far, or their distance is no number.
+#![tactic(auto)]
+
 ghost use Rattle.std.specs.Prelude.{◌≡◌, ◌+◌, ◌*◌, ◌≤◌, T, length};
 ghost use Rattle.std.specs.Float.{binary64};
 ghost use Rattle.std.specs.Float.Ieee.{mul, lt};
@@ -10,7 +12,7 @@ use places::index_of;
 
 // A crystal's cell: the lattice's nine numbers, row after row, the tolerance, and along which axes the cell repeats. Component k of a difference is row k times the
 // difference of the coordinates, so the basis vectors stand in the columns; axis k is coordinate k.
-#[derive(Drop)]
+#[derive(Clone, Copy)]
 pub struct Cell {
     pub lattice: [f64; 9],
     pub symprec: f64,
@@ -18,7 +20,7 @@ pub struct Cell {
 }
 
 // What a distance is to the tolerance: below it, not below it, or NaN.
-#[derive(Drop)]
+#[derive(Clone, Copy)]
 pub enum Distance {
     Near,
     Far,
@@ -72,7 +74,7 @@ fn dot(a: f64, b: f64, c: f64, x: f64, y: f64, z: f64) -> f64
 
 // What is worked out once from a cell: the tolerance's square, above which nothing is near; a square up to which everything is; and the square above which the
 // first component alone decides that the distance is far, and a number.
-#[derive(Drop)]
+#[derive(Clone, Copy)]
 pub struct Reach {
     pub square: f64,
     pub sure: f64,

@@ -67,14 +67,10 @@ fn distribute_atom(
     num_pos: usize,
     i: usize,
 )
-    ghost { Distribution }
-    requires* num_pos_value { λ D. ⌜
-        distribution atom_list.now fc_indices_of_atom_list.now r_carts.now permutations.now map_atoms.now map_syms.now num_pos
-        ≡ D ⌝ }
-    requires* fact { λ D. ⌜ (i < length atom_list.now) × (length atom_list_reverse.now ≡ num_pos) ⌝ }
-    requires* fact_2 { λ D. ⌜ Placed atom_list.now (length atom_list.now) atom_list_reverse.now ⌝ }
-    requires* fact_3 { λ D. ⌜ Ready D (length fc2.old) ⌝ }
-    ensures* { λ D _. ⌜ fc2.new ≡ distribute_atom D i fc2.old ⌝ }
+    requires in_range { (i < length atom_list.now) × (length atom_list_reverse.now ≡ num_pos) }
+    requires placed { Placed atom_list.now (length atom_list.now) atom_list_reverse.now }
+    requires ready { let D : Distribution = distribution atom_list.now fc_indices_of_atom_list.now r_carts.now permutations.now map_atoms.now map_syms.now num_pos in Ready D (length fc2.old) }
+    ensures { let D : Distribution = distribution atom_list.now fc_indices_of_atom_list.now r_carts.now permutations.now map_atoms.now map_syms.now num_pos in fc2.new ≡ distribute_atom D i fc2.old }
 {
     let atom_todo = tables::index::entry(atom_list, i);
     let atom_done = tables::index::entry(map_atoms, atom_todo);
@@ -108,14 +104,10 @@ fn distribute_atoms(
     atom_list_reverse: &[i64],
     num_pos: usize,
 )
-    ghost { Distribution }
-    requires* num_pos_value { λ D. ⌜
-        distribution atom_list.now fc_indices_of_atom_list.now r_carts.now permutations.now map_atoms.now map_syms.now num_pos
-        ≡ D ⌝ }
-    requires* atom_list_reverse_value { λ D. ⌜ length atom_list_reverse.now ≡ num_pos ⌝ }
-    requires* fact { λ D. ⌜ Placed atom_list.now (length atom_list.now) atom_list_reverse.now ⌝ }
-    requires* fact_2 { λ D. ⌜ Ready D (length fc2.old) ⌝ }
-    ensures* { λ D _. ⌜ fc2.new ≡ distributed_fc2 D fc2.old ⌝ }
+    requires in_range { length atom_list_reverse.now ≡ num_pos }
+    requires placed { Placed atom_list.now (length atom_list.now) atom_list_reverse.now }
+    requires ready { let D : Distribution = distribution atom_list.now fc_indices_of_atom_list.now r_carts.now permutations.now map_atoms.now map_syms.now num_pos in Ready D (length fc2.old) }
+    ensures { let D : Distribution = distribution atom_list.now fc_indices_of_atom_list.now r_carts.now permutations.now map_atoms.now map_syms.now num_pos in fc2.new ≡ distributed_fc2 D fc2.old }
 {
     for i in 0..atom_list.len() {
         distribute_atom(
@@ -209,12 +201,8 @@ fn lengths_wrong(
     num_first: usize,
     num_rot: usize,
 ) -> bool
-    ghost { Distribution }
-    requires* num_pos_value { λ D. ⌜
-        distribution atom_list.now fc_indices_of_atom_list.now r_carts.now permutations.now map_atoms.now map_syms.now num_pos
-        ≡ D ⌝ }
-    requires* fact { λ D. ⌜ (num_pos ≤ 1024) × (num_first ≤ 1024) × (num_rot ≤ 1024) ⌝ }
-    ensures* { λ D r. ⌜ r ≡ any_wrong (lengths_fc2 D num_first num_rot (length fc2.now) (length atom_list_reverse.now)) ⌝ }
+    requires { (num_pos ≤ 1024) × (num_first ≤ 1024) × (num_rot ≤ 1024) }
+    ensures { let D : Distribution = distribution atom_list.now fc_indices_of_atom_list.now r_carts.now permutations.now map_atoms.now map_syms.now num_pos in result ≡ any_wrong (lengths_fc2 D num_first num_rot (length fc2.now) (length atom_list_reverse.now)) }
 {
     if fc2.len() != num_first * num_pos * 9 {
         return true;
@@ -281,11 +269,7 @@ fn judge_distribute_fc2(
     num_first: usize,
     num_rot: usize,
 ) -> Answer
-    ghost { Distribution }
-    requires* { λ D. ⌜
-        distribution atom_list.now fc_indices_of_atom_list.now r_carts.now permutations.now map_atoms.now map_syms.now num_pos
-        ≡ D ⌝ }
-    ensures* { λ D r. ⌜ r ≡ judged_distribute_fc2 D num_first num_rot (length fc2.now) (length atom_list_reverse.now) ⌝ }
+    ensures { let D : Distribution = distribution atom_list.now fc_indices_of_atom_list.now r_carts.now permutations.now map_atoms.now map_syms.now num_pos in result ≡ judged_distribute_fc2 D num_first num_rot (length fc2.now) (length atom_list_reverse.now) }
 {
     if counts_above(num_pos, num_first, num_rot, atom_list.len()) {
         return Answer::Refused(Refusal::CountAboveLimit);

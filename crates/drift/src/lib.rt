@@ -1,5 +1,7 @@
 // Drift reports (document 01, "Drift report"; document 02, A.4): how far the rows and the columns of a set are from adding up to zero. What is known of
 // the sums that were looked at, and the report from it.
+#![tactic(auto)]
+
 pub mod compact;
 pub mod full;
 pub mod seen;
@@ -15,14 +17,14 @@ use reports::seen::Seen;
 use tables::{Answer, Refusal};
 
 // Which sums a report names: that of a row, over the second atom, or that of a column, over the first.
-#[derive(Drop)]
+#[derive(Clone, Copy)]
 pub enum Along {
     Rows,
     Columns,
 }
 
 // The drift and its place: a row or a column, its atom, and the directions.
-#[derive(Drop)]
+#[derive(Clone, Copy)]
 pub struct DriftReport {
     pub drift: Deviation,
     pub along: Along,
@@ -31,7 +33,7 @@ pub struct DriftReport {
     pub l: usize,
 }
 
-#[derive(Drop)]
+#[derive(Clone, Copy)]
 pub enum DriftAnswer {
     Report(DriftReport),
     Refused(Refusal),

@@ -15,7 +15,7 @@ use tables::sets::judge_full;
 use tables::{Answer, Refusal};
 
 // The drift and its place: the leg that is summed over, 0, 1 or 2, the atoms of the two others, and the directions.
-#[derive(Drop)]
+#[derive(Clone, Copy)]
 pub struct LegReport {
     pub drift: Deviation,
     pub leg: usize,
@@ -26,7 +26,7 @@ pub struct LegReport {
     pub m: usize,
 }
 
-#[derive(Drop)]
+#[derive(Clone, Copy)]
 pub enum LegAnswer {
     Report(LegReport),
     Refused(Refusal),

@@ -1,5 +1,7 @@
 // Why shift tables are refused: which count, which table, which entry, or which rule, with the rows and atoms that break it. Plain searches, made
 // only where the guard refuses.
+#![tactic(auto)]
+
 mod rules;
 mod search;
 
@@ -21,7 +23,7 @@ use tables::{Answer, Refusal};
 // 3: the same for the first with an entry that is out of range, and `first` is the first such entry.
 // 6: the first rule that is broken, from 0 to 7 in document 01's order, and the least numbers that break it.
 // What is not named is 0.
-#[derive(Drop)]
+#[derive(Clone, Copy)]
 pub struct Explanation {
     pub answer: Answer,
     pub which: usize,
@@ -56,10 +58,8 @@ fn first_wrong(
     n_patom: usize,
     num_trans: usize,
 ) -> usize
-    ghost { ShiftTables }
-    requires* num_trans_value { λ T. ⌜ shift_tables p2s.now s2pp.now nsym_list.now perms.now n_satom n_patom num_trans ≡ T ⌝ }
-    requires* counts { λ T. ⌜ (n_satom ≤ 1024) × (num_trans ≤ 1024) ⌝ }
-    ensures* { λ T r. ⌜ r ≡ first_wrong (table_lengths T) ⌝ }
+    requires { (n_satom ≤ 1024) × (num_trans ≤ 1024) }
+    ensures { let T : ShiftTables = shift_tables p2s.now s2pp.now nsym_list.now perms.now n_satom n_patom num_trans in result ≡ first_wrong (table_lengths T) }
 {
     if perms.len() != num_trans * n_satom {
         return 0;
@@ -123,9 +123,7 @@ fn bad_entry(
     n_patom: usize,
     num_trans: usize,
 ) -> Explanation
-    ghost { ShiftTables }
-    requires* { λ T. ⌜ shift_tables p2s.now s2pp.now nsym_list.now perms.now n_satom n_patom num_trans ≡ T ⌝ }
-    ensures* { λ T r. ⌜ r ≡ bad_entry T ⌝ }
+    ensures { let T : ShiftTables = shift_tables p2s.now s2pp.now nsym_list.now perms.now n_satom n_patom num_trans in result ≡ bad_entry T }
 {
     if !all_below(perms, n_satom) {
         let k = first_beyond(perms, n_satom);
@@ -156,10 +154,8 @@ fn broken_rule(
     n_patom: usize,
     num_trans: usize,
 ) -> Explanation
-    ghost { ShiftTables }
-    requires* num_trans_value { λ T. ⌜ shift_tables p2s.now s2pp.now nsym_list.now perms.now n_satom n_patom num_trans ≡ T ⌝ }
-    requires* fact { λ T. ⌜ TablesFit 1024 T × (ruled (shifts_of T) ≡ false) ⌝ }
-    ensures* { λ T r. ⌜ r ≡ broken_rule (shifts_of T) ⌝ }
+    requires { let T : ShiftTables = shift_tables p2s.now s2pp.now nsym_list.now perms.now n_satom n_patom num_trans in TablesFit 1024 T × (ruled (shifts_of T) ≡ false) }
+    ensures { let T : ShiftTables = shift_tables p2s.now s2pp.now nsym_list.now perms.now n_satom n_patom num_trans in result ≡ broken_rule (shifts_of T) }
 {
     let r = search::first_broken(p2s, s2pp, nsym_list, perms, n_satom, n_patom, num_trans);
     let i = search::first_of(r, p2s, s2pp, nsym_list, perms, n_satom, n_patom, num_trans);

@@ -23,10 +23,8 @@ fn meet(
     u: usize,
     b: usize,
 ) -> bool
-    ghost { ShiftTables }
-    requires* num_trans_value { λ T. ⌜ shift_tables p2s.now s2pp.now nsym_list.now perms.now n_satom n_patom num_trans ≡ T ⌝ }
-    requires* fact { λ T. ⌜ TablesFit 1024 T × (t < num_trans) × (a < n_satom) × (u < num_trans) × (b < n_satom) ⌝ }
-    ensures* { λ T r. ⌜ r ≡ eqb (row (shifts_of T) t a) (row (shifts_of T) u b) ⌝ }
+    requires { let T : ShiftTables = shift_tables p2s.now s2pp.now nsym_list.now perms.now n_satom n_patom num_trans in TablesFit 1024 T × (t < num_trans) × (a < n_satom) × (u < num_trans) × (b < n_satom) }
+    ensures { let T : ShiftTables = shift_tables p2s.now s2pp.now nsym_list.now perms.now n_satom n_patom num_trans in result ≡ eqb (row (shifts_of T) t a) (row (shifts_of T) u b) }
 {
     let x = perms_at(perms, n_satom, t, SuperAtom(a));
     let y = perms_at(perms, n_satom, u, SuperAtom(b));
@@ -44,10 +42,8 @@ fn is_null(
     num_trans: usize,
     t: usize,
 ) -> bool
-    ghost { ShiftTables }
-    requires* num_trans_value { λ T. ⌜ shift_tables p2s.now s2pp.now nsym_list.now perms.now n_satom n_patom num_trans ≡ T ⌝ }
-    requires* fact { λ T. ⌜ TablesFit 1024 T × (t < num_trans) ⌝ }
-    ensures* { λ T r. ⌜ r ≡ is_null (shifts_of T) t ⌝ }
+    requires { let T : ShiftTables = shift_tables p2s.now s2pp.now nsym_list.now perms.now n_satom n_patom num_trans in TablesFit 1024 T × (t < num_trans) }
+    ensures { let T : ShiftTables = shift_tables p2s.now s2pp.now nsym_list.now perms.now n_satom n_patom num_trans in result ≡ is_null (shifts_of T) t }
 {
     let mut a = 0;
     while a < n_satom {
@@ -70,10 +66,8 @@ fn has_null(
     n_patom: usize,
     num_trans: usize,
 ) -> bool
-    ghost { ShiftTables }
-    requires* num_trans_value { λ T. ⌜ shift_tables p2s.now s2pp.now nsym_list.now perms.now n_satom n_patom num_trans ≡ T ⌝ }
-    requires* fact { λ T. ⌜ TablesFit 1024 T ⌝ }
-    ensures* { λ T r. ⌜ r ≡ has_null (shifts_of T) ⌝ }
+    requires { let T : ShiftTables = shift_tables p2s.now s2pp.now nsym_list.now perms.now n_satom n_patom num_trans in TablesFit 1024 T }
+    ensures { let T : ShiftTables = shift_tables p2s.now s2pp.now nsym_list.now perms.now n_satom n_patom num_trans in result ≡ has_null (shifts_of T) }
 {
     let mut t = 0;
     while t < num_trans {
@@ -98,10 +92,8 @@ fn is_after(
     u: usize,
     v: usize,
 ) -> bool
-    ghost { ShiftTables }
-    requires* num_trans_value { λ T. ⌜ shift_tables p2s.now s2pp.now nsym_list.now perms.now n_satom n_patom num_trans ≡ T ⌝ }
-    requires* fact { λ T. ⌜ TablesFit 1024 T × (t < num_trans) × (u < num_trans) × (v < num_trans) ⌝ }
-    ensures* { λ T r. ⌜ r ≡ is_after (shifts_of T) t u v ⌝ }
+    requires { let T : ShiftTables = shift_tables p2s.now s2pp.now nsym_list.now perms.now n_satom n_patom num_trans in TablesFit 1024 T × (t < num_trans) × (u < num_trans) × (v < num_trans) }
+    ensures { let T : ShiftTables = shift_tables p2s.now s2pp.now nsym_list.now perms.now n_satom n_patom num_trans in result ≡ is_after (shifts_of T) t u v }
 {
     let mut a = 0;
     while a < n_satom {
@@ -128,10 +120,8 @@ fn has_after(
     t: usize,
     u: usize,
 ) -> bool
-    ghost { ShiftTables }
-    requires* num_trans_value { λ T. ⌜ shift_tables p2s.now s2pp.now nsym_list.now perms.now n_satom n_patom num_trans ≡ T ⌝ }
-    requires* fact { λ T. ⌜ TablesFit 1024 T × (t < num_trans) × (u < num_trans) ⌝ }
-    ensures* { λ T r. ⌜ r ≡ some num_trans (is_after (shifts_of T) t u) ⌝ }
+    requires { let T : ShiftTables = shift_tables p2s.now s2pp.now nsym_list.now perms.now n_satom n_patom num_trans in TablesFit 1024 T × (t < num_trans) × (u < num_trans) }
+    ensures { let T : ShiftTables = shift_tables p2s.now s2pp.now nsym_list.now perms.now n_satom n_patom num_trans in result ≡ some num_trans (is_after (shifts_of T) t u) }
 {
     let mut v = 0;
     while v < num_trans {
@@ -156,10 +146,8 @@ fn comes_back(
     num_trans: usize,
     p: usize,
 ) -> bool
-    ghost { ShiftTables }
-    requires* num_trans_value { λ T. ⌜ shift_tables p2s.now s2pp.now nsym_list.now perms.now n_satom n_patom num_trans ≡ T ⌝ }
-    requires* fact { λ T. ⌜ TablesFit 1024 T × (p < n_patom) ⌝ }
-    ensures* { λ T r. ⌜ r ≡ eqb (s2pp_at (shifts_of T) (p2s_at (shifts_of T) p)) p ⌝ }
+    requires { let T : ShiftTables = shift_tables p2s.now s2pp.now nsym_list.now perms.now n_satom n_patom num_trans in TablesFit 1024 T × (p < n_patom) }
+    ensures { let T : ShiftTables = shift_tables p2s.now s2pp.now nsym_list.now perms.now n_satom n_patom num_trans in result ≡ eqb (s2pp_at (shifts_of T) (p2s_at (shifts_of T) p)) p }
 {
     let q = s2pp_at(s2pp, p2s_at(p2s, PrimAtom(p)));
     same_prim(q, PrimAtom(p))
@@ -177,10 +165,8 @@ fn keeps_prim(
     t: usize,
     a: usize,
 ) -> bool
-    ghost { ShiftTables }
-    requires* num_trans_value { λ T. ⌜ shift_tables p2s.now s2pp.now nsym_list.now perms.now n_satom n_patom num_trans ≡ T ⌝ }
-    requires* fact { λ T. ⌜ TablesFit 1024 T × (t < num_trans) × (a < n_satom) ⌝ }
-    ensures* { λ T r. ⌜ r ≡ eqb (s2pp_at (shifts_of T) (row (shifts_of T) t a)) (s2pp_at (shifts_of T) a) ⌝ }
+    requires { let T : ShiftTables = shift_tables p2s.now s2pp.now nsym_list.now perms.now n_satom n_patom num_trans in TablesFit 1024 T × (t < num_trans) × (a < n_satom) }
+    ensures { let T : ShiftTables = shift_tables p2s.now s2pp.now nsym_list.now perms.now n_satom n_patom num_trans in result ≡ eqb (s2pp_at (shifts_of T) (row (shifts_of T) t a)) (s2pp_at (shifts_of T) a) }
 {
     let p = s2pp_at(s2pp, perms_at(perms, n_satom, t, SuperAtom(a)));
     let q = s2pp_at(s2pp, SuperAtom(a));
@@ -198,10 +184,8 @@ fn lands(
     num_trans: usize,
     a: usize,
 ) -> bool
-    ghost { ShiftTables }
-    requires* num_trans_value { λ T. ⌜ shift_tables p2s.now s2pp.now nsym_list.now perms.now n_satom n_patom num_trans ≡ T ⌝ }
-    requires* fact { λ T. ⌜ TablesFit 1024 T × (a < n_satom) ⌝ }
-    ensures* { λ T r. ⌜ r ≡ eqb (row (shifts_of T) (nsym_at (shifts_of T) a) a) (p2s_at (shifts_of T) (s2pp_at (shifts_of T) a)) ⌝ }
+    requires { let T : ShiftTables = shift_tables p2s.now s2pp.now nsym_list.now perms.now n_satom n_patom num_trans in TablesFit 1024 T × (a < n_satom) }
+    ensures { let T : ShiftTables = shift_tables p2s.now s2pp.now nsym_list.now perms.now n_satom n_patom num_trans in result ≡ eqb (row (shifts_of T) (nsym_at (shifts_of T) a) a) (p2s_at (shifts_of T) (s2pp_at (shifts_of T) a)) }
 {
     let t = nsym_at(nsym_list, SuperAtom(a));
     let x = perms_at(perms, n_satom, t, SuperAtom(a));
@@ -223,15 +207,8 @@ pub fn breaks(
     j: usize,
     k: usize,
 ) -> bool
-    ghost { ShiftTables }
-    requires* num_trans_value { λ T. ⌜ shift_tables p2s.now s2pp.now nsym_list.now perms.now n_satom n_patom num_trans ≡ T ⌝ }
-    requires* fact { λ T. ⌜
-        TablesFit 1024 T
-        × (rule < 8)
-        × (i < (rule_at (shifts_of T) rule).firsts)
-        × (j < (rule_at (shifts_of T) rule).seconds)
-        × (k < (rule_at (shifts_of T) rule).thirds) ⌝ }
-    ensures* { λ T r. ⌜ r ≡ (rule_at (shifts_of T) rule).breaks i j k ⌝ }
+    requires { let T : ShiftTables = shift_tables p2s.now s2pp.now nsym_list.now perms.now n_satom n_patom num_trans in TablesFit 1024 T × (rule < 8) × (i < (rule_at (shifts_of T) rule).firsts) × (j < (rule_at (shifts_of T) rule).seconds) × (k < (rule_at (shifts_of T) rule).thirds) }
+    ensures { let T : ShiftTables = shift_tables p2s.now s2pp.now nsym_list.now perms.now n_satom n_patom num_trans in result ≡ (rule_at (shifts_of T) rule).breaks i j k }
 {
     match rule {
         0 => n_satom != n_patom * num_trans,

@@ -16,10 +16,8 @@ fn firsts(
     n_patom: usize,
     num_trans: usize,
 ) -> usize
-    ghost { ShiftTables }
-    requires* num_trans_value { λ T. ⌜ shift_tables p2s.now s2pp.now nsym_list.now perms.now n_satom n_patom num_trans ≡ T ⌝ }
-    requires* number { λ T. ⌜ rule < 8 ⌝ }
-    ensures* { λ T r. ⌜ r ≡ (rule_at (shifts_of T) rule).firsts ⌝ }
+    requires { rule < 8 }
+    ensures { let T : ShiftTables = shift_tables p2s.now s2pp.now nsym_list.now perms.now n_satom n_patom num_trans in result ≡ (rule_at (shifts_of T) rule).firsts }
 {
     match rule {
         0 => 1,
@@ -43,10 +41,8 @@ fn seconds(
     n_patom: usize,
     num_trans: usize,
 ) -> usize
-    ghost { ShiftTables }
-    requires* num_trans_value { λ T. ⌜ shift_tables p2s.now s2pp.now nsym_list.now perms.now n_satom n_patom num_trans ≡ T ⌝ }
-    requires* number { λ T. ⌜ rule < 8 ⌝ }
-    ensures* { λ T r. ⌜ r ≡ (rule_at (shifts_of T) rule).seconds ⌝ }
+    requires { rule < 8 }
+    ensures { let T : ShiftTables = shift_tables p2s.now s2pp.now nsym_list.now perms.now n_satom n_patom num_trans in result ≡ (rule_at (shifts_of T) rule).seconds }
 {
     match rule {
         0 => 1,
@@ -70,10 +66,8 @@ fn thirds(
     n_patom: usize,
     num_trans: usize,
 ) -> usize
-    ghost { ShiftTables }
-    requires* num_trans_value { λ T. ⌜ shift_tables p2s.now s2pp.now nsym_list.now perms.now n_satom n_patom num_trans ≡ T ⌝ }
-    requires* number { λ T. ⌜ rule < 8 ⌝ }
-    ensures* { λ T r. ⌜ r ≡ (rule_at (shifts_of T) rule).thirds ⌝ }
+    requires { rule < 8 }
+    ensures { let T : ShiftTables = shift_tables p2s.now s2pp.now nsym_list.now perms.now n_satom n_patom num_trans in result ≡ (rule_at (shifts_of T) rule).thirds }
 {
     match rule {
         0 => 1,
@@ -100,10 +94,8 @@ pub fn third_of(
     i: usize,
     j: usize,
 ) -> usize
-    ghost { ShiftTables }
-    requires* num_trans_value { λ T. ⌜ shift_tables p2s.now s2pp.now nsym_list.now perms.now n_satom n_patom num_trans ≡ T ⌝ }
-    requires* fact { λ T. ⌜ TablesFit 1024 T × (rule < 8) × (i < (rule_at (shifts_of T) rule).firsts) × (j < (rule_at (shifts_of T) rule).seconds) ⌝ }
-    ensures* { λ T r. ⌜ r ≡ third_of (rule_at (shifts_of T) rule) i j ⌝ }
+    requires { let T : ShiftTables = shift_tables p2s.now s2pp.now nsym_list.now perms.now n_satom n_patom num_trans in TablesFit 1024 T × (rule < 8) × (i < (rule_at (shifts_of T) rule).firsts) × (j < (rule_at (shifts_of T) rule).seconds) }
+    ensures { let T : ShiftTables = shift_tables p2s.now s2pp.now nsym_list.now perms.now n_satom n_patom num_trans in result ≡ third_of (rule_at (shifts_of T) rule) i j }
 {
     let n = thirds(
         rule, p2s, s2pp, nsym_list, perms, n_satom, n_patom, num_trans,
@@ -132,10 +124,8 @@ pub fn second_of(
     num_trans: usize,
     i: usize,
 ) -> usize
-    ghost { ShiftTables }
-    requires* num_trans_value { λ T. ⌜ shift_tables p2s.now s2pp.now nsym_list.now perms.now n_satom n_patom num_trans ≡ T ⌝ }
-    requires* fact { λ T. ⌜ TablesFit 1024 T × (rule < 8) × (i < (rule_at (shifts_of T) rule).firsts) ⌝ }
-    ensures* { λ T r. ⌜ r ≡ second_of (rule_at (shifts_of T) rule) i ⌝ }
+    requires { let T : ShiftTables = shift_tables p2s.now s2pp.now nsym_list.now perms.now n_satom n_patom num_trans in TablesFit 1024 T × (rule < 8) × (i < (rule_at (shifts_of T) rule).firsts) }
+    ensures { let T : ShiftTables = shift_tables p2s.now s2pp.now nsym_list.now perms.now n_satom n_patom num_trans in result ≡ second_of (rule_at (shifts_of T) rule) i }
 {
     let n = seconds(
         rule, p2s, s2pp, nsym_list, perms, n_satom, n_patom, num_trans,
@@ -167,10 +157,8 @@ pub fn first_of(
     n_patom: usize,
     num_trans: usize,
 ) -> usize
-    ghost { ShiftTables }
-    requires* num_trans_value { λ T. ⌜ shift_tables p2s.now s2pp.now nsym_list.now perms.now n_satom n_patom num_trans ≡ T ⌝ }
-    requires* fact { λ T. ⌜ TablesFit 1024 T × (rule < 8) ⌝ }
-    ensures* { λ T r. ⌜ r ≡ first_of (rule_at (shifts_of T) rule) ⌝ }
+    requires { let T : ShiftTables = shift_tables p2s.now s2pp.now nsym_list.now perms.now n_satom n_patom num_trans in TablesFit 1024 T × (rule < 8) }
+    ensures { let T : ShiftTables = shift_tables p2s.now s2pp.now nsym_list.now perms.now n_satom n_patom num_trans in result ≡ first_of (rule_at (shifts_of T) rule) }
 {
     let n = firsts(
         rule, p2s, s2pp, nsym_list, perms, n_satom, n_patom, num_trans,
@@ -201,10 +189,8 @@ pub fn first_broken(
     n_patom: usize,
     num_trans: usize,
 ) -> usize
-    ghost { ShiftTables }
-    requires* num_trans_value { λ T. ⌜ shift_tables p2s.now s2pp.now nsym_list.now perms.now n_satom n_patom num_trans ≡ T ⌝ }
-    requires* fact { λ T. ⌜ TablesFit 1024 T ⌝ }
-    ensures* { λ T r. ⌜ r ≡ first_broken (shifts_of T) ⌝ }
+    requires { let T : ShiftTables = shift_tables p2s.now s2pp.now nsym_list.now perms.now n_satom n_patom num_trans in TablesFit 1024 T }
+    ensures { let T : ShiftTables = shift_tables p2s.now s2pp.now nsym_list.now perms.now n_satom n_patom num_trans in result ≡ first_broken (shifts_of T) }
 {
     let mut rule = 0;
     while rule < 8 {

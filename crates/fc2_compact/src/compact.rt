@@ -26,10 +26,8 @@ fn level_pass(
     n_patom: usize,
     num_trans: usize,
 )
-    ghost { ShiftTables }
-    requires* num_trans_value { λ T. ⌜ shift_tables p2s.now s2pp.now nsym_list.now perms.now n_satom n_patom num_trans ≡ T ⌝ }
-    requires* fact { λ T. ⌜ Ready T (length fc.old) ⌝ }
-    ensures* { λ T _. ⌜ fc.new ≡ leveled (shifts_of T) fc.old ⌝ }
+    requires { let T : ShiftTables = shift_tables p2s.now s2pp.now nsym_list.now perms.now n_satom n_patom num_trans in Ready T (length fc.old) }
+    ensures { let T : ShiftTables = shift_tables p2s.now s2pp.now nsym_list.now perms.now n_satom n_patom num_trans in fc.new ≡ leveled (shifts_of T) fc.old }
 {
     transpose_pass(
         fc, p2s, s2pp, nsym_list, perms, n_satom, n_patom, num_trans, true,
@@ -53,10 +51,8 @@ fn levels(
     num_trans: usize,
     level: usize,
 )
-    ghost { ShiftTables }
-    requires* num_trans_value { λ T. ⌜ shift_tables p2s.now s2pp.now nsym_list.now perms.now n_satom n_patom num_trans ≡ T ⌝ }
-    requires* fact { λ T. ⌜ Ready T (length fc.old) ⌝ }
-    ensures* { λ T _. ⌜ fc.new ≡ times level (λ _. leveled (shifts_of T)) fc.old ⌝ }
+    requires { let T : ShiftTables = shift_tables p2s.now s2pp.now nsym_list.now perms.now n_satom n_patom num_trans in Ready T (length fc.old) }
+    ensures { let T : ShiftTables = shift_tables p2s.now s2pp.now nsym_list.now perms.now n_satom n_patom num_trans in fc.new ≡ times level (λ _. leveled (shifts_of T)) fc.old }
 {
     let mut done = 0;
     while done < level {
@@ -76,10 +72,8 @@ fn symmetrize(
     num_trans: usize,
     level: usize,
 )
-    ghost { ShiftTables }
-    requires* num_trans_value { λ T. ⌜ shift_tables p2s.now s2pp.now nsym_list.now perms.now n_satom n_patom num_trans ≡ T ⌝ }
-    requires* fact { λ T. ⌜ Ready T (length fc.old) ⌝ }
-    ensures* { λ T _. ⌜ fc.new ≡ symmetrized_compact (shifts_of T) level fc.old ⌝ }
+    requires { let T : ShiftTables = shift_tables p2s.now s2pp.now nsym_list.now perms.now n_satom n_patom num_trans in Ready T (length fc.old) }
+    ensures { let T : ShiftTables = shift_tables p2s.now s2pp.now nsym_list.now perms.now n_satom n_patom num_trans in fc.new ≡ symmetrized_compact (shifts_of T) level fc.old }
 {
     levels(
         fc, p2s, s2pp, nsym_list, perms, n_satom, n_patom, num_trans, level,
@@ -99,10 +93,8 @@ fn exchange(
     num_trans: usize,
     transpose: bool,
 )
-    ghost { ShiftTables }
-    requires* num_trans_value { λ T. ⌜ shift_tables p2s.now s2pp.now nsym_list.now perms.now n_satom n_patom num_trans ≡ T ⌝ }
-    requires* fact { λ T. ⌜ Ready T (length fc.old) ⌝ }
-    ensures* { λ T _. ⌜ fc.new ≡ cond transpose (transposed (shifts_of T) fc.old) (averaged_compact (shifts_of T) fc.old) ⌝ }
+    requires { let T : ShiftTables = shift_tables p2s.now s2pp.now nsym_list.now perms.now n_satom n_patom num_trans in Ready T (length fc.old) }
+    ensures { let T : ShiftTables = shift_tables p2s.now s2pp.now nsym_list.now perms.now n_satom n_patom num_trans in fc.new ≡ cond transpose (transposed (shifts_of T) fc.old) (averaged_compact (shifts_of T) fc.old) }
 {
     if transpose {
         transpose_pass(
@@ -125,9 +117,7 @@ fn judge(
     n_patom: usize,
     num_trans: usize,
 ) -> Answer
-    ghost { ShiftTables }
-    requires* { λ T. ⌜ shift_tables p2s.now s2pp.now nsym_list.now perms.now n_satom n_patom num_trans ≡ T ⌝ }
-    ensures* { λ T r. ⌜ r ≡ judged_compact limit2 1 set_len 1 work_len T ⌝ }
+    ensures { let T : ShiftTables = shift_tables p2s.now s2pp.now nsym_list.now perms.now n_satom n_patom num_trans in result ≡ judged_compact limit2 1 set_len 1 work_len T }
 {
     judge_compact(
         LIMIT2, 1, set_len, 1, work_len, p2s, s2pp, nsym_list, perms, n_satom, n_patom, num_trans,
@@ -147,9 +137,7 @@ fn judge_levels(
     num_trans: usize,
     level: usize,
 ) -> Answer
-    ghost { ShiftTables }
-    requires* { λ T. ⌜ shift_tables p2s.now s2pp.now nsym_list.now perms.now n_satom n_patom num_trans ≡ T ⌝ }
-    ensures* { λ T r. ⌜ r ≡ refuse_if (ltb limit_level level) Refusal.CountAboveLimit (judged_compact limit2 1 set_len 1 work_len T) ⌝ }
+    ensures { let T : ShiftTables = shift_tables p2s.now s2pp.now nsym_list.now perms.now n_satom n_patom num_trans in result ≡ refuse_if (ltb limit_level level) Refusal.CountAboveLimit (judged_compact limit2 1 set_len 1 work_len T) }
 {
     if level > LIMIT_LEVEL {
         return Answer::Refused(Refusal::CountAboveLimit);

@@ -39,10 +39,8 @@ fn transpose_visit(
     i: SuperAtom,
     j: SuperAtom,
 )
-    ghost { ShiftTables }
-    requires* num_trans_value { λ T. ⌜ shift_tables p2s.now s2pp.now nsym_list.now perms.now n_satom n_patom num_trans ≡ T ⌝ }
-    requires* fact { λ T. ⌜ ReadyAt T (length fc.old) p.0 i.0 j.0 ⌝ }
-    ensures* { λ T _. ⌜ fc.new ≡ transpose_visit half_shifts_stay (shifts_of T) p.0 j.0 fc.old ⌝ }
+    requires { let T : ShiftTables = shift_tables p2s.now s2pp.now nsym_list.now perms.now n_satom n_patom num_trans in ReadyAt T (length fc.old) p.0 i.0 j.0 }
+    ensures { let T : ShiftTables = shift_tables p2s.now s2pp.now nsym_list.now perms.now n_satom n_patom num_trans in fc.new ≡ transpose_visit half_shifts_stay (shifts_of T) p.0 j.0 fc.old }
 {
     if s2pp_at(s2pp, j).0 < p.0 {
         return;
@@ -78,10 +76,8 @@ fn average_visit(
     i: SuperAtom,
     j: SuperAtom,
 )
-    ghost { ShiftTables }
-    requires* num_trans_value { λ T. ⌜ shift_tables p2s.now s2pp.now nsym_list.now perms.now n_satom n_patom num_trans ≡ T ⌝ }
-    requires* fact { λ T. ⌜ ReadyAt T (length fc.old) p.0 i.0 j.0 ⌝ }
-    ensures* { λ T _. ⌜ fc.new ≡ average_visit (shifts_of T) p.0 j.0 fc.old ⌝ }
+    requires { let T : ShiftTables = shift_tables p2s.now s2pp.now nsym_list.now perms.now n_satom n_patom num_trans in ReadyAt T (length fc.old) p.0 i.0 j.0 }
+    ensures { let T : ShiftTables = shift_tables p2s.now s2pp.now nsym_list.now perms.now n_satom n_patom num_trans in fc.new ≡ average_visit (shifts_of T) p.0 j.0 fc.old }
 {
     if s2pp_at(s2pp, j).0 < p.0 {
         return;
@@ -107,10 +103,8 @@ fn transpose_row(
     half_shifts_stay: bool,
     p: usize,
 )
-    ghost { ShiftTables }
-    requires* num_trans_value { λ T. ⌜ shift_tables p2s.now s2pp.now nsym_list.now perms.now n_satom n_patom num_trans ≡ T ⌝ }
-    requires* fact { λ T. ⌜ Ready T (length fc.old) × (p < n_patom) ⌝ }
-    ensures* { λ T _. ⌜ fc.new ≡ times n_satom (transpose_visit half_shifts_stay (shifts_of T) p) fc.old ⌝ }
+    requires { let T : ShiftTables = shift_tables p2s.now s2pp.now nsym_list.now perms.now n_satom n_patom num_trans in Ready T (length fc.old) × (p < n_patom) }
+    ensures { let T : ShiftTables = shift_tables p2s.now s2pp.now nsym_list.now perms.now n_satom n_patom num_trans in fc.new ≡ times n_satom (transpose_visit half_shifts_stay (shifts_of T) p) fc.old }
 {
     let i = p2s_at(p2s, PrimAtom(p));
     let mut j = 0;
@@ -145,11 +139,8 @@ pub fn transpose_pass(
     num_trans: usize,
     half_shifts_stay: bool,
 )
-    ghost { ShiftTables }
-    requires* num_trans_value { λ T. ⌜ shift_tables p2s.now s2pp.now nsym_list.now perms.now n_satom n_patom num_trans ≡ T ⌝ }
-    requires* fact { λ T. ⌜ Ready T (length fc.old) ⌝ }
-    ensures* { λ T _. ⌜
-        fc.new ≡ cond half_shifts_stay (transposed (shifts_of T) fc.old) (swapped (shifts_of T) 1 (0, 1) fc.old) ⌝ }
+    requires { let T : ShiftTables = shift_tables p2s.now s2pp.now nsym_list.now perms.now n_satom n_patom num_trans in Ready T (length fc.old) }
+    ensures { let T : ShiftTables = shift_tables p2s.now s2pp.now nsym_list.now perms.now n_satom n_patom num_trans in fc.new ≡ cond half_shifts_stay (transposed (shifts_of T) fc.old) (swapped (shifts_of T) 1 (0, 1) fc.old) }
 {
     let mut p = 0;
     while p < n_patom {
@@ -181,10 +172,8 @@ fn average_row(
     num_trans: usize,
     p: usize,
 )
-    ghost { ShiftTables }
-    requires* num_trans_value { λ T. ⌜ shift_tables p2s.now s2pp.now nsym_list.now perms.now n_satom n_patom num_trans ≡ T ⌝ }
-    requires* fact { λ T. ⌜ Ready T (length fc.old) × (p < n_patom) ⌝ }
-    ensures* { λ T _. ⌜ fc.new ≡ times n_satom (average_visit (shifts_of T) p) fc.old ⌝ }
+    requires { let T : ShiftTables = shift_tables p2s.now s2pp.now nsym_list.now perms.now n_satom n_patom num_trans in Ready T (length fc.old) × (p < n_patom) }
+    ensures { let T : ShiftTables = shift_tables p2s.now s2pp.now nsym_list.now perms.now n_satom n_patom num_trans in fc.new ≡ times n_satom (average_visit (shifts_of T) p) fc.old }
 {
     let i = p2s_at(p2s, PrimAtom(p));
     let mut j = 0;
@@ -217,10 +206,8 @@ pub fn average_pass(
     n_patom: usize,
     num_trans: usize,
 )
-    ghost { ShiftTables }
-    requires* num_trans_value { λ T. ⌜ shift_tables p2s.now s2pp.now nsym_list.now perms.now n_satom n_patom num_trans ≡ T ⌝ }
-    requires* fact { λ T. ⌜ Ready T (length fc.old) ⌝ }
-    ensures* { λ T _. ⌜ fc.new ≡ averaged_compact (shifts_of T) fc.old ⌝ }
+    requires { let T : ShiftTables = shift_tables p2s.now s2pp.now nsym_list.now perms.now n_satom n_patom num_trans in Ready T (length fc.old) }
+    ensures { let T : ShiftTables = shift_tables p2s.now s2pp.now nsym_list.now perms.now n_satom n_patom num_trans in fc.new ≡ averaged_compact (shifts_of T) fc.old }
 {
     let mut p = 0;
     while p < n_patom {

@@ -21,10 +21,8 @@ fn site_row(
     num_trans: usize,
     p: usize,
 )
-    ghost { ShiftTables }
-    requires* num_trans_value { λ T. ⌜ shift_tables p2s.now s2pp.now nsym_list.now perms.now n_satom n_patom num_trans ≡ T ⌝ }
-    requires* fact { λ T. ⌜ Ready T (length fc.old) × (p < n_patom) ⌝ }
-    ensures* { λ T _. ⌜ fc.new ≡ balance_at n_satom (p2s_at (shifts_of T)) p fc.old ⌝ }
+    requires { let T : ShiftTables = shift_tables p2s.now s2pp.now nsym_list.now perms.now n_satom n_patom num_trans in Ready T (length fc.old) × (p < n_patom) }
+    ensures { let T : ShiftTables = shift_tables p2s.now s2pp.now nsym_list.now perms.now n_satom n_patom num_trans in fc.new ≡ balance_at n_satom (p2s_at (shifts_of T)) p fc.old }
 {
     let i = p2s_at(p2s, PrimAtom(p));
     let b = places::block2(PrimAtom(p), i, n_satom);
@@ -43,10 +41,8 @@ pub fn site_pass(
     n_patom: usize,
     num_trans: usize,
 )
-    ghost { ShiftTables }
-    requires* num_trans_value { λ T. ⌜ shift_tables p2s.now s2pp.now nsym_list.now perms.now n_satom n_patom num_trans ≡ T ⌝ }
-    requires* fact { λ T. ⌜ Ready T (length fc.old) ⌝ }
-    ensures* { λ T _. ⌜ fc.new ≡ on_site (shifts_of T) fc.old ⌝ }
+    requires { let T : ShiftTables = shift_tables p2s.now s2pp.now nsym_list.now perms.now n_satom n_patom num_trans in Ready T (length fc.old) }
+    ensures { let T : ShiftTables = shift_tables p2s.now s2pp.now nsym_list.now perms.now n_satom n_patom num_trans in fc.new ≡ on_site (shifts_of T) fc.old }
 {
     let mut p = 0;
     while p < n_patom {
@@ -68,10 +64,8 @@ pub fn drift_pass(
     n_patom: usize,
     num_trans: usize,
 )
-    ghost { ShiftTables }
-    requires* num_trans_value { λ T. ⌜ shift_tables p2s.now s2pp.now nsym_list.now perms.now n_satom n_patom num_trans ≡ T ⌝ }
-    requires* fact { λ T. ⌜ Ready T (length fc.old) ⌝ }
-    ensures* { λ T _. ⌜ fc.new ≡ without_row_drift_compact (shifts_of T) fc.old ⌝ }
+    requires { let T : ShiftTables = shift_tables p2s.now s2pp.now nsym_list.now perms.now n_satom n_patom num_trans in Ready T (length fc.old) }
+    ensures { let T : ShiftTables = shift_tables p2s.now s2pp.now nsym_list.now perms.now n_satom n_patom num_trans in fc.new ≡ without_row_drift_compact (shifts_of T) fc.old }
 {
     let inv_n = 1.0 / (n_satom as f64);
     lines::row_drift(fc, n_patom, n_satom, inv_n);

@@ -44,11 +44,9 @@ fn take(
     j: SuperAtom,
     k: SuperAtom,
 )
-    ghost { ShiftTables }
-    requires* num_trans_value { λ T. ⌜ shift_tables p2s.now s2pp.now nsym_list.now perms.now n_satom n_patom num_trans ≡ T ⌝ }
-    requires* fact { λ T. ⌜ Ready (length fc3.old) 2 (length done.old) T ⌝ }
-    requires* fact_2 { λ T. ⌜ Atoms T p.0 j.0 k.0 ⌝ }
-    ensures* { λ T _. ⌜ (fc3.new, done.new) ≡ work_at T (at3 T p.0 j.0 k.0) (fc3.old, done.old) ⌝ }
+    requires ready { let T : ShiftTables = shift_tables p2s.now s2pp.now nsym_list.now perms.now n_satom n_patom num_trans in Ready (length fc3.old) 2 (length done.old) T }
+    requires atoms { let T : ShiftTables = shift_tables p2s.now s2pp.now nsym_list.now perms.now n_satom n_patom num_trans in Atoms T p.0 j.0 k.0 }
+    ensures { let T : ShiftTables = shift_tables p2s.now s2pp.now nsym_list.now perms.now n_satom n_patom num_trans in (fc3.new, done.new) ≡ work_at T (at3 T p.0 j.0 k.0) (fc3.old, done.old) }
 {
     let i = p2s_at(p2s, p);
     let ijk = block3(p, j, k, n_satom);
@@ -76,11 +74,9 @@ fn visit(
     j: SuperAtom,
     k: SuperAtom,
 )
-    ghost { ShiftTables }
-    requires* num_trans_value { λ T. ⌜ shift_tables p2s.now s2pp.now nsym_list.now perms.now n_satom n_patom num_trans ≡ T ⌝ }
-    requires* fact { λ T. ⌜ Ready (length fc3.old) 2 (length done.old) T ⌝ }
-    requires* fact_2 { λ T. ⌜ Atoms T p.0 j.0 k.0 ⌝ }
-    ensures* { λ T _. ⌜ (fc3.new, done.new) ≡ visit_at T (at3 T p.0 j.0 k.0) (fc3.old, done.old) ⌝ }
+    requires ready { let T : ShiftTables = shift_tables p2s.now s2pp.now nsym_list.now perms.now n_satom n_patom num_trans in Ready (length fc3.old) 2 (length done.old) T }
+    requires atoms { let T : ShiftTables = shift_tables p2s.now s2pp.now nsym_list.now perms.now n_satom n_patom num_trans in Atoms T p.0 j.0 k.0 }
+    ensures { let T : ShiftTables = shift_tables p2s.now s2pp.now nsym_list.now perms.now n_satom n_patom num_trans in (fc3.new, done.new) ≡ visit_at T (at3 T p.0 j.0 k.0) (fc3.old, done.old) }
 {
     let n = block3(p, j, k, n_satom);
     if done[n] == 0 {
@@ -104,11 +100,9 @@ fn row(
     p: PrimAtom,
     j: SuperAtom,
 )
-    ghost { ShiftTables }
-    requires* num_trans_value { λ T. ⌜ shift_tables p2s.now s2pp.now nsym_list.now perms.now n_satom n_patom num_trans ≡ T ⌝ }
-    requires* fact { λ T. ⌜ Ready (length fc3.old) 2 (length done.old) T ⌝ }
-    requires* fact_2 { λ T. ⌜ (p.0 < n_patom) × (j.0 < n_satom) ⌝ }
-    ensures* { λ T _. ⌜ (fc3.new, done.new) ≡ row3 T p.0 j.0 (fc3.old, done.old) ⌝ }
+    requires ready { let T : ShiftTables = shift_tables p2s.now s2pp.now nsym_list.now perms.now n_satom n_patom num_trans in Ready (length fc3.old) 2 (length done.old) T }
+    requires in_range { (p.0 < n_patom) × (j.0 < n_satom) }
+    ensures { let T : ShiftTables = shift_tables p2s.now s2pp.now nsym_list.now perms.now n_satom n_patom num_trans in (fc3.new, done.new) ≡ row3 T p.0 j.0 (fc3.old, done.old) }
 {
     let mut k = 0;
     while k < n_satom {
@@ -143,11 +137,9 @@ fn slab(
     num_trans: usize,
     p: PrimAtom,
 )
-    ghost { ShiftTables }
-    requires* num_trans_value { λ T. ⌜ shift_tables p2s.now s2pp.now nsym_list.now perms.now n_satom n_patom num_trans ≡ T ⌝ }
-    requires* fact { λ T. ⌜ Ready (length fc3.old) 2 (length done.old) T ⌝ }
-    requires* p_bound { λ T. ⌜ p.0 < n_patom ⌝ }
-    ensures* { λ T _. ⌜ (fc3.new, done.new) ≡ slab3 T p.0 (fc3.old, done.old) ⌝ }
+    requires ready { let T : ShiftTables = shift_tables p2s.now s2pp.now nsym_list.now perms.now n_satom n_patom num_trans in Ready (length fc3.old) 2 (length done.old) T }
+    requires in_range { p.0 < n_patom }
+    ensures { let T : ShiftTables = shift_tables p2s.now s2pp.now nsym_list.now perms.now n_satom n_patom num_trans in (fc3.new, done.new) ≡ slab3 T p.0 (fc3.old, done.old) }
 {
     let mut j = 0;
     while j < n_satom {
@@ -180,10 +172,8 @@ fn slabs(
     n_patom: usize,
     num_trans: usize,
 )
-    ghost { ShiftTables }
-    requires* num_trans_value { λ T. ⌜ shift_tables p2s.now s2pp.now nsym_list.now perms.now n_satom n_patom num_trans ≡ T ⌝ }
-    requires* fact { λ T. ⌜ Ready (length fc3.old) 2 (length done.old) T ⌝ }
-    ensures* { λ T _. ⌜ (fc3.new, done.new) ≡ all3 T (fc3.old, done.old) ⌝ }
+    requires { let T : ShiftTables = shift_tables p2s.now s2pp.now nsym_list.now perms.now n_satom n_patom num_trans in Ready (length fc3.old) 2 (length done.old) T }
+    ensures { let T : ShiftTables = shift_tables p2s.now s2pp.now nsym_list.now perms.now n_satom n_patom num_trans in (fc3.new, done.new) ≡ all3 T (fc3.old, done.old) }
 {
     let mut p = 0;
     while p < n_patom {
@@ -215,11 +205,8 @@ pub fn symmetrize(
     n_patom: usize,
     num_trans: usize,
 )
-    ghost { ShiftTables }
-    requires* num_trans_value { λ T. ⌜ shift_tables p2s.now s2pp.now nsym_list.now perms.now n_satom n_patom num_trans ≡ T ⌝ }
-    requires* fact { λ T. ⌜ Ready (length fc3.old) 2 (length done.old) T ⌝ }
-    ensures* { λ T _. ⌜
-        (fc3.new ≡ symmetrized nan mean6 (shifts_of T) 2 perms3 fc3.old) × (done.new ≡ replicate (length done.old) 0) ⌝ }
+    requires { let T : ShiftTables = shift_tables p2s.now s2pp.now nsym_list.now perms.now n_satom n_patom num_trans in Ready (length fc3.old) 2 (length done.old) T }
+    ensures { let T : ShiftTables = shift_tables p2s.now s2pp.now nsym_list.now perms.now n_satom n_patom num_trans in (fc3.new ≡ symmetrized nan mean6 (shifts_of T) 2 perms3 fc3.old) × (done.new ≡ replicate (length done.old) 0) }
 {
     clear_bytes(done);
     slabs(

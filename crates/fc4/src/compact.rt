@@ -27,11 +27,9 @@ fn visit(
     t: &[u8; 1944],
     b: usize,
 )
-    ghost { ShiftTables }
-    requires* num_trans_value { λ T. ⌜ shift_tables p2s.now s2pp.now nsym_list.now perms.now n_satom n_patom num_trans ≡ T ⌝ }
-    requires* fact { λ T. ⌜ Ready (length fc4.old) 3 (length done.old) T ⌝ }
-    requires* fact_2 { λ T. ⌜ (t.now ≡ address_table) × (b < length done.old) ⌝ }
-    ensures* { λ T _. ⌜ (fc4.new, done.new) ≡ visit_at (shifts_of T) b (fc4.old, done.old) ⌝ }
+    requires ready { let T : ShiftTables = shift_tables p2s.now s2pp.now nsym_list.now perms.now n_satom n_patom num_trans in Ready (length fc4.old) 3 (length done.old) T }
+    requires in_range { (t.now ≡ address_table) × (b < length done.old) }
+    ensures { let T : ShiftTables = shift_tables p2s.now s2pp.now nsym_list.now perms.now n_satom n_patom num_trans in (fc4.new, done.new) ≡ visit_at (shifts_of T) b (fc4.old, done.old) }
 {
     if done[b] == 0 {
         let bs = group_blocks(p2s, s2pp, nsym_list, perms, n_satom, n_patom, num_trans, b);
@@ -52,11 +50,9 @@ fn all_blocks(
     num_trans: usize,
     t: &[u8; 1944],
 )
-    ghost { ShiftTables }
-    requires* num_trans_value { λ T. ⌜ shift_tables p2s.now s2pp.now nsym_list.now perms.now n_satom n_patom num_trans ≡ T ⌝ }
-    requires* fact { λ T. ⌜ Ready (length fc4.old) 3 (length done.old) T ⌝ }
-    requires* t_value { λ T. ⌜ t.now ≡ address_table ⌝ }
-    ensures* { λ T _. ⌜ (fc4.new, done.new) ≡ times (length done.old) (visit_at (shifts_of T)) (fc4.old, done.old) ⌝ }
+    requires ready { let T : ShiftTables = shift_tables p2s.now s2pp.now nsym_list.now perms.now n_satom n_patom num_trans in Ready (length fc4.old) 3 (length done.old) T }
+    requires in_range { t.now ≡ address_table }
+    ensures { let T : ShiftTables = shift_tables p2s.now s2pp.now nsym_list.now perms.now n_satom n_patom num_trans in (fc4.new, done.new) ≡ times (length done.old) (visit_at (shifts_of T)) (fc4.old, done.old) }
 {
     let mut b = 0;
     while b < done.len() {

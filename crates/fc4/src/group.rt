@@ -75,10 +75,8 @@ pub fn group_blocks(
     num_trans: usize,
     b: usize,
 ) -> [usize; 24]
-    ghost { ShiftTables }
-    requires* num_trans_value { λ T. ⌜ shift_tables p2s.now s2pp.now nsym_list.now perms.now n_satom n_patom num_trans ≡ T ⌝ }
-    requires* fact { λ T. ⌜ TablesFit limit4 T × (b < times_power n_satom 3 n_patom) ⌝ }
-    ensures* { λ T r. ⌜ r ≡ group_blocks (shifts_of T) 3 perms4 b ⌝ }
+    requires { let T : ShiftTables = shift_tables p2s.now s2pp.now nsym_list.now perms.now n_satom n_patom num_trans in TablesFit limit4 T × (b < times_power n_satom 3 n_patom) }
+    ensures { let T : ShiftTables = shift_tables p2s.now s2pp.now nsym_list.now perms.now n_satom n_patom num_trans in result ≡ group_blocks (shifts_of T) 3 perms4 b }
 {
     let l = SuperAtom(column_of(b, n_satom));
     let pjk = row_of(b, n_satom);

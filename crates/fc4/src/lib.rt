@@ -1,4 +1,6 @@
 // Fourth order (fc4.rs).
+#![tactic(auto)]
+
 pub mod compact;
 pub mod full;
 pub mod group;

@@ -1,4 +1,6 @@
 // The grid of document 02, A.10: the multiples of 2^-20 from -2^20 to 2^20. specs/ says why sums of such numbers are exact.
+#![tactic(auto)]
+
 ghost use Rattle.std.specs.Prelude.{◌≡◌};
 ghost use Rattle.grid.specs.Grid.{on_grid, nine_on_grid as nineAre};
 

@@ -31,10 +31,8 @@ fn leg_block(
     t: usize,
     i: usize,
 ) -> usize
-    ghost { ShiftTables }
-    requires* num_trans_value { λ T. ⌜ shift_tables p2s.now s2pp.now nsym_list.now perms.now n_satom n_patom num_trans ≡ T ⌝ }
-    requires* fact { λ T. ⌜ TablesFit limit4 T × (leg ≤ 3) × (t < times_power n_satom 3 1) × (i < n_satom) ⌝ }
-    ensures* { λ T r. ⌜ r ≡ leg_block (shifts_of T) 3 leg t i ⌝ }
+    requires { let T : ShiftTables = shift_tables p2s.now s2pp.now nsym_list.now perms.now n_satom n_patom num_trans in TablesFit limit4 T × (leg ≤ 3) × (t < times_power n_satom 3 1) × (i < n_satom) }
+    ensures { let T : ShiftTables = shift_tables p2s.now s2pp.now nsym_list.now perms.now n_satom n_patom num_trans in result ≡ leg_block (shifts_of T) 3 leg t i }
 {
     let c = SuperAtom(column_of(t, n_satom));
     let ab = row_of(t, n_satom);
@@ -66,10 +64,8 @@ pub fn leg_sums(
     leg: usize,
     t: usize,
 ) -> [f64; 81]
-    ghost { ShiftTables }
-    requires* num_trans_value { λ T. ⌜ shift_tables p2s.now s2pp.now nsym_list.now perms.now n_satom n_patom num_trans ≡ T ⌝ }
-    requires* fact { λ T. ⌜ Ready limit4 3 (length fc.now) T × (leg ≤ 3) × (t < times_power n_satom 3 1) ⌝ }
-    ensures* { λ T r. ⌜ r ≡ block_sums 81 (leg_block (shifts_of T) 3 leg t) n_satom fc.now ⌝ }
+    requires { let T : ShiftTables = shift_tables p2s.now s2pp.now nsym_list.now perms.now n_satom n_patom num_trans in Ready limit4 3 (length fc.now) T × (leg ≤ 3) × (t < times_power n_satom 3 1) }
+    ensures { let T : ShiftTables = shift_tables p2s.now s2pp.now nsym_list.now perms.now n_satom n_patom num_trans in result ≡ block_sums 81 (leg_block (shifts_of T) 3 leg t) n_satom fc.now }
 {
     let mut sums = [0.0f64; 81];
     for i in 0..n_satom {
@@ -95,10 +91,8 @@ fn look_leg(
     e: usize,
     seen0: Seen,
 ) -> Seen
-    ghost { ShiftTables }
-    requires* num_trans_value { λ T. ⌜ shift_tables p2s.now s2pp.now nsym_list.now perms.now n_satom n_patom num_trans ≡ T ⌝ }
-    requires* fact { λ T. ⌜ Ready limit4 3 (length fc.now) T × (e ≤ 3) ⌝ }
-    ensures* { λ T r. ⌜ r ≡ leg_seen (shifts_of T) 3 fc.now 81 e seen0 ⌝ }
+    requires { let T : ShiftTables = shift_tables p2s.now s2pp.now nsym_list.now perms.now n_satom n_patom num_trans in Ready limit4 3 (length fc.now) T × (e ≤ 3) }
+    ensures { let T : ShiftTables = shift_tables p2s.now s2pp.now nsym_list.now perms.now n_satom n_patom num_trans in result ≡ leg_seen (shifts_of T) 3 fc.now 81 e seen0 }
 {
     let count = n_satom * n_satom * n_satom;
     let mut seen = seen0;
@@ -133,10 +127,8 @@ fn scan(
     n_patom: usize,
     num_trans: usize,
 ) -> Seen
-    ghost { ShiftTables }
-    requires* num_trans_value { λ T. ⌜ shift_tables p2s.now s2pp.now nsym_list.now perms.now n_satom n_patom num_trans ≡ T ⌝ }
-    requires* fact { λ T. ⌜ Ready limit4 3 (length fc.now) T ⌝ }
-    ensures* { λ T r. ⌜ r ≡ all_seen (shifts_of T) 3 fc.now ⌝ }
+    requires { let T : ShiftTables = shift_tables p2s.now s2pp.now nsym_list.now perms.now n_satom n_patom num_trans in Ready limit4 3 (length fc.now) T }
+    ensures { let T : ShiftTables = shift_tables p2s.now s2pp.now nsym_list.now perms.now n_satom n_patom num_trans in result ≡ all_seen (shifts_of T) 3 fc.now }
 {
     let mut seen = start();
     for e in 0..4usize {

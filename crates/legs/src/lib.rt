@@ -1,5 +1,7 @@
 // The drift reports of third and fourth order: how far the sums over each leg of the read-out are from zero. No full set is made: each block is read
 // where it is stored.
+#![tactic(auto)]
+
 pub mod fourth;
 pub mod third;
 

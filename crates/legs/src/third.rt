@@ -29,10 +29,8 @@ fn leg_block(
     t: usize,
     i: usize,
 ) -> usize
-    ghost { ShiftTables }
-    requires* num_trans_value { λ T. ⌜ shift_tables p2s.now s2pp.now nsym_list.now perms.now n_satom n_patom num_trans ≡ T ⌝ }
-    requires* fact { λ T. ⌜ TablesFit limit3 T × (leg ≤ 2) × (t < times_power n_satom 2 1) × (i < n_satom) ⌝ }
-    ensures* { λ T r. ⌜ r ≡ leg_block (shifts_of T) 2 leg t i ⌝ }
+    requires { let T : ShiftTables = shift_tables p2s.now s2pp.now nsym_list.now perms.now n_satom n_patom num_trans in TablesFit limit3 T × (leg ≤ 2) × (t < times_power n_satom 2 1) × (i < n_satom) }
+    ensures { let T : ShiftTables = shift_tables p2s.now s2pp.now nsym_list.now perms.now n_satom n_patom num_trans in result ≡ leg_block (shifts_of T) 2 leg t i }
 {
     let b = SuperAtom(column_of(t, n_satom));
     let a = SuperAtom(column_of(row_of(t, n_satom), n_satom));
@@ -59,10 +57,8 @@ pub fn leg_sums(
     leg: usize,
     t: usize,
 ) -> [f64; 27]
-    ghost { ShiftTables }
-    requires* num_trans_value { λ T. ⌜ shift_tables p2s.now s2pp.now nsym_list.now perms.now n_satom n_patom num_trans ≡ T ⌝ }
-    requires* fact { λ T. ⌜ Ready limit3 2 (length fc.now) T × (leg ≤ 2) × (t < times_power n_satom 2 1) ⌝ }
-    ensures* { λ T r. ⌜ r ≡ block_sums 27 (leg_block (shifts_of T) 2 leg t) n_satom fc.now ⌝ }
+    requires { let T : ShiftTables = shift_tables p2s.now s2pp.now nsym_list.now perms.now n_satom n_patom num_trans in Ready limit3 2 (length fc.now) T × (leg ≤ 2) × (t < times_power n_satom 2 1) }
+    ensures { let T : ShiftTables = shift_tables p2s.now s2pp.now nsym_list.now perms.now n_satom n_patom num_trans in result ≡ block_sums 27 (leg_block (shifts_of T) 2 leg t) n_satom fc.now }
 {
     let mut sums = [0.0f64; 27];
     for i in 0..n_satom {
@@ -88,10 +84,8 @@ fn look_leg(
     e: usize,
     seen0: Seen,
 ) -> Seen
-    ghost { ShiftTables }
-    requires* num_trans_value { λ T. ⌜ shift_tables p2s.now s2pp.now nsym_list.now perms.now n_satom n_patom num_trans ≡ T ⌝ }
-    requires* fact { λ T. ⌜ Ready limit3 2 (length fc.now) T × (e ≤ 2) ⌝ }
-    ensures* { λ T r. ⌜ r ≡ leg_seen (shifts_of T) 2 fc.now 27 e seen0 ⌝ }
+    requires { let T : ShiftTables = shift_tables p2s.now s2pp.now nsym_list.now perms.now n_satom n_patom num_trans in Ready limit3 2 (length fc.now) T × (e ≤ 2) }
+    ensures { let T : ShiftTables = shift_tables p2s.now s2pp.now nsym_list.now perms.now n_satom n_patom num_trans in result ≡ leg_seen (shifts_of T) 2 fc.now 27 e seen0 }
 {
     let count = n_satom * n_satom;
     let mut seen = seen0;
@@ -126,10 +120,8 @@ fn scan(
     n_patom: usize,
     num_trans: usize,
 ) -> Seen
-    ghost { ShiftTables }
-    requires* num_trans_value { λ T. ⌜ shift_tables p2s.now s2pp.now nsym_list.now perms.now n_satom n_patom num_trans ≡ T ⌝ }
-    requires* fact { λ T. ⌜ Ready limit3 2 (length fc.now) T ⌝ }
-    ensures* { λ T r. ⌜ r ≡ all_seen (shifts_of T) 2 fc.now ⌝ }
+    requires { let T : ShiftTables = shift_tables p2s.now s2pp.now nsym_list.now perms.now n_satom n_patom num_trans in Ready limit3 2 (length fc.now) T }
+    ensures { let T : ShiftTables = shift_tables p2s.now s2pp.now nsym_list.now perms.now n_satom n_patom num_trans in result ≡ all_seen (shifts_of T) 2 fc.now }
 {
     let mut seen = start();
     for e in 0..3usize {

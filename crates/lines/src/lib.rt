@@ -1,5 +1,7 @@
 // Lines of blocks of nine numbers, in full sets and in compact ones: a row of a set is a line, and so is a column. The sums of a line, and a
 // line less its drift.
+#![tactic(auto)]
+
 pub mod nine;
 pub mod nines;
 

@@ -8,7 +8,7 @@ use tables::limits::LIMIT2;
 use tables::{Answer, Refusal};
 
 // A position and a slot.
-#[derive(Drop)]
+#[derive(Clone, Copy)]
 pub struct Pair {
     pub position: usize,
     pub slot: usize,
@@ -16,7 +16,7 @@ pub struct Pair {
 
 // What matching answers: document 01's true and false, or a refusal. A false is NoNumber where the search met a distance that is no number; the pair is the first
 // such position and slot.
-#[derive(Drop)]
+#[derive(Clone, Copy)]
 pub enum Matching {
     Matched,
     NotMatched,

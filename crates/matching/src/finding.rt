@@ -11,7 +11,7 @@ use distances::Cell;
 use tables::{Answer, Refusal};
 
 // What the call answers: a match was found, none exists, or a refusal.
-#[derive(Drop)]
+#[derive(Clone, Copy)]
 pub enum Finding {
     Found,
     NoMatch,

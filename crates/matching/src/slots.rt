@@ -91,7 +91,7 @@ fn skip_filled(rot_atom: &[i64], start: usize) -> usize
 }
 
 // The slot that takes a position, and the first slot tried for it whose distance is no number: each the number of slots if there is none.
-#[derive(Drop)]
+#[derive(Clone, Copy)]
 pub struct Found {
     pub at: usize,
     pub none: usize,

@@ -19,11 +19,9 @@ pub fn stays(
     p: PrimAtom,
     j: SuperAtom,
 ) -> bool
-    ghost { ShiftTables }
-    requires* num_trans_value { λ T. ⌜ shift_tables p2s.now s2pp.now nsym_list.now perms.now n_satom n_patom num_trans ≡ T ⌝ }
-    requires* fact { λ T. ⌜ Sound T ⌝ }
-    requires* fact_2 { λ T. ⌜ (p.0 < n_patom) × (j.0 < n_satom) ⌝ }
-    ensures* { λ T r. ⌜ r ≡ (half_shifts_stay && staysIn (shifts_of T) p.0 j.0) ⌝ }
+    requires sound { let T : ShiftTables = shift_tables p2s.now s2pp.now nsym_list.now perms.now n_satom n_patom num_trans in Sound T }
+    requires in_range { (p.0 < n_patom) × (j.0 < n_satom) }
+    ensures { let T : ShiftTables = shift_tables p2s.now s2pp.now nsym_list.now perms.now n_satom n_patom num_trans in result ≡ (half_shifts_stay && staysIn (shifts_of T) p.0 j.0) }
 {
     if !half_shifts_stay {
         return false;

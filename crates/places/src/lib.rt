@@ -1,5 +1,7 @@
 // The one address rule of every rank, in code.
 // A block of numbers is named by its number; crate blocks reads and writes it by that.
+#![tactic(auto)]
+
 ghost use Rattle.std.specs.Prelude.{◌≡◌, [], ◌∷◌, ◌+◌, ◌*◌, ◌/◌, ◌%◌, ◌≤◌, ◌<◌};
 ghost use Rattle.lists.specs.Digits.{horner};
 ghost use Rattle.places.specs.ReadOuts.{Tables, stored_in};

@@ -1,5 +1,7 @@
 // Direction addresses of fourth order: where the numbers of a block of 81 stand once their four directions are permuted, as a constant
 // table over the 24 permutations of four legs and the 81 positions. `docs/addresses` prints it in rows of nine.
+#![tactic(auto)]
+
 ghost use Rattle.std.specs.Prelude.{◌≡◌, ◌<◌};
 ghost use Rattle.blocks.specs.Permuted.{permuted};
 ghost use Rattle.positions.specs.Positions.{permutation_at, address_table};

@@ -1,5 +1,7 @@
 // The guard of the calls that read a compact set out: refusals 1, 2, 3 and 6 in this order.
 // A compact set read out to the full one (document 02, A.11): the number for any atoms and directions stands at them.
+#![tactic(auto)]
+
 pub mod fc2;
 pub mod fc3;
 pub mod fc4;
@@ -24,10 +26,8 @@ pub fn judge(
     n_patom: usize,
     num_trans: usize,
 ) -> Answer
-    ghost { ShiftTables }
-    requires* num_trans_value { λ T. ⌜ shift_tables p2s.now s2pp.now nsym_list.now perms.now n_satom n_patom num_trans ≡ T ⌝ }
-    requires* ranks { λ T. ⌜ (limit ≤ 1024) × (m ≤ 3) ⌝ }
-    ensures* { λ T r. ⌜ r ≡ judged_read_out limit m full_len set_len T ⌝ }
+    requires { (limit ≤ 1024) × (m ≤ 3) }
+    ensures { let T : ShiftTables = shift_tables p2s.now s2pp.now nsym_list.now perms.now n_satom n_patom num_trans in result ≡ judged_read_out limit m full_len set_len T }
 {
     let a = shifts::judge_set(
         limit, m, set_len, p2s, s2pp, nsym_list, perms, n_satom, n_patom, num_trans,

@@ -2,6 +2,8 @@
 // after another, which oracle/ makes; oracle/README.md says what the words of a record are. For each are written how many calls were compared,
 // how many differ in the answer or in a slot, how many there are of each answer, and a checksum of the inputs and of all that was worked out
 // from them.
+#![tactic(auto)]
+
 mod cells;
 mod finding;
 mod rounding;

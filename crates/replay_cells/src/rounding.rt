@@ -7,7 +7,7 @@ use capi_cells::{gf_nint, gf_round, gf_sqrt};
 use replays::steps::plus;
 
 // What was compared so far: records, those whose rounding or root is NaN, differences, checksum.
-#[derive(Drop)]
+#[derive(Clone, Copy)]
 struct Tally {
     seen: u64,
     round_nan: u64,

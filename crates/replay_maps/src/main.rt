@@ -3,6 +3,8 @@
 // fourth, of the rotations and of the sets read out, which oracle/ makes; oracle/README.md says what the words of a record are. The numbers of
 // sets are made from the record's seed. For each are written how many calls were compared, how many differ in the answer or in a slice, how many
 // there are of each answer, and a checksum of the inputs and of all that was worked out from them.
+#![tactic(auto)]
+
 mod distributed;
 mod distributed_second;
 mod full_sets;

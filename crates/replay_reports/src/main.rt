@@ -2,6 +2,8 @@
 // reports, which oracle/ makes; oracle/README.md says what the words of a record are. The numbers of a set are made from the record's seed. For
 // each are written how many calls were compared, how many differ in the answer, in a place or in a number, how many there are of each answer, and a
 // checksum of the inputs and of all that was worked out from them.
+#![tactic(auto)]
+
 mod audit_calls;
 mod crystal_calls;
 mod deviation_calls;

@@ -3,6 +3,8 @@
 // The numbers of sets and work slices are made from the record's seed. For each are written how many calls were compared, how many differ in
 // the answer or in what a slice holds afterwards, how many there are of each answer, and a checksum of the inputs and of all that was worked
 // out from them.
+#![tactic(auto)]
+
 mod fourth;
 mod second;
 mod third;

@@ -1,4 +1,6 @@
 // What the replay programs count and write: a tally of the records that were compared, and the lines of the report.
+#![tactic(auto)]
+
 ghost use Rattle.std.specs.Prelude.{◌≡◌};
 ghost use Rattle.replays.specs.Tally.{no_record, counted_at, tally, differences, mixed_numbers, compare};
 
@@ -10,7 +12,7 @@ pub mod steps;
 pub mod values;
 
 // What was compared so far: records, those that differ, how often each answer's number, checksum.
-#[derive(Drop)]
+#[derive(Clone, Copy)]
 pub struct Tally {
     pub seen: u64,
     pub differ: u64,

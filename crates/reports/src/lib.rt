@@ -1,4 +1,6 @@
 // Reports: how far a set is from what it must obey. A report is about a family of numbers that are all to be zero, in the order of their places.
+#![tactic(auto)]
+
 pub mod seen;
 pub mod sets;
 
@@ -10,7 +12,7 @@ use seen::Seen;
 use tables::Refusal;
 
 // Still: all numbers are zero. Worst: the largest absolute value of one. NoNumber: one is NaN.
-#[derive(Drop)]
+#[derive(Clone, Copy)]
 pub enum Deviation {
     Still,
     Worst(f64),
@@ -18,13 +20,13 @@ pub enum Deviation {
 }
 
 // The deviation, and the number of its place in the order of the family; 0 where it is still.
-#[derive(Drop)]
+#[derive(Clone, Copy)]
 pub struct Report {
     pub deviation: Deviation,
     pub index: usize,
 }
 
-#[derive(Drop)]
+#[derive(Clone, Copy)]
 pub enum ReportAnswer {
     Given(Report),
     Refused(Refusal),

@@ -5,7 +5,7 @@ ghost use Rattle.reports.specs.Floats.{at_most};
 ghost use Rattle.reports.specs.Loops as loops;
 
 // Whether one is NaN, and the first of those; the worst absolute value, and where it stands first.
-#[derive(Drop)]
+#[derive(Clone, Copy)]
 pub struct Seen {
     pub none: bool,
     pub first: usize,

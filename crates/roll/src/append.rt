@@ -13,7 +13,7 @@ use crate::numbers::wide;
 use tables::Refusal;
 
 // What the appender answers.
-#[derive(Drop)]
+#[derive(Clone, Copy)]
 pub enum Appended {
     // done: how many bytes the roll has now
     Count(usize),

@@ -1,4 +1,6 @@
 // A delivery roll (document 02, A.7): one file that lists what was delivered. What a roll is.
+#![tactic(auto)]
+
 ghost use Rattle.std.specs.Prelude.{◌≡◌};
 ghost use Rattle.roll.specs.Reading.{roll_bytes};
 

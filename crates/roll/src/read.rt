@@ -6,7 +6,7 @@ ghost use Rattle.roll.specs.ReadCalls.{item_number, read_at, label_at, past_at, 
 use tables::Refusal;
 
 // What the reader says at a position.
-#[derive(Drop)]
+#[derive(Clone, Copy)]
 pub enum Item {
     // the record that starts there; `label` hands back its label, `next` goes on to where it ends
     Record { kind: u8, set: u32, earlier: u32 },
@@ -32,7 +32,7 @@ pub fn item_number(a: Item) -> u8
 }
 
 // A roll held with a position in it: the roll's bytes and an offset. `crate::roll_bytes` gives the bytes from a lent slice and a count.
-#[derive(Drop)]
+#[derive(Clone, Copy)]
 pub struct Roll<'a> {
     pub bytes: &'a [u8],
     pub at: usize,

@@ -1,5 +1,7 @@
 // A block rotated by one 3 by 3 matrix on each leg: the coefficients are worked out once and serve every block of a call, and the sums of
 // many places go side by side. Each sum has the same terms in the same order as if it stood alone.
+#![tactic(auto)]
+
 ghost use Rattle.std.specs.Prelude.{◌≡◌, ℕ, ◌+◌, ◌*◌, ◌<◌, ◌≤◌, length, get_or};
 ghost use Rattle.std.specs.Float.{nan};
 ghost use Rattle.blocks.specs.Block.{put_block};

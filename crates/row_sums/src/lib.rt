@@ -1,4 +1,6 @@
 // Row sums of a full second-order set (document 02, A.10): made by a fresh pass, and kept up to date while pair blocks are replaced.
+#![tactic(auto)]
+
 ghost use Rattle.std.specs.Prelude.{◌≡◌, ◌*◌, length};
 ghost use Rattle.lines.specs.Lines.{Sized};
 ghost use Rattle.row_sums.specs.RowSums.{flat_sums as flatOf, corrected as correctedOf, row_sums, judged_sums, judged_block, judged_replace, row_sums_fc2, replaced, replace_block};

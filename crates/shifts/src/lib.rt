@@ -1,4 +1,6 @@
 // The guard of shift tables, and of every call on a compact set: refusals 1, 2, 3 and 6 in this order.
+#![tactic(auto)]
+
 ghost use Rattle.std.specs.Prelude.{◌≡◌, false, [], ◌∷◌, ◌≤◌};
 ghost use Rattle.tables.specs.Conditions.{any_above, any_wrong};
 ghost use Rattle.tables.specs.Limits.{limit2};
@@ -35,10 +37,8 @@ fn any_wrong(
     n_patom: usize,
     num_trans: usize,
 ) -> bool
-    ghost { ShiftTables }
-    requires* num_trans_value { λ T. ⌜ shift_tables p2s.now s2pp.now nsym_list.now perms.now n_satom n_patom num_trans ≡ T ⌝ }
-    requires* counts { λ T. ⌜ (n_satom ≤ 1024) × (num_trans ≤ 1024) ⌝ }
-    ensures* { λ T r. ⌜ r ≡ any_wrong (table_lengths T) ⌝ }
+    requires { (n_satom ≤ 1024) × (num_trans ≤ 1024) }
+    ensures { let T : ShiftTables = shift_tables p2s.now s2pp.now nsym_list.now perms.now n_satom n_patom num_trans in result ≡ any_wrong (table_lengths T) }
 {
     if perms.len() != num_trans * n_satom {
         return true;
@@ -62,9 +62,7 @@ fn any_out(
     n_patom: usize,
     num_trans: usize,
 ) -> bool
-    ghost { ShiftTables }
-    requires* { λ T. ⌜ shift_tables p2s.now s2pp.now nsym_list.now perms.now n_satom n_patom num_trans ≡ T ⌝ }
-    ensures* { λ T r. ⌜ r ≡ tables_out_of_range T ⌝ }
+    ensures { let T : ShiftTables = shift_tables p2s.now s2pp.now nsym_list.now perms.now n_satom n_patom num_trans in result ≡ tables_out_of_range T }
 {
     if !all_below(perms, n_satom) {
         return true;
@@ -88,11 +86,9 @@ fn judge_entries(
     n_patom: usize,
     num_trans: usize,
 ) -> Answer
-    ghost { ShiftTables }
-    requires* num_trans_value { λ T. ⌜ shift_tables p2s.now s2pp.now nsym_list.now perms.now n_satom n_patom num_trans ≡ T ⌝ }
-    requires* counts { λ T. ⌜ (n_satom ≤ 1024) × (n_patom ≤ 1024) × (num_trans ≤ 1024) ⌝ }
-    requires* lengths { λ T. ⌜ any_wrong (table_lengths T) ≡ false ⌝ }
-    ensures* { λ T r. ⌜ r ≡ judged_entries T ⌝ }
+    requires in_range { (n_satom ≤ 1024) × (n_patom ≤ 1024) × (num_trans ≤ 1024) }
+    requires in_range_2 { let T : ShiftTables = shift_tables p2s.now s2pp.now nsym_list.now perms.now n_satom n_patom num_trans in any_wrong (table_lengths T) ≡ false }
+    ensures { let T : ShiftTables = shift_tables p2s.now s2pp.now nsym_list.now perms.now n_satom n_patom num_trans in result ≡ judged_entries T }
 {
     if any_out(p2s, s2pp, nsym_list, perms, n_satom, n_patom, num_trans) {
         return Answer::Refused(Refusal::IndexOutOfRange);
@@ -139,10 +135,8 @@ pub fn judge_set(
     n_patom: usize,
     num_trans: usize,
 ) -> Answer
-    ghost { ShiftTables }
-    requires* num_trans_value { λ T. ⌜ shift_tables p2s.now s2pp.now nsym_list.now perms.now n_satom n_patom num_trans ≡ T ⌝ }
-    requires* ranks { λ T. ⌜ (limit ≤ 1024) × (m ≤ 3) ⌝ }
-    ensures* { λ T r. ⌜ r ≡ judged_set limit m set_len [] T ⌝ }
+    requires { (limit ≤ 1024) × (m ≤ 3) }
+    ensures { let T : ShiftTables = shift_tables p2s.now s2pp.now nsym_list.now perms.now n_satom n_patom num_trans in result ≡ judged_set limit m set_len [] T }
 {
     if any_above(limit, n_satom, n_patom, num_trans) {
         return Answer::Refused(Refusal::CountAboveLimit);
@@ -171,10 +165,8 @@ pub fn judge_compact(
     n_patom: usize,
     num_trans: usize,
 ) -> Answer
-    ghost { ShiftTables }
-    requires* num_trans_value { λ T. ⌜ shift_tables p2s.now s2pp.now nsym_list.now perms.now n_satom n_patom num_trans ≡ T ⌝ }
-    requires* ranks { λ T. ⌜ (limit ≤ 1024) × (m ≤ 3) × (k ≤ 3) ⌝ }
-    ensures* { λ T r. ⌜ r ≡ judged_compact limit m set_len k work_len T ⌝ }
+    requires { (limit ≤ 1024) × (m ≤ 3) × (k ≤ 3) }
+    ensures { let T : ShiftTables = shift_tables p2s.now s2pp.now nsym_list.now perms.now n_satom n_patom num_trans in result ≡ judged_compact limit m set_len k work_len T }
 {
     let a = judge_set(
         limit, m, set_len, p2s, s2pp, nsym_list, perms, n_satom, n_patom, num_trans,

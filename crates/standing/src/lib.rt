@@ -1,4 +1,6 @@
 // Which set stands now (document 02, A.8 and A.14): the rules over a plain register, each entry of it read off the roll by a walk.
+#![tactic(auto)]
+
 pub mod retire;
 
 ghost use Rattle.std.specs.Prelude.{◌≡◌, true, ◌||◌, cond, ◌+◌, ◌≤◌, ◌<◌, length};
@@ -13,7 +15,7 @@ use roll::numbers::wide;
 use tables::Refusal;
 
 // What a roll answers for a set.
-#[derive(Drop)]
+#[derive(Clone, Copy)]
 pub enum Standing {
     Unknown,
     Retired,
@@ -37,7 +39,7 @@ pub fn standing_number(a: Standing) -> u8
 }
 
 // What the register notes of one set.
-#[derive(Drop)]
+#[derive(Clone, Copy)]
 pub struct Found {
     pub delivered: bool,
     pub retired: bool,

@@ -13,7 +13,7 @@ use roll::numbers::wide;
 use tables::Refusal;
 
 // What the call answers before anything is written.
-#[derive(Drop)]
+#[derive(Clone, Copy)]
 pub enum Judged {
     // how many retirements are to be added
     Add(usize),

@@ -1,5 +1,7 @@
 // Refusals and answers with their numbers, limits, index tables, the two kinds of atom number, the guard of full sets. specs/ has the rules of
 // shift tables too, which crate shifts tests.
+#![tactic(auto)]
+
 ghost use Rattle.std.specs.Prelude.{◌≡◌};
 ghost use Rattle.tables.specs.Answers.{refusal_number, number_of, is_refusal};
 
@@ -9,7 +11,7 @@ pub mod limits;
 pub mod sets;
 
 // Document 01's six refusals and those that document 02 adds, by their numbers.
-#[derive(Drop)]
+#[derive(Clone, Copy)]
 pub enum Refusal {
     // 1: a count is above its limit
     CountAboveLimit,
@@ -37,7 +39,7 @@ pub enum Refusal {
 }
 
 // What a call answers: done, or the first refusal that applies.
-#[derive(Drop)]
+#[derive(Clone, Copy)]
 pub enum Answer {
     Done,
     Refused(Refusal),

@@ -1,6 +1,8 @@
 // The transposes of a compact set of third order. Block after block, each with its counterpart: the two change places, permuted, at the lower one of
 // them. Blocks that a half shift exchanges with their own pair stay where half_shifts_stay says so, as the Rust leaves them; the true transposes
 // move them too.
+#![tactic(auto)]
+
 pub mod exchanging;
 
 ghost use Rattle.std.specs.Prelude.{◌≡◌, false, cond, ◌+◌, ◌<◌, ◌≤◌, length};
@@ -34,10 +36,8 @@ fn visit0(
     j: SuperAtom,
     k: SuperAtom,
 )
-    ghost { ShiftTables }
-    requires* num_trans_value { λ T. ⌜ shift_tables p2s.now s2pp.now nsym_list.now perms.now n_satom n_patom num_trans ≡ T ⌝ }
-    requires* fact { λ T. ⌜ PairAt 2 (length fc3.old) T p.0 i.0 j.0 × (k.0 < n_satom) ⌝ }
-    ensures* { λ T _. ⌜ fc3.new ≡ exchange_at false T 0 (at3 T p.0 j.0 k.0) fc3.old ⌝ }
+    requires { let T : ShiftTables = shift_tables p2s.now s2pp.now nsym_list.now perms.now n_satom n_patom num_trans in PairAt 2 (length fc3.old) T p.0 i.0 j.0 × (k.0 < n_satom) }
+    ensures { let T : ShiftTables = shift_tables p2s.now s2pp.now nsym_list.now perms.now n_satom n_patom num_trans in fc3.new ≡ exchange_at false T 0 (at3 T p.0 j.0 k.0) fc3.old }
 {
     let n = block3(p, j, k, n_satom);
     let o = stored_block3(s2pp, nsym_list, perms, j, i, k, n_satom);
@@ -61,11 +61,9 @@ fn visit1(
     j: SuperAtom,
     k: SuperAtom,
 )
-    ghost { ShiftTables }
-    requires* num_trans_value { λ T. ⌜ shift_tables p2s.now s2pp.now nsym_list.now perms.now n_satom n_patom num_trans ≡ T ⌝ }
-    requires* fact { λ T. ⌜ Trading 2 (length fc3.old) T ⌝ }
-    requires* fact_2 { λ T. ⌜ Atoms T p.0 j.0 k.0 ⌝ }
-    ensures* { λ T _. ⌜ fc3.new ≡ exchange_at half_shifts_stay T 1 (at3 T p.0 j.0 k.0) fc3.old ⌝ }
+    requires trading { let T : ShiftTables = shift_tables p2s.now s2pp.now nsym_list.now perms.now n_satom n_patom num_trans in Trading 2 (length fc3.old) T }
+    requires atoms { let T : ShiftTables = shift_tables p2s.now s2pp.now nsym_list.now perms.now n_satom n_patom num_trans in Atoms T p.0 j.0 k.0 }
+    ensures { let T : ShiftTables = shift_tables p2s.now s2pp.now nsym_list.now perms.now n_satom n_patom num_trans in fc3.new ≡ exchange_at half_shifts_stay T 1 (at3 T p.0 j.0 k.0) fc3.old }
 {
     let n = block3(p, j, k, n_satom);
     let i = p2s_at(p2s, p);
@@ -104,11 +102,9 @@ fn visit2(
     j: SuperAtom,
     k: SuperAtom,
 )
-    ghost { ShiftTables }
-    requires* num_trans_value { λ T. ⌜ shift_tables p2s.now s2pp.now nsym_list.now perms.now n_satom n_patom num_trans ≡ T ⌝ }
-    requires* fact { λ T. ⌜ Trading 2 (length fc3.old) T ⌝ }
-    requires* fact_2 { λ T. ⌜ Atoms T p.0 j.0 k.0 × (j.0 ≤ k.0) ⌝ }
-    ensures* { λ T _. ⌜ fc3.new ≡ exchange_at false T 2 (at3 T p.0 j.0 k.0) fc3.old ⌝ }
+    requires trading { let T : ShiftTables = shift_tables p2s.now s2pp.now nsym_list.now perms.now n_satom n_patom num_trans in Trading 2 (length fc3.old) T }
+    requires atoms { let T : ShiftTables = shift_tables p2s.now s2pp.now nsym_list.now perms.now n_satom n_patom num_trans in Atoms T p.0 j.0 k.0 × (j.0 ≤ k.0) }
+    ensures { let T : ShiftTables = shift_tables p2s.now s2pp.now nsym_list.now perms.now n_satom n_patom num_trans in fc3.new ≡ exchange_at false T 2 (at3 T p.0 j.0 k.0) fc3.old }
 {
     let n = block3(p, j, k, n_satom);
     let o = block3(p, k, j, n_satom);
@@ -129,10 +125,8 @@ fn line0(
     i: SuperAtom,
     j: SuperAtom,
 )
-    ghost { ShiftTables }
-    requires* num_trans_value { λ T. ⌜ shift_tables p2s.now s2pp.now nsym_list.now perms.now n_satom n_patom num_trans ≡ T ⌝ }
-    requires* fact { λ T. ⌜ PairAt 2 (length fc3.old) T p.0 i.0 j.0 ⌝ }
-    ensures* { λ T _. ⌜ fc3.new ≡ row_t false T 0 p.0 j.0 fc3.old ⌝ }
+    requires { let T : ShiftTables = shift_tables p2s.now s2pp.now nsym_list.now perms.now n_satom n_patom num_trans in PairAt 2 (length fc3.old) T p.0 i.0 j.0 }
+    ensures { let T : ShiftTables = shift_tables p2s.now s2pp.now nsym_list.now perms.now n_satom n_patom num_trans in fc3.new ≡ row_t false T 0 p.0 j.0 fc3.old }
 {
     let mut k = 0;
     while k < n_satom {
@@ -168,11 +162,9 @@ fn row0(
     p: PrimAtom,
     j: SuperAtom,
 )
-    ghost { ShiftTables }
-    requires* num_trans_value { λ T. ⌜ shift_tables p2s.now s2pp.now nsym_list.now perms.now n_satom n_patom num_trans ≡ T ⌝ }
-    requires* fact { λ T. ⌜ Trading 2 (length fc3.old) T ⌝ }
-    requires* fact_2 { λ T. ⌜ (p.0 < n_patom) × (j.0 < n_satom) ⌝ }
-    ensures* { λ T _. ⌜ fc3.new ≡ row_t half_shifts_stay T 0 p.0 j.0 fc3.old ⌝ }
+    requires trading { let T : ShiftTables = shift_tables p2s.now s2pp.now nsym_list.now perms.now n_satom n_patom num_trans in Trading 2 (length fc3.old) T }
+    requires in_range { (p.0 < n_patom) × (j.0 < n_satom) }
+    ensures { let T : ShiftTables = shift_tables p2s.now s2pp.now nsym_list.now perms.now n_satom n_patom num_trans in fc3.new ≡ row_t half_shifts_stay T 0 p.0 j.0 fc3.old }
 {
     if stays(
         p2s,
@@ -208,11 +200,9 @@ fn row1(
     p: PrimAtom,
     j: SuperAtom,
 )
-    ghost { ShiftTables }
-    requires* num_trans_value { λ T. ⌜ shift_tables p2s.now s2pp.now nsym_list.now perms.now n_satom n_patom num_trans ≡ T ⌝ }
-    requires* fact { λ T. ⌜ Trading 2 (length fc3.old) T ⌝ }
-    requires* fact_2 { λ T. ⌜ (p.0 < n_patom) × (j.0 < n_satom) ⌝ }
-    ensures* { λ T _. ⌜ fc3.new ≡ row_t half_shifts_stay T 1 p.0 j.0 fc3.old ⌝ }
+    requires trading { let T : ShiftTables = shift_tables p2s.now s2pp.now nsym_list.now perms.now n_satom n_patom num_trans in Trading 2 (length fc3.old) T }
+    requires in_range { (p.0 < n_patom) × (j.0 < n_satom) }
+    ensures { let T : ShiftTables = shift_tables p2s.now s2pp.now nsym_list.now perms.now n_satom n_patom num_trans in fc3.new ≡ row_t half_shifts_stay T 1 p.0 j.0 fc3.old }
 {
     let mut k = 0;
     while k < n_satom {
@@ -247,11 +237,9 @@ fn row2(
     p: PrimAtom,
     j: SuperAtom,
 )
-    ghost { ShiftTables }
-    requires* num_trans_value { λ T. ⌜ shift_tables p2s.now s2pp.now nsym_list.now perms.now n_satom n_patom num_trans ≡ T ⌝ }
-    requires* fact { λ T. ⌜ Trading 2 (length fc3.old) T ⌝ }
-    requires* fact_2 { λ T. ⌜ (p.0 < n_patom) × (j.0 < n_satom) ⌝ }
-    ensures* { λ T _. ⌜ fc3.new ≡ row_t false T 2 p.0 j.0 fc3.old ⌝ }
+    requires trading { let T : ShiftTables = shift_tables p2s.now s2pp.now nsym_list.now perms.now n_satom n_patom num_trans in Trading 2 (length fc3.old) T }
+    requires in_range { (p.0 < n_patom) × (j.0 < n_satom) }
+    ensures { let T : ShiftTables = shift_tables p2s.now s2pp.now nsym_list.now perms.now n_satom n_patom num_trans in fc3.new ≡ row_t false T 2 p.0 j.0 fc3.old }
 {
     let mut k = j.0;
     while k < n_satom {
@@ -287,11 +275,9 @@ fn row_last(
     p: PrimAtom,
     j: SuperAtom,
 )
-    ghost { ShiftTables }
-    requires* num_trans_value { λ T. ⌜ shift_tables p2s.now s2pp.now nsym_list.now perms.now n_satom n_patom num_trans ≡ T ⌝ }
-    requires* fact { λ T. ⌜ Trading 2 (length fc3.old) T ⌝ }
-    requires* fact_2 { λ T. ⌜ (p.0 < n_patom) × (j.0 < n_satom) × (t < 3) × (t ≡ 0 → ⊥) ⌝ }
-    ensures* { λ T _. ⌜ fc3.new ≡ row_t half_shifts_stay T t p.0 j.0 fc3.old ⌝ }
+    requires trading { let T : ShiftTables = shift_tables p2s.now s2pp.now nsym_list.now perms.now n_satom n_patom num_trans in Trading 2 (length fc3.old) T }
+    requires in_range { (p.0 < n_patom) × (j.0 < n_satom) × (t < 3) × (t ≡ 0 → ⊥) }
+    ensures { let T : ShiftTables = shift_tables p2s.now s2pp.now nsym_list.now perms.now n_satom n_patom num_trans in fc3.new ≡ row_t half_shifts_stay T t p.0 j.0 fc3.old }
 {
     if t == 1 {
         row1(
@@ -329,11 +315,9 @@ fn row(
     p: PrimAtom,
     j: SuperAtom,
 )
-    ghost { ShiftTables }
-    requires* num_trans_value { λ T. ⌜ shift_tables p2s.now s2pp.now nsym_list.now perms.now n_satom n_patom num_trans ≡ T ⌝ }
-    requires* fact { λ T. ⌜ Trading 2 (length fc3.old) T ⌝ }
-    requires* fact_2 { λ T. ⌜ (p.0 < n_patom) × (j.0 < n_satom) × (t < 3) ⌝ }
-    ensures* { λ T _. ⌜ fc3.new ≡ row_t half_shifts_stay T t p.0 j.0 fc3.old ⌝ }
+    requires trading { let T : ShiftTables = shift_tables p2s.now s2pp.now nsym_list.now perms.now n_satom n_patom num_trans in Trading 2 (length fc3.old) T }
+    requires in_range { (p.0 < n_patom) × (j.0 < n_satom) × (t < 3) }
+    ensures { let T : ShiftTables = shift_tables p2s.now s2pp.now nsym_list.now perms.now n_satom n_patom num_trans in fc3.new ≡ row_t half_shifts_stay T t p.0 j.0 fc3.old }
 {
     if t == 0 {
         row0(
@@ -381,11 +365,9 @@ fn slab(
     t: usize,
     p: PrimAtom,
 )
-    ghost { ShiftTables }
-    requires* num_trans_value { λ T. ⌜ shift_tables p2s.now s2pp.now nsym_list.now perms.now n_satom n_patom num_trans ≡ T ⌝ }
-    requires* fact { λ T. ⌜ Trading 2 (length fc3.old) T ⌝ }
-    requires* fact_2 { λ T. ⌜ (p.0 < n_patom) × (t < 3) ⌝ }
-    ensures* { λ T _. ⌜ fc3.new ≡ slab_t half_shifts_stay T t p.0 fc3.old ⌝ }
+    requires trading { let T : ShiftTables = shift_tables p2s.now s2pp.now nsym_list.now perms.now n_satom n_patom num_trans in Trading 2 (length fc3.old) T }
+    requires in_range { (p.0 < n_patom) × (t < 3) }
+    ensures { let T : ShiftTables = shift_tables p2s.now s2pp.now nsym_list.now perms.now n_satom n_patom num_trans in fc3.new ≡ slab_t half_shifts_stay T t p.0 fc3.old }
 {
     let mut j = 0;
     while j < n_satom {
@@ -420,11 +402,9 @@ fn slabs(
     half_shifts_stay: bool,
     t: usize,
 )
-    ghost { ShiftTables }
-    requires* num_trans_value { λ T. ⌜ shift_tables p2s.now s2pp.now nsym_list.now perms.now n_satom n_patom num_trans ≡ T ⌝ }
-    requires* fact { λ T. ⌜ Trading 2 (length fc3.old) T ⌝ }
-    requires* t_bound { λ T. ⌜ t < 3 ⌝ }
-    ensures* { λ T _. ⌜ fc3.new ≡ all_t half_shifts_stay T t fc3.old ⌝ }
+    requires trading { let T : ShiftTables = shift_tables p2s.now s2pp.now nsym_list.now perms.now n_satom n_patom num_trans in Trading 2 (length fc3.old) T }
+    requires in_range { t < 3 }
+    ensures { let T : ShiftTables = shift_tables p2s.now s2pp.now nsym_list.now perms.now n_satom n_patom num_trans in fc3.new ≡ all_t half_shifts_stay T t fc3.old }
 {
     let mut p = 0;
     while p < n_patom {
@@ -458,12 +438,8 @@ fn transpose(
     half_shifts_stay: bool,
     t_type: i64,
 )
-    ghost { ShiftTables }
-    requires* num_trans_value { λ T. ⌜ shift_tables p2s.now s2pp.now nsym_list.now perms.now n_satom n_patom num_trans ≡ T ⌝ }
-    requires* fact { λ T. ⌜ Trading 2 (length fc3.old) T ⌝ }
-    ensures* { λ T _. ⌜
-        fc3.new
-        ≡ cond half_shifts_stay (transposed_by (shifts_of T) t_type fc3.old) (swapped (shifts_of T) 2 (legs3 t_type) fc3.old) ⌝ }
+    requires { let T : ShiftTables = shift_tables p2s.now s2pp.now nsym_list.now perms.now n_satom n_patom num_trans in Trading 2 (length fc3.old) T }
+    ensures { let T : ShiftTables = shift_tables p2s.now s2pp.now nsym_list.now perms.now n_satom n_patom num_trans in fc3.new ≡ cond half_shifts_stay (transposed_by (shifts_of T) t_type fc3.old) (swapped (shifts_of T) 2 (legs3 t_type) fc3.old) }
 {
     if t_type == 0 {
         slabs(

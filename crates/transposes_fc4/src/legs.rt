@@ -157,11 +157,9 @@ fn trade(
     k: SuperAtom,
     l: SuperAtom,
 )
-    ghost { ShiftTables }
-    requires* num_trans_value { λ T. ⌜ shift_tables p2s.now s2pp.now nsym_list.now perms.now n_satom n_patom num_trans ≡ T ⌝ }
-    requires* fact { λ T. ⌜ PairAt 3 (length fc4.old) T p.0 i.0 j.0 × Swap o.now m.now ⌝ }
-    requires* fact_2 { λ T. ⌜ (k.0 < n_satom) × (l.0 < n_satom) ⌝ }
-    ensures* { λ T _. ⌜ fc4.new ≡ trade_at false o.now T (at4 T p.0 j.0 k.0 l.0) fc4.old ⌝ }
+    requires pair_at { let T : ShiftTables = shift_tables p2s.now s2pp.now nsym_list.now perms.now n_satom n_patom num_trans in PairAt 3 (length fc4.old) T p.0 i.0 j.0 × Swap o.now m.now }
+    requires in_range { (k.0 < n_satom) × (l.0 < n_satom) }
+    ensures { let T : ShiftTables = shift_tables p2s.now s2pp.now nsym_list.now perms.now n_satom n_patom num_trans in fc4.new ≡ trade_at false o.now T (at4 T p.0 j.0 k.0 l.0) fc4.old }
 {
     let b = block4(p, j, k, l, n_satom);
     let c = counterpart_of(s2pp, nsym_list, perms, n_satom, o, i, j, k, l);
@@ -187,11 +185,9 @@ fn line(
     j: SuperAtom,
     k: SuperAtom,
 )
-    ghost { ShiftTables }
-    requires* num_trans_value { λ T. ⌜ shift_tables p2s.now s2pp.now nsym_list.now perms.now n_satom n_patom num_trans ≡ T ⌝ }
-    requires* fact { λ T. ⌜ PairAt 3 (length fc4.old) T p.0 i.0 j.0 × Swap o.now m.now ⌝ }
-    requires* k_bound { λ T. ⌜ k.0 < n_satom ⌝ }
-    ensures* { λ T _. ⌜ fc4.new ≡ line4 false o.now T (p.0 * n_satom + j.0) k.0 fc4.old ⌝ }
+    requires pair_at { let T : ShiftTables = shift_tables p2s.now s2pp.now nsym_list.now perms.now n_satom n_patom num_trans in PairAt 3 (length fc4.old) T p.0 i.0 j.0 × Swap o.now m.now }
+    requires in_range { k.0 < n_satom }
+    ensures { let T : ShiftTables = shift_tables p2s.now s2pp.now nsym_list.now perms.now n_satom n_patom num_trans in fc4.new ≡ line4 false o.now T (p.0 * n_satom + j.0) k.0 fc4.old }
 {
     let mut l = 0;
     while l < n_satom {
@@ -232,10 +228,8 @@ fn plane(
     i: SuperAtom,
     j: SuperAtom,
 )
-    ghost { ShiftTables }
-    requires* num_trans_value { λ T. ⌜ shift_tables p2s.now s2pp.now nsym_list.now perms.now n_satom n_patom num_trans ≡ T ⌝ }
-    requires* fact { λ T. ⌜ PairAt 3 (length fc4.old) T p.0 i.0 j.0 × Swap o.now m.now ⌝ }
-    ensures* { λ T _. ⌜ fc4.new ≡ plane4 false o.now T (p.0 * n_satom + j.0) fc4.old ⌝ }
+    requires { let T : ShiftTables = shift_tables p2s.now s2pp.now nsym_list.now perms.now n_satom n_patom num_trans in PairAt 3 (length fc4.old) T p.0 i.0 j.0 × Swap o.now m.now }
+    ensures { let T : ShiftTables = shift_tables p2s.now s2pp.now nsym_list.now perms.now n_satom n_patom num_trans in fc4.new ≡ plane4 false o.now T (p.0 * n_satom + j.0) fc4.old }
 {
     let mut k = 0;
     while k < n_satom {
@@ -274,10 +268,8 @@ fn pair(
     m: &[u8; 54],
     q: usize,
 )
-    ghost { ShiftTables }
-    requires* num_trans_value { λ T. ⌜ shift_tables p2s.now s2pp.now nsym_list.now perms.now n_satom n_patom num_trans ≡ T ⌝ }
-    requires* fact { λ T. ⌜ Trading 3 (length fc4.old) T × (q < n_patom * n_satom) × Swap o.now m.now ⌝ }
-    ensures* { λ T _. ⌜ fc4.new ≡ plane4 half_shifts_stay o.now T q fc4.old ⌝ }
+    requires { let T : ShiftTables = shift_tables p2s.now s2pp.now nsym_list.now perms.now n_satom n_patom num_trans in Trading 3 (length fc4.old) T × (q < n_patom * n_satom) × Swap o.now m.now }
+    ensures { let T : ShiftTables = shift_tables p2s.now s2pp.now nsym_list.now perms.now n_satom n_patom num_trans in fc4.new ≡ plane4 half_shifts_stay o.now T q fc4.old }
 {
     let first = row_of(q, n_satom);
     let second = column_of(q, n_satom);
@@ -317,10 +309,8 @@ fn pairs(
     o: &[usize; 4],
     m: &[u8; 54],
 )
-    ghost { ShiftTables }
-    requires* num_trans_value { λ T. ⌜ shift_tables p2s.now s2pp.now nsym_list.now perms.now n_satom n_patom num_trans ≡ T ⌝ }
-    requires* fact { λ T. ⌜ Trading 3 (length fc4.old) T × Swap o.now m.now ⌝ }
-    ensures* { λ T _. ⌜ fc4.new ≡ pairs4 half_shifts_stay o.now T fc4.old ⌝ }
+    requires { let T : ShiftTables = shift_tables p2s.now s2pp.now nsym_list.now perms.now n_satom n_patom num_trans in Trading 3 (length fc4.old) T × Swap o.now m.now }
+    ensures { let T : ShiftTables = shift_tables p2s.now s2pp.now nsym_list.now perms.now n_satom n_patom num_trans in fc4.new ≡ pairs4 half_shifts_stay o.now T fc4.old }
 {
     let end = n_patom * n_satom;
     let mut q = 0;
@@ -357,10 +347,8 @@ pub fn exchange_legs(
     leg_a: usize,
     leg_b: usize,
 )
-    ghost { ShiftTables }
-    requires* num_trans_value { λ T. ⌜ shift_tables p2s.now s2pp.now nsym_list.now perms.now n_satom n_patom num_trans ≡ T ⌝ }
-    requires* fact { λ T. ⌜ Trading 3 (length fc4.old) T × (leg_a < 4) × (leg_b < 4) × (leg_a ≡ leg_b → ⊥) ⌝ }
-    ensures* { λ T _. ⌜ fc4.new ≡ pairs4 half_shifts_stay (exchanging 3 leg_a leg_b) T fc4.old ⌝ }
+    requires { let T : ShiftTables = shift_tables p2s.now s2pp.now nsym_list.now perms.now n_satom n_patom num_trans in Trading 3 (length fc4.old) T × (leg_a < 4) × (leg_b < 4) × (leg_a ≡ leg_b → ⊥) }
+    ensures { let T : ShiftTables = shift_tables p2s.now s2pp.now nsym_list.now perms.now n_satom n_patom num_trans in fc4.new ≡ pairs4 half_shifts_stay (exchanging 3 leg_a leg_b) T fc4.old }
 {
     let o = order_of(leg_a, leg_b);
     let m = pairs_of(leg_a, leg_b);

@@ -1,5 +1,7 @@
 // The transposes of a compact set of fourth order: legs 0 and 1 of every number change places. Blocks that a half shift exchanges with their own pair
 // stay where half_shifts_stay says so, as the Rust leaves them; the true transpose moves them too.
+#![tactic(auto)]
+
 pub mod exchanging;
 pub mod legs;
 pub mod swaps;
@@ -29,13 +31,8 @@ fn by_type(
     half_shifts_stay: bool,
     t_type: i64,
 )
-    ghost { ShiftTables }
-    requires* num_trans_value { λ T. ⌜ shift_tables p2s.now s2pp.now nsym_list.now perms.now n_satom n_patom num_trans ≡ T ⌝ }
-    requires* fact { λ T. ⌜ Trading 3 (length fc4.old) T ⌝ }
-    ensures* { λ T _. ⌜
-        fc4.new
-        ≡ cond half_shifts_stay (transposed_by4 (shifts_of T) t_type fc4.old)
-        (swapped (shifts_of T) 3 (legs4 t_type) fc4.old) ⌝ }
+    requires { let T : ShiftTables = shift_tables p2s.now s2pp.now nsym_list.now perms.now n_satom n_patom num_trans in Trading 3 (length fc4.old) T }
+    ensures { let T : ShiftTables = shift_tables p2s.now s2pp.now nsym_list.now perms.now n_satom n_patom num_trans in fc4.new ≡ cond half_shifts_stay (transposed_by4 (shifts_of T) t_type fc4.old) (swapped (shifts_of T) 3 (legs4 t_type) fc4.old) }
 {
     if t_type == 0 {
         exchange_legs(

@@ -63,10 +63,8 @@ fn swap(
     leg_a: usize,
     leg_b: usize,
 )
-    ghost { ShiftTables }
-    requires* num_trans_value { λ T. ⌜ shift_tables p2s.now s2pp.now nsym_list.now perms.now n_satom n_patom num_trans ≡ T ⌝ }
-    requires* fact { λ T. ⌜ Trading 3 (length fc4.old) T × (leg_a < 4) × (leg_b < 4) ⌝ }
-    ensures* { λ T _. ⌜ fc4.new ≡ swapped (shifts_of T) 3 (leg_a, leg_b) fc4.old ⌝ }
+    requires { let T : ShiftTables = shift_tables p2s.now s2pp.now nsym_list.now perms.now n_satom n_patom num_trans in Trading 3 (length fc4.old) T × (leg_a < 4) × (leg_b < 4) }
+    ensures { let T : ShiftTables = shift_tables p2s.now s2pp.now nsym_list.now perms.now n_satom n_patom num_trans in fc4.new ≡ swapped (shifts_of T) 3 (leg_a, leg_b) fc4.old }
 {
     if leg_a == leg_b {
         return;

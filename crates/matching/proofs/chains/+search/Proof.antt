@@ -42,7 +42,7 @@ search-Inv-loop rot-atom₀ marks₀ cell reach xs ys i left j₀ rot-atom marks
 abbrev search-μ-loop : search-lts.decreases-loop
 search-μ-loop rot-atom₀ marks₀ cell reach xs ys i left j₀ rot-atom marks j = length rot-atom₀ - j
 
-search-slice-write-marks : (t : ℕ) → search-lts.Need-slice-write-marks (
+search-slice-write-marks : (t : ℕ) → search-lts.Need-slice_write-marks (
   is-open-reads.Asked,
   is-open-reads.Learnt,
   filled-at-reads.Asked,
@@ -70,9 +70,9 @@ search-loop-holds : (t : ℕ) → search-lts.Need-loop-init (
 ) (search-at t) search'.Post search-Inv-loop search-μ-loop
 search-loop-holds t c =
     let s = c.before.before.before in
-    (omega arith, refl, looked-none _ _ s.args.rot-atom.now s.args.marks.now s.args.i s.args.left s.requires.1.0)
+    (omega arith, refl, looked-none _ _ s.args.rot_atom.now s.args.marks.now s.args.i s.args.left s.requires.1.0)
 
-search-is-open-requires : (t : ℕ) → search-lts.Need-is-open-requires (
+search-is-open-requires : (t : ℕ) → search-lts.Need-is_open-requires (
   is-open-reads.Asked,
   is-open-reads.Learnt,
   filled-at-reads.Asked,
@@ -89,11 +89,11 @@ search-is-open-requires t c κs =
     let a = s.args in
     let R = s.requires.1.0 in
     let l = c.before.before.before.loop in
-    let h : l.j < length a.rot-atom.now = omega (arith, ap length l.invariant.1, c.before.before.loop-test.true) in
-    let T = trying _ _ a.rot-atom.now a.marks.now a.i a.left R l.marks l.j h l.invariant.2 in
+    let h : l.j < length a.rot_atom.now = omega (arith, ap length l.invariant.1, c.before.before.loop-test.true) in
+    let T = trying _ _ a.rot_atom.now a.marks.now a.i a.left R l.marks l.j h l.invariant.2 in
     (rw l.invariant.1 T.homeless, ((rw l.invariant.1 s.requires.1.1.0, s.requires.1.1.1), rw l.invariant.1 h))
 
-search-filled-at-requires : (t : ℕ) → search-lts.Need-filled-at-requires (
+search-filled-at-requires : (t : ℕ) → search-lts.Need-filled_at-requires (
   is-open-reads.Asked,
   is-open-reads.Learnt,
   filled-at-reads.Asked,
@@ -121,7 +121,7 @@ search-give-requires : (t : ℕ) → search-lts.Need-give-requires (
 ) (search-at t) search'.Post search-Inv-loop search-μ-loop
 search-give-requires t c κs = search rules
 
-search-same-length : (t : ℕ) → search-lts.Need-same-length (
+search-same-length : (t : ℕ) → search-lts.Need-same_length (
   is-open-reads.Asked,
   is-open-reads.Learnt,
   filled-at-reads.Asked,
@@ -135,9 +135,9 @@ search-same-length : (t : ℕ) → search-lts.Need-same-length (
 ) (search-at t) search'.Post search-Inv-loop search-μ-loop
 search-same-length t c =
     let l = c.before.before.before.before.before.before.before.before.before.before.before.loop in
-    ap length c.before.give.ensures ∙ length-set l.rot-atom l.j (pos c.before.before.before.before.before.before.before.before.before.before.before.before.before.before.before.args.i) ∙ ap length l.invariant.1
+    ap length c.before.give.ensures ∙ length-set l.rot_atom l.j (pos c.before.before.before.before.before.before.before.before.before.before.before.before.before.before.before.args.i) ∙ ap length l.invariant.1
 
-search-same-length-2 : (t : ℕ) → search-lts.Need-same-length-2 (
+search-same-length-2 : (t : ℕ) → search-lts.Need-same_length-2 (
   is-open-reads.Asked,
   is-open-reads.Learnt,
   filled-at-reads.Asked,
@@ -168,14 +168,14 @@ search-returns t c =
     let a = s.args in
     let R = s.requires.1.0 in
     let l = c.before.before.before.before.before.before.before.before.before.before.before.loop in
-    let h : l.j < length a.rot-atom.now = omega (arith, ap length l.invariant.1, c.before.before.before.before.before.before.before.before.before.before.loop-test.true) in
-    let T = trying _ _ a.rot-atom.now a.marks.now a.i a.left R l.marks l.j h l.invariant.2 in
+    let h : l.j < length a.rot_atom.now = omega (arith, ap length l.invariant.1, c.before.before.before.before.before.before.before.before.before.before.loop-test.true) in
+    let T = trying _ _ a.rot_atom.now a.marks.now a.i a.left R l.marks l.j h l.invariant.2 in
     let o = rw l.invariant.1 at (sym c.before.before.before.before.before.before.before.is_open.ensures ∙ c.before.before.before.before.before.before.if1.true) in
     let g = rw l.invariant.1 at (sym c.before.before.before.before.filled_at.ensures ∙ not-true _ c.before.before.before.if2.true) in
-    let n = open_near _ a.rot-atom.now l.marks a.i l.j o in
-    let f = free_neg _ _ a.rot-atom.now T.homeless.partial l.j h g in
-    let K = tried-free _ _ a.rot-atom.now l.marks a.i l.j a.left T n f in
-    rw (c.before.give.ensures, l.invariant.1) (searched-found _ _ a.rot-atom.now a.marks.now a.i a.left R l.marks _ _ l.j l.invariant.2 K)
+    let n = open_near _ a.rot_atom.now l.marks a.i l.j o in
+    let f = free_neg _ _ a.rot_atom.now T.homeless.partial l.j h g in
+    let K = tried-free _ _ a.rot_atom.now l.marks a.i l.j a.left T n f in
+    rw (c.before.give.ensures, l.invariant.1) (searched-found _ _ a.rot_atom.now a.marks.now a.i a.left R l.marks _ _ l.j l.invariant.2 K)
 
 search-entry-requires : (t : ℕ) → search-lts.Need-entry-requires (
   is-open-reads.Asked,
@@ -191,7 +191,7 @@ search-entry-requires : (t : ℕ) → search-lts.Need-entry-requires (
 ) (search-at t) search'.Post search-Inv-loop search-μ-loop
 search-entry-requires t c κs =
     let l = c.before.before.before.before.before.before.before.before.before.loop in
-    (omega (arith, c.before.before.before.before.before.before.before.before.loop-test.true), filled_pos l.rot-atom l.j (sym c.before.before.filled_at.ensures ∙ not-false _ c.before.if2.false))
+    (omega (arith, c.before.before.before.before.before.before.before.before.loop-test.true), filled_pos l.rot_atom l.j (sym c.before.before.filled_at.ensures ∙ not-false _ c.before.if2.false))
 
 search-give-requires-2 : (t : ℕ) → search-lts.Need-give-requires-2 (
   is-open-reads.Asked,
@@ -207,7 +207,7 @@ search-give-requires-2 : (t : ℕ) → search-lts.Need-give-requires-2 (
 ) (search-at t) search'.Post search-Inv-loop search-μ-loop
 search-give-requires-2 t c κs = search rules
 
-search-sub-search : (t : ℕ) → search-lts.Need-overflow-sub-search (
+search-sub-search : (t : ℕ) → search-lts.Need-overflow_sub-search (
   is-open-reads.Asked,
   is-open-reads.Learnt,
   filled-at-reads.Asked,
@@ -224,8 +224,8 @@ search-sub-search t c =
     let a = s.args in
     let R = s.requires.1.0 in
     let l = c.before.before.before.before.before.before.before.before.before.before.before.before.before.before.before.loop in
-    let h : l.j < length a.rot-atom.now = omega (arith, ap length l.invariant.1, c.before.before.before.before.before.before.before.before.before.before.before.before.before.before.loop-test.true) in
-    let T = trying _ _ a.rot-atom.now a.marks.now a.i a.left R l.marks l.j h l.invariant.2 in
+    let h : l.j < length a.rot_atom.now = omega (arith, ap length l.invariant.1, c.before.before.before.before.before.before.before.before.before.before.before.before.before.before.loop-test.true) in
+    let T = trying _ _ a.rot_atom.now a.marks.now a.i a.left R l.marks l.j h l.invariant.2 in
     omega (arith, T.deep)
 
 search-search-requires : (t : ℕ) → search-lts.Need-search-requires (
@@ -245,21 +245,21 @@ search-search-requires t c κs =
     let a = s.args in
     let R = s.requires.1.0 in
     let l = c.before.before.before.before.before.before.before.before.before.before.before.before.before.before.before.loop in
-    let h : l.j < length a.rot-atom.now = omega (arith, ap length l.invariant.1, c.before.before.before.before.before.before.before.before.before.before.before.before.before.before.loop-test.true) in
-    let T = trying _ _ a.rot-atom.now a.marks.now a.i a.left R l.marks l.j h l.invariant.2 in
+    let h : l.j < length a.rot_atom.now = omega (arith, ap length l.invariant.1, c.before.before.before.before.before.before.before.before.before.before.before.before.before.before.loop-test.true) in
+    let T = trying _ _ a.rot_atom.now a.marks.now a.i a.left R l.marks l.j h l.invariant.2 in
     let o = rw l.invariant.1 at (sym c.before.before.before.before.before.before.before.before.before.before.before.is_open.ensures ∙ c.before.before.before.before.before.before.before.before.before.before.if1.true) in
     let g = rw l.invariant.1 at (sym c.before.before.before.before.before.before.before.before.filled_at.ensures ∙ not-false _ c.before.before.before.before.before.before.before.if2.false) in
     let k = c.before.before.before.before.before.entry.result in
-    let e : k ≡ index_at a.rot-atom.now l.j = rw l.invariant.1 at c.before.before.before.before.before.entry.ensures in
-    let q : slot_at a.rot-atom.now l.j ≡ pos k = filled_pos a.rot-atom.now l.j g ∙ ap pos (sym e) in
-    let n = open_near _ a.rot-atom.now l.marks a.i l.j o in
+    let e : k ≡ index_at a.rot_atom.now l.j = rw l.invariant.1 at c.before.before.before.before.before.entry.ensures in
+    let q : slot_at a.rot_atom.now l.j ≡ pos k = filled_pos a.rot_atom.now l.j g ∙ ap pos (sym e) in
+    let n = open_near _ a.rot_atom.now l.marks a.i l.j o in
     let d = c.before.before.before.give2 in
-    let u : length d.new.0 ≡ length a.rot-atom.now = ap length d.ensures ∙ length-set l.rot-atom l.j (pos a.i) ∙ ap length l.invariant.1 in
-    let m = ap (marked l.marks) e ∙ open_fresh _ a.rot-atom.now l.marks a.i l.j o g in
-    let D = deeper _ _ a.rot-atom.now l.marks a.i l.j a.left T n k q m in
+    let u : length d.new.0 ≡ length a.rot_atom.now = ap length d.ensures ∙ length-set l.rot_atom l.j (pos a.i) ∙ ap length l.invariant.1 in
+    let m = ap (marked l.marks) e ∙ open_fresh _ a.rot_atom.now l.marks a.i l.j o g in
+    let D = deeper _ _ a.rot_atom.now l.marks a.i l.j a.left T n k q m in
     (omega (arith, s.requires.0, T.deep), (rw (u, d.ensures, l.invariant.1) D, (rw u s.requires.1.1.0, s.requires.1.1.1)))
 
-search-same-length-3 : (t : ℕ) → search-lts.Need-same-length-3 (
+search-same-length-3 : (t : ℕ) → search-lts.Need-same_length-3 (
   is-open-reads.Asked,
   is-open-reads.Learnt,
   filled-at-reads.Asked,
@@ -273,7 +273,7 @@ search-same-length-3 : (t : ℕ) → search-lts.Need-same-length-3 (
 ) (search-at t) search'.Post search-Inv-loop search-μ-loop
 search-same-length-3 t c = search rules
 
-search-same-length-4 : (t : ℕ) → search-lts.Need-same-length-4 (
+search-same-length-4 : (t : ℕ) → search-lts.Need-same_length-4 (
   is-open-reads.Asked,
   is-open-reads.Learnt,
   filled-at-reads.Asked,
@@ -306,18 +306,18 @@ search-returns-2 t c =
     let a = s.args in
     let R = s.requires.1.0 in
     let l = c.before.before.before.before.before.before.before.before.before.before.before.before.before.before.before.before.before.before.before.before.loop in
-    let h : l.j < length a.rot-atom.now = omega (arith, ap length l.invariant.1, c.before.before.before.before.before.before.before.before.before.before.before.before.before.before.before.before.before.before.before.loop-test.true) in
-    let T = trying _ _ a.rot-atom.now a.marks.now a.i a.left R l.marks l.j h l.invariant.2 in
+    let h : l.j < length a.rot_atom.now = omega (arith, ap length l.invariant.1, c.before.before.before.before.before.before.before.before.before.before.before.before.before.before.before.before.before.before.before.loop-test.true) in
+    let T = trying _ _ a.rot_atom.now a.marks.now a.i a.left R l.marks l.j h l.invariant.2 in
     let o = rw l.invariant.1 at (sym c.before.before.before.before.before.before.before.before.before.before.before.before.before.before.before.before.is_open.ensures ∙ c.before.before.before.before.before.before.before.before.before.before.before.before.before.before.before.if1.true) in
     let g = rw l.invariant.1 at (sym c.before.before.before.before.before.before.before.before.before.before.before.before.before.filled_at.ensures ∙ not-false _ c.before.before.before.before.before.before.before.before.before.before.before.before.if2.false) in
     let k = c.before.before.before.before.before.before.before.before.before.before.entry.result in
-    let e : k ≡ index_at a.rot-atom.now l.j = rw l.invariant.1 at c.before.before.before.before.before.before.before.before.before.before.entry.ensures in
-    let q : slot_at a.rot-atom.now l.j ≡ pos k = filled_pos a.rot-atom.now l.j g ∙ ap pos (sym e) in
-    let n = open_near _ a.rot-atom.now l.marks a.i l.j o in
+    let e : k ≡ index_at a.rot_atom.now l.j = rw l.invariant.1 at c.before.before.before.before.before.before.before.before.before.before.entry.ensures in
+    let q : slot_at a.rot_atom.now l.j ≡ pos k = filled_pos a.rot_atom.now l.j g ∙ ap pos (sym e) in
+    let n = open_near _ a.rot_atom.now l.marks a.i l.j o in
     let d = c.before.before.before.before.before.before.before.before.give2 in
-    let u : length d.new.0 ≡ length a.rot-atom.now = ap length d.ensures ∙ length-set l.rot-atom l.j (pos a.i) ∙ ap length l.invariant.1 in
-    let K = tried-found _ _ a.rot-atom.now l.marks a.i l.j a.left T n k q _ _ (rw (u, d.ensures, l.invariant.1, c.if3.true) at c.before.before.before.before.search.ensures) in
-    searched-found _ _ a.rot-atom.now a.marks.now a.i a.left R l.marks _ _ l.j l.invariant.2 K
+    let u : length d.new.0 ≡ length a.rot_atom.now = ap length d.ensures ∙ length-set l.rot_atom l.j (pos a.i) ∙ ap length l.invariant.1 in
+    let K = tried-found _ _ a.rot_atom.now l.marks a.i l.j a.left T n k q _ _ (rw (u, d.ensures, l.invariant.1, c.if3.true) at c.before.before.before.before.search.ensures) in
+    searched-found _ _ a.rot_atom.now a.marks.now a.i a.left R l.marks _ _ l.j l.invariant.2 K
 
 search-give-requires-3 : (t : ℕ) → search-lts.Need-give-requires-3 (
   is-open-reads.Asked,
@@ -336,20 +336,20 @@ search-give-requires-3 t c κs =
     let a = s.args in
     let R = s.requires.1.0 in
     let l = c.before.before.before.before.before.before.before.before.before.before.before.before.before.before.before.before.before.before.before.before.before.loop in
-    let h : l.j < length a.rot-atom.now = omega (arith, ap length l.invariant.1, c.before.before.before.before.before.before.before.before.before.before.before.before.before.before.before.before.before.before.before.before.loop-test.true) in
-    let T = trying _ _ a.rot-atom.now a.marks.now a.i a.left R l.marks l.j h l.invariant.2 in
+    let h : l.j < length a.rot_atom.now = omega (arith, ap length l.invariant.1, c.before.before.before.before.before.before.before.before.before.before.before.before.before.before.before.before.before.before.before.before.loop-test.true) in
+    let T = trying _ _ a.rot_atom.now a.marks.now a.i a.left R l.marks l.j h l.invariant.2 in
     let o = rw l.invariant.1 at (sym c.before.before.before.before.before.before.before.before.before.before.before.before.before.before.before.before.before.is_open.ensures ∙ c.before.before.before.before.before.before.before.before.before.before.before.before.before.before.before.before.if1.true) in
     let g = rw l.invariant.1 at (sym c.before.before.before.before.before.before.before.before.before.before.before.before.before.before.filled_at.ensures ∙ not-false _ c.before.before.before.before.before.before.before.before.before.before.before.before.before.if2.false) in
     let k = c.before.before.before.before.before.before.before.before.before.before.before.entry.result in
-    let e : k ≡ index_at a.rot-atom.now l.j = rw l.invariant.1 at c.before.before.before.before.before.before.before.before.before.before.before.entry.ensures in
-    let q : slot_at a.rot-atom.now l.j ≡ pos k = filled_pos a.rot-atom.now l.j g ∙ ap pos (sym e) in
-    let n = open_near _ a.rot-atom.now l.marks a.i l.j o in
+    let e : k ≡ index_at a.rot_atom.now l.j = rw l.invariant.1 at c.before.before.before.before.before.before.before.before.before.before.before.entry.ensures in
+    let q : slot_at a.rot_atom.now l.j ≡ pos k = filled_pos a.rot_atom.now l.j g ∙ ap pos (sym e) in
+    let n = open_near _ a.rot_atom.now l.marks a.i l.j o in
     let d = c.before.before.before.before.before.before.before.before.before.give2 in
-    let u : length d.new.0 ≡ length a.rot-atom.now = ap length d.ensures ∙ length-set l.rot-atom l.j (pos a.i) ∙ ap length l.invariant.1 in
-    let p = (held_below _ _ a.rot-atom.now T.homeless.partial l.j k h q).0 in
+    let u : length d.new.0 ≡ length a.rot_atom.now = ap length d.ensures ∙ length-set l.rot_atom l.j (pos a.i) ∙ ap length l.invariant.1 in
+    let p = (held_below _ _ a.rot_atom.now T.homeless.partial l.j k h q).0 in
     (omega (arith, h, u, c.before.before.before.before.before.search.auto.0), omega (arith, p, T.homeless.small))
 
-search-add-j : (t : ℕ) → search-lts.Need-overflow-add-j (
+search-add-j : (t : ℕ) → search-lts.Need-overflow_add-j (
   is-open-reads.Asked,
   is-open-reads.Learnt,
   filled-at-reads.Asked,
@@ -395,25 +395,25 @@ search-loop-again t c =
     let a = s.args in
     let R = s.requires.1.0 in
     let l = c.before.before.before.before.before.loop in
-    let h : l.j < length a.rot-atom.now = omega (arith, ap length l.invariant.1, c.before.before.before.before.loop-test.true) in
-    let T = trying _ _ a.rot-atom.now a.marks.now a.i a.left R l.marks l.j h l.invariant.2 in
-    let K : Tried (near a.cell a.pos.now a.rot-pos.now) (length a.rot-atom.now) a.rot-atom.now l.marks a.i l.j false c.if1.rot-atom c.if1.marks = ⊎_elim
+    let h : l.j < length a.rot_atom.now = omega (arith, ap length l.invariant.1, c.before.before.before.before.loop-test.true) in
+    let T = trying _ _ a.rot_atom.now a.marks.now a.i a.left R l.marks l.j h l.invariant.2 in
+    let K : Tried (near a.cell a.pos.now a.rot_pos.now) (length a.rot_atom.now) a.rot_atom.now l.marks a.i l.j false c.if1.rot_atom c.if1.marks = ⊎_elim
     (λ w.
     let o = rw l.invariant.1 at (sym c.before.is_open.ensures ∙ w.0.taken) in
     let g = rw l.invariant.1 at (sym w.2.ensures ∙ not-false _ w.3.left) in
     let k = w.5.result in
-    let e : k ≡ index_at a.rot-atom.now l.j = rw l.invariant.1 at w.5.ensures in
-    let q : slot_at a.rot-atom.now l.j ≡ pos k = filled_pos a.rot-atom.now l.j g ∙ ap pos (sym e) in
-    let n = open_near _ a.rot-atom.now l.marks a.i l.j o in
-    let u : length w.7.last.0 ≡ length a.rot-atom.now = ap length w.7.ensures ∙ length-set l.rot-atom l.j (pos a.i) ∙ ap length l.invariant.1 in
-    rw (w.19, w.20, w.17.ensures) (tried-stuck _ _ a.rot-atom.now l.marks a.i l.j a.left T n k q _ _ (rw (u, w.7.ensures, l.invariant.1, w.15.left) at w.11.ensures)))
+    let e : k ≡ index_at a.rot_atom.now l.j = rw l.invariant.1 at w.5.ensures in
+    let q : slot_at a.rot_atom.now l.j ≡ pos k = filled_pos a.rot_atom.now l.j g ∙ ap pos (sym e) in
+    let n = open_near _ a.rot_atom.now l.marks a.i l.j o in
+    let u : length w.7.last.0 ≡ length a.rot_atom.now = ap length w.7.ensures ∙ length-set l.rot_atom l.j (pos a.i) ∙ ap length l.invariant.1 in
+    rw (w.19, w.20, w.17.ensures) (tried-stuck _ _ a.rot_atom.now l.marks a.i l.j a.left T n k q _ _ (rw (u, w.7.ensures, l.invariant.1, w.15.left) at w.11.ensures)))
     (λ w.
     let o = rw l.invariant.1 at (sym c.before.is_open.ensures ∙ w.0.left) in
-    rw (w.1, w.2, l.invariant.1) (tried_shut _ _ a.rot-atom.now l.marks a.i l.j a.left T o))
+    rw (w.1, w.2, l.invariant.1) (tried_shut _ _ a.rot_atom.now l.marks a.i l.j a.left T o))
     c.if1.branch in
-    (omega (arith, h), (K.stuck refl).same, looked-more _ _ a.rot-atom.now a.marks.now a.i a.left R l.marks _ _ l.j l.invariant.2 K)
+    (omega (arith, h), (K.stuck refl).same, looked-more _ _ a.rot_atom.now a.marks.now a.i a.left R l.marks _ _ l.j l.invariant.2 K)
 
-search-same-length-5 : (t : ℕ) → search-lts.Need-same-length-5 (
+search-same-length-5 : (t : ℕ) → search-lts.Need-same_length-5 (
   is-open-reads.Asked,
   is-open-reads.Learnt,
   filled-at-reads.Asked,
@@ -427,7 +427,7 @@ search-same-length-5 : (t : ℕ) → search-lts.Need-same-length-5 (
 ) (search-at t) search'.Post search-Inv-loop search-μ-loop
 search-same-length-5 t c = search rules
 
-search-same-length-6 : (t : ℕ) → search-lts.Need-same-length-6 (
+search-same-length-6 : (t : ℕ) → search-lts.Need-same_length-6 (
   is-open-reads.Asked,
   is-open-reads.Learnt,
   filled-at-reads.Asked,
@@ -457,11 +457,11 @@ search-returns-3 t c =
     let s = c.before.before.before.before.before in
     let a = s.args in
     let l = c.before.loop in
-    let q : l.j ≡ length a.rot-atom.now = omega (arith, ap length l.invariant.1, l.invariant.0, c.loop-test.false) in
-    searched-stuck _ _ a.rot-atom.now a.marks.now a.i a.left s.requires.1.0 l.marks l.rot-atom l.invariant.1 (rw q at l.invariant.2)
+    let q : l.j ≡ length a.rot_atom.now = omega (arith, ap length l.invariant.1, l.invariant.0, c.loop-test.false) in
+    searched-stuck _ _ a.rot_atom.now a.marks.now a.i a.left s.requires.1.0 l.marks l.rot_atom l.invariant.1 (rw q at l.invariant.2)
 
-pub +search-spec : {M : Type 1} → statement M
-+search-spec = close μ-search λ t. search-lts.spec (
+pub +search_spec : {M : Type 1} → statement M
++search_spec = close μ-search λ t. search-lts.spec (
   is-open-reads.Asked,
   is-open-reads.Learnt,
   filled-at-reads.Asked,

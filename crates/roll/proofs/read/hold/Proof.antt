@@ -95,9 +95,9 @@ hold-meets : {M : Type 1} {𝓤 : Ura M} (𝓛 : Logic 𝓤) → (mem : Memory �
     → Meets 𝓛 hold.signature (WpFn 𝓤 𝓛.H 𝓣.C 𝓣.Λ code.function) (hold.spec 𝓛 mem run)
 hold-meets {𝓤 = 𝓤} 𝓛 mem run 𝓣 = walk_Meets 𝓛 hold.ended stayed (Goes-none_slice 𝓛 1 (0 ∷ []) tt (plain (λ _. u8)) yes, tt) (hold.clauses 𝓛 mem run) (WpFn 𝓤 𝓛.H 𝓣.C 𝓣.Λ code.function) (WpFn-mono 𝓤 𝓛.H 𝓛.laws 𝓣 code.function) (hold-walks 𝓛 mem run 𝓣.C 𝓣.Λ)
 
-pub hold-spec : {M : Type 1} → stated.statement M
+pub hold_spec : {M : Type 1} → stated.statement M
 unfolding code.routine tables_of
-hold-spec 𝓤 𝓛 𝓜 𝓡 =
+hold_spec 𝓤 𝓛 𝓜 𝓡 =
     entered 𝓤 𝓛.H (triple_of 𝓛 hold.signature (hold.spec 𝓛 𝓜.mem 𝓡.run))
     (tables 𝓤 𝓛.H 𝓜 𝓡 code.env).C (tables 𝓤 𝓛.H 𝓜 𝓡 code.env).Λ #roll·read·hold code.function (code.unfolded 𝓤 𝓛.H 𝓜 𝓡)
     (hold-meets 𝓛 𝓜.mem 𝓡.run (tables_of 𝓤 𝓛.H 𝓜 (tables 𝓤 𝓛.H 𝓜 𝓡 code.env)))

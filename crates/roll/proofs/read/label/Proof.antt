@@ -157,10 +157,10 @@ label-meets : {M : Type 1} {𝓤 : Ura M} (𝓛 : Logic 𝓤) (mem : Memory → 
 label-meets {𝓤 = 𝓤} 𝓛 mem run 𝓣 Known-step = walk_Meets 𝓛 label.ended stayed (Goes-none 𝓛 1 B yes (λ κs x f. refl), tt) (label.clauses 𝓛 mem run) (WpFn 𝓤 𝓛.H 𝓣.C 𝓣.Λ code.function) (WpFn-mono 𝓤 𝓛.H 𝓛.laws 𝓣 code.function)
     (label-walks 𝓛 mem run 𝓣.C 𝓣.Λ (fm_of 𝓤 𝓛.H 𝓛.laws 𝓣) Known-step)
 
-pub label-spec : {M : Type 1} → stated.statement M
+pub label_spec : {M : Type 1} → stated.statement M
 unfolding code.routine tables_of
-label-spec 𝓤 𝓛 𝓜 𝓡 =
+label_spec 𝓤 𝓛 𝓜 𝓡 =
     entered 𝓤 𝓛.H (triple_of 𝓛 label.signature (label.spec 𝓛 𝓜.mem 𝓡.run))
     (tables 𝓤 𝓛.H 𝓜 𝓡 code.env).C (tables 𝓤 𝓛.H 𝓜 𝓡 code.env).Λ #roll·read·label code.function (code.unfolded 𝓤 𝓛.H 𝓜 𝓡)
     (label-meets 𝓛 𝓜.mem 𝓡.run (tables_of 𝓤 𝓛.H 𝓜 (tables 𝓤 𝓛.H 𝓜 𝓡 code.env))
-    (cited 𝓤 𝓛.H (LabelAt 𝓛 𝓜.mem 𝓡.run) 𝓜 𝓡 code.env #callee step-def.routine code.calls-roll::reading::label-at (step_thm.met 𝓤 𝓛 𝓜 𝓡)))
+    (cited 𝓤 𝓛.H (LabelAt 𝓛 𝓜.mem 𝓡.run) 𝓜 𝓡 code.env #callee step-def.routine code.calls-roll::reading::label_at (step_thm.met 𝓤 𝓛 𝓜 𝓡)))

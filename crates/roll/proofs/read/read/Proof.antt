@@ -166,4 +166,4 @@ read_spec 𝓤 𝓛 𝓜 𝓡 =
     entered 𝓤 𝓛.H (triple_of 𝓛 read.signature (read.spec 𝓛 𝓜.mem 𝓡.run))
     (tables 𝓤 𝓛.H 𝓜 𝓡 code.env).C (tables 𝓤 𝓛.H 𝓜 𝓡 code.env).Λ #roll·read·read code.function (code.unfolded 𝓤 𝓛.H 𝓜 𝓡)
     (read_meets 𝓛 𝓜.mem 𝓡.run (tables_of 𝓤 𝓛.H 𝓜 (tables 𝓤 𝓛.H 𝓜 𝓡 code.env))
-    (cited 𝓤 𝓛.H (ReadAt 𝓛 𝓜.mem 𝓡.run) 𝓜 𝓡 code.env #callee step-def.routine code.calls-roll::reading::read-at (step_thm.met 𝓤 𝓛 𝓜 𝓡)))
+    (cited 𝓤 𝓛.H (ReadAt 𝓛 𝓜.mem 𝓡.run) 𝓜 𝓡 code.env #callee step-def.routine code.calls-roll::reading::read_at (step_thm.met 𝓤 𝓛 𝓜 𝓡)))

@@ -1,0 +1,14 @@
+use Prim.Native.Nat.{◌-◌}
+use native.Mathlib.Omega.{arith}
+use mathlib.Core.Path.{sym}
+use lib.ListN.{length, get_or}
+use lib.Ieee.{nan, sub, mul, binary64}
+use Rattle.acoustic.specs.Laws.{Mapping, mapping_none, mapping_more, mapping_all}
+use borrow.Author.Rules.{rules}
+use Rattle.acoustic.proofs.scale_all.Given as goal
+
+abbrev pub invariant-loop-k : goal.invariant-loop-k
+invariant-loop-k l = Mapping (λ _ y. mul binary64 y l.x) l.initial.s l.k l.s
+
+abbrev pub decreases-loop-k : goal.decreases-loop-k
+decreases-loop-k l = length l.initial.s - l.k

@@ -1,0 +1,23 @@
+use lib.Ieee.{in_float}
+use lib.Dec.{le→leb, lit≤}
+use Prim.Native.Nat.{ℕ, ◌+◌, ◌*◌, ◌-◌, ◌≤◌, ◌<◌, ◌^◌}
+use native.Mathlib.Nat.{mul-le-mul}
+use native.Mathlib.Omega.{arith}
+use mathlib.Core.Path.{◌≡◌, refl, ap, sym, ◌∙◌}
+use lib.ListN.{length}
+use Rattle.lists.specs.Tab.{times, times_none, times_more}
+use Rattle.blocks.specs.Block.{put_block}
+use Rattle.tables.specs.Limits.{limit3}
+use Rattle.tables.specs.Compact.{ShiftTables, shift_tables, shifts_of}
+use Rattle.lines.specs.Sums3x3.{inverse}
+use Rattle.acoustic.specs.Laws.{drift_put, drift_inside, in27, rows2}
+use borrow.Author.Rules.{rules}
+use Rattle.acoustic.proofs.third.drifts.Given as goal
+
+abbrev pub invariant-loop-r : goal.invariant-loop-r
+invariant-loop-r l =
+    (l.r ≤ l.count) × (length l.drift ≡ length l.initial.drift)
+    × (l.drift ≡ times l.r (drift_put (shifts_of (shift_tables l.p2s l.s2pp l.nsym_list l.perms l.n_satom l.n_patom l.num_trans)) 2 l.leg 27 l.fc3 l.inv_n) l.initial.drift)
+
+abbrev pub decreases-loop-r : goal.decreases-loop-r
+decreases-loop-r l = l.count - l.r

@@ -1,0 +1,16 @@
+use Prim.Native.Nat.{ℕ, ◌-◌, ◌≤◌}
+use native.Mathlib.Omega.{arith}
+use mathlib.Core.Path.{◌≡◌, refl, ap, ◌∙◌}
+use lib.ListN.{length}
+use Rattle.lists.specs.Tab.{times, times_none, times_more}
+use Rattle.tables.specs.Compact.{ShiftTables, shift_tables, shifts_of}
+use Rattle.acoustic.specs.Acoustic.{without_drift, without_drifts}
+use borrow.Author.Rules.{rules}
+use Rattle.acoustic.proofs.third.legs_off.Given as goal
+
+abbrev pub invariant-loop-leg : goal.invariant-loop-leg
+invariant-loop-leg l =
+    (l.leg ≤ 3) × (length l.fc3 ≡ length l.initial.fc3) × (length l.drift ≡ length l.initial.drift) × (l.fc3 ≡ times l.leg (without_drift (shifts_of (shift_tables l.p2s l.s2pp l.nsym_list l.perms l.n_satom l.n_patom l.num_trans)) 2) l.initial.fc3)
+
+abbrev pub decreases-loop-leg : goal.decreases-loop-leg
+decreases-loop-leg l = 3 - l.leg

@@ -1,0 +1,28 @@
+use mathlib.Core.Path.{sym, ◌∙◌}
+use lib.Dec.{lit≤}
+use lib.ListN.{length}
+use borrow.Author.Rules.{rules}
+use Rattle.tables.specs.Limits.{limit4}
+use Rattle.tables.specs.Compact.{shift_tables}
+use Rattle.places.specs.Permutations.{perms4}
+use Rattle.audits.specs.Guard.{ready_compact, compact_refused, compact_done}
+use Rattle.audits.proofs.fourth.audit_compact_fc4.Goals as goal
+
+pub judge_set-a-requires : goal.judge_set-a-requires
+judge_set-a-requires c = (lit≤ tt, lit≤ tt)
+
+pub returns-in-Refused : goal.returns-in-Refused
+returns-in-Refused c =
+    let s = c.args in
+    let a = s in
+    compact_refused limit4 3 perms4 a.fc.now (shift_tables a.p2s.now a.s2pp.now a.nsym_list.now a.perms.now a.n_satom a.n_patom a.num_trans) _ (sym c.judge_set-a.ensures ∙ c.in-Refused.is)
+
+pub scan-requires : goal.scan-requires
+scan-requires c =
+    let a = c.args in
+    ready_compact limit4 3 (length a.fc.now) (shift_tables a.p2s.now a.s2pp.now a.nsym_list.now a.perms.now a.n_satom a.n_patom a.num_trans) (sym c.judge_set-a.ensures ∙ c.in-Done.is)
+
+pub returns-in-Done : goal.returns-in-Done
+returns-in-Done c =
+    let a = c.args in
+    compact_done limit4 3 perms4 a.fc.now (shift_tables a.p2s.now a.s2pp.now a.nsym_list.now a.perms.now a.n_satom a.n_patom a.num_trans) (sym c.judge_set-a.ensures ∙ c.in-Done.is) c.scan.ensures

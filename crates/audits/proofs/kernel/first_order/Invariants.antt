@@ -1,0 +1,17 @@
+use Prim.Native.Nat.{ℕ, ◌-◌, ◌≤◌, ◌<◌}
+use native.Mathlib.Omega.{arith}
+use mathlib.Core.Path.{◌≡◌, sym, ap₂, ◌∙◌}
+use mathlib.Core.Bool.{false}
+use lib.ListN.{length}
+use borrow.Author.Count.{below_none, below_more}
+use borrow.Author.Rules.{rules}
+use Rattle.audits.specs.Audit.{differ}
+use Rattle.lists.specs.Lowest.{is_lowest}
+use Rattle.audits.specs.Kernel.{another, readable, in_here}
+use Rattle.audits.proofs.kernel.first_order.Given as goal
+
+abbrev pub invariant-loop-i : goal.invariant-loop-i
+invariant-loop-i l = (l.i ≤ length l.bs) × ((j : ℕ) → j < l.i → another l.width l.bs l.t l.fc l.b l.k j ≡ false)
+
+abbrev pub decreases-loop-i : goal.decreases-loop-i
+decreases-loop-i l = length l.bs - l.i

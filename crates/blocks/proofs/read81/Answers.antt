@@ -1,0 +1,8 @@
+use mathlib.Core.Path.{◌∙◌}
+use Rattle.blocks.specs.Block.{part-block}
+use borrow.Author.Rules.{rules}
+use Rattle.blocks.proofs.read81.Goals as goal
+
+pub returns : goal.returns
+returns c =
+    c.copy_all.ensures ∙ part-block 81 c.args.b c.args.fc.now c.requires

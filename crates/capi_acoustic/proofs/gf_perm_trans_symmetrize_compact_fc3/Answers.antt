@@ -1,0 +1,6 @@
+use borrow.Author.Rules.{rules}
+use Rattle.acoustic.specs.Numbered.{by-number-both}
+use Rattle.capi_acoustic.proofs.gf_perm_trans_symmetrize_compact_fc3.Goals as goal
+
+pub returns : goal.returns
+returns c = by-number-both c.perm_trans_symmetrize_compact_fc3-a.ensures c.number.ensures

@@ -1,0 +1,5 @@
+use borrow.Author.Rules.{rules}
+use Rattle.capi_cells.proofs.cell_of.Goals as goal
+
+pub returns : goal.returns
+returns c = rw (c.flags-f.ensures, c.nine-l.ensures)

@@ -1,0 +1,6 @@
+use borrow.Author.Rules.{rules}
+use Rattle.tables.specs.Numbered.{by_number}
+use Rattle.capi_fc3.proofs.gf_set_permutation_symmetry_fc3.Goals as goal
+
+pub returns : goal.returns
+returns c = by_number c.set_permutation_symmetry_fc3-a.ensures c.number.ensures

@@ -1,0 +1,18 @@
+use borrow.Author.Rules.{rules}
+use Rattle.capi_reports.specs.Told.{put-alike, put_unlike, put_refused}
+use Rattle.capi_reports.proofs.auditing.told.Goals as goal
+
+pub returns-in-Alike : goal.returns-in-Alike
+returns-in-Alike c = let a = c.args in put-alike a.place.now a.numbers.now a.a c.in-Alike.is
+
+pub returns-in-Unlike : goal.returns-in-Unlike
+returns-in-Unlike c =
+    let a = c.args in
+    let (q, e) = c.a-1.given in
+    put_unlike a.place.now a.numbers.now a.a q.0 c.requires e
+
+pub returns-in-Refused : goal.returns-in-Refused
+returns-in-Refused c =
+    let a = c.args in
+    let (q, e) = c.a-in-Refused-1.given in
+    put_refused a.place.now a.numbers.now a.a q.0 c.refusal_number.result e c.refusal_number.ensures

@@ -1,0 +1,27 @@
+use native.Mathlib.Omega.{arith}
+use lib.ListN.{length-set}
+use Rattle.capi_fc2.specs.Drift.{few}
+use Rattle.capi_reports.specs.Drifts.{leg-put, leg-kept}
+use borrow.Author.Rules.{rules}
+use Rattle.capi_reports.proofs.drifts.leg_report.Goals as goal
+
+pub bounds-place-4 : goal.bounds-place-4
+bounds-place-4 c = let h = c.requires.1 in simp length-set (omega arith)
+
+pub bounds-place-5 : goal.bounds-place-5
+bounds-place-5 c = let h = c.requires.1 in simp length-set (omega arith)
+
+pub overflow_add-result : goal.overflow_add-result
+overflow_add-result c = let g = few c.in-Report.q.drift in omega (arith, g, c.number.ensures)
+
+pub returns-in-Report : goal.returns-in-Report
+returns-in-Report c =
+    let a = c.args in
+    let (q, e) = c.a-1.given in
+    leg-put a.value.now a.place.now q.0 a.a c.value.result c.number.result (search rules) e c.value.ensures c.number.ensures
+
+pub returns-in-Refused : goal.returns-in-Refused
+returns-in-Refused c =
+    let a = c.args in
+    let (q, e) = c.a-in-Refused-1.given in
+    leg-kept a.value.now a.place.now a.a q.0 c.refusal_number.result e c.refusal_number.ensures

@@ -1,0 +1,41 @@
+use native.Mathlib.Nat.{le_trans}
+use mathlib.Core.Path.{sym, ap, ◌∙◌}
+use lib.Dec.{lit≤}
+use lib.ListN.{length}
+use Rattle.tables.specs.Limits.{limit4}
+use Rattle.tables.specs.Compact.{ShiftTables, shift_tables}
+use Rattle.audits.specs.Guard.{ready_compact}
+use Rattle.reports.specs.declared.ReportAnswer.TheVariants.{Given}
+use Rattle.crystal.specs.Crystal.{earlier, judged_operations}
+use Rattle.crystal.specs.Laws.{both-done, operating, set-few, compact_given, compact_refused}
+use borrow.Author.Rules.{rules}
+use Rattle.crystal.proofs.fourth.crystal_report_compact_fc4.Goals as goal
+
+pub judge_set-s-requires : goal.judge_set-s-requires
+judge_set-s-requires c = (lit≤ tt, lit≤ tt)
+
+pub judge-a-requires : goal.judge-a-requires
+judge-a-requires c =
+    let a = c.args in
+    let T : ShiftTables = shift_tables a.p2s.now a.s2pp.now a.nsym_list.now a.perms.now a.n_satom a.n_patom a.num_trans in
+    λ d. le_trans (set-few limit4 3 (length a.fc.now) T c.judge_set-s.ensures d) (lit≤ tt)
+
+pub scan-seen-requires : goal.scan-seen-requires
+scan-seen-requires c =
+    let a = c.args in
+    let T : ShiftTables = shift_tables a.p2s.now a.s2pp.now a.nsym_list.now a.perms.now a.n_satom a.n_patom a.num_trans in
+    let (d, o) = both-done _ _ (sym (c.judge-a.ensures ∙ ap (λ x. earlier x (judged_operations a.n_satom a.num_rot (length a.r_carts.now) a.operations.now)) c.judge_set-s.ensures) ∙ c.in-Done.is) in
+    (ready_compact limit4 3 (length a.fc.now) T d, operating a.n_satom a.num_rot (length a.r_carts.now) a.operations.now o)
+
+pub returns-in-Refused : goal.returns-in-Refused
+returns-in-Refused c =
+    let a = c.args in
+    let T : ShiftTables = shift_tables a.p2s.now a.s2pp.now a.nsym_list.now a.perms.now a.n_satom a.n_patom a.num_trans in
+    compact_refused limit4 3 a.fc.now a.r_carts.now a.operations.now a.num_rot T _ (sym (c.judge-a.ensures ∙ ap (λ x. earlier x (judged_operations a.n_satom a.num_rot (length a.r_carts.now) a.operations.now)) c.judge_set-s.ensures) ∙ c.in-Refused.is)
+
+pub returns-in-Done : goal.returns-in-Done
+returns-in-Done c =
+    let a = c.args in
+    let T : ShiftTables = shift_tables a.p2s.now a.s2pp.now a.nsym_list.now a.perms.now a.n_satom a.n_patom a.num_trans in
+    ap Given c.conclude.ensures
+    ∙ compact_given limit4 3 a.fc.now a.r_carts.now a.operations.now a.num_rot T (sym (c.judge-a.ensures ∙ ap (λ x. earlier x (judged_operations a.n_satom a.num_rot (length a.r_carts.now) a.operations.now)) c.judge_set-s.ensures) ∙ c.in-Done.is) c.scan-seen.ensures

@@ -1,0 +1,38 @@
+use native.Mathlib.Nat.{le_trans}
+use mathlib.Core.Path.{sym, ap, ◌∙◌}
+use mathlib.Core.List.{[]}
+use lib.Dec.{lit≤}
+use lib.ListN.{length}
+use Rattle.tables.specs.Full.{done_full}
+use Rattle.tables.specs.Limits.{limit4}
+use Rattle.audits.specs.Guard.{ready-whole}
+use Rattle.reports.specs.declared.ReportAnswer.TheVariants.{Given}
+use Rattle.crystal.specs.Crystal.{earlier, judged_operations}
+use Rattle.crystal.specs.Laws.{both-done, operating, whole-set-few, full-given, full-refused}
+use borrow.Author.Rules.{rules}
+use Rattle.crystal.proofs.fourth.crystal_report_fc4.Goals as goal
+
+pub judge_full-s-requires : goal.judge_full-s-requires
+judge_full-s-requires c = (lit≤ tt, lit≤ tt)
+
+pub judge-a-requires : goal.judge-a-requires
+judge-a-requires c =
+    let a = c.args in
+    λ d. le_trans (whole-set-few limit4 3 (length a.fc.now) a.num-atom c.judge_full-s.ensures d) (lit≤ tt)
+
+pub scan_full-seen-requires : goal.scan_full-seen-requires
+scan_full-seen-requires c =
+    let a = c.args in
+    let (d, o) = both-done _ _ (sym (c.judge-a.ensures ∙ ap (λ x. earlier x (judged_operations a.num-atom a.num_rot (length a.r_carts.now) a.operations.now)) c.judge_full-s.ensures) ∙ c.in-Done.is) in
+    (ready-whole limit4 3 (length a.fc.now) a.num-atom (lit≤ tt) d, le_trans (done_full limit4 3 (length a.fc.now) [] a.num-atom d).0 (lit≤ tt), operating a.num-atom a.num_rot (length a.r_carts.now) a.operations.now o)
+
+pub returns-in-Refused : goal.returns-in-Refused
+returns-in-Refused c =
+    let a = c.args in
+    full-refused limit4 3 a.fc.now a.r_carts.now a.operations.now a.num_rot a.num-atom _ (sym (c.judge-a.ensures ∙ ap (λ x. earlier x (judged_operations a.num-atom a.num_rot (length a.r_carts.now) a.operations.now)) c.judge_full-s.ensures) ∙ c.in-Refused.is)
+
+pub returns-in-Done : goal.returns-in-Done
+returns-in-Done c =
+    let a = c.args in
+    ap Given c.conclude.ensures
+    ∙ full-given limit4 3 a.fc.now a.r_carts.now a.operations.now a.num_rot a.num-atom (sym (c.judge-a.ensures ∙ ap (λ x. earlier x (judged_operations a.num-atom a.num_rot (length a.r_carts.now) a.operations.now)) c.judge_full-s.ensures) ∙ c.in-Done.is) c.scan_full-seen.ensures

@@ -1,0 +1,27 @@
+use Prim.Native.Nat.{ℕ, ◌+◌, ◌*◌, ◌-◌, ◌≤◌, ◌<◌}
+use native.Mathlib.Omega.{arith}
+use mathlib.Core.Path.{◌≡◌, sym, ap, ap₂, ◌∙◌, subst}
+use mathlib.Core.List.{List}
+use lib.Dec.{lit≤}
+use lib.ListN.{length}
+use lib.Ieee.{Float}
+use Rattle.lists.specs.Tab.{times, times_none, times_more}
+use Rattle.lists.specs.Digits.{times_power}
+use Rattle.blocks.specs.Block.{block}
+use Rattle.tables.specs.Limits.{limit2}
+use Rattle.tables.specs.Compact.{ShiftTables, shift_tables, shifts_of}
+use Rattle.places.specs.Places.{size}
+use Rattle.rotations.specs.Rotation.{coefficients}
+use Rattle.audits.specs.Guard.{block-count, block_inside, few-numbers}
+use Rattle.audits.specs.SecondScanLaws.{in9}
+use Rattle.crystal.specs.Laws.{block_seen, operation_seen, look_is, image-inside, few_index}
+use borrow.Author.Rules.{rules}
+use Rattle.crystal.proofs.second.look_operation.Given as goal
+
+abbrev pub invariant-loop-b : goal.invariant-loop-b
+invariant-loop-b l =
+    (l.b ≤ l.count) × ((carts : List Float) → l.c ≡ coefficients (block 9 l.r carts) 2 9
+    → l.seen ≡ times l.b (block_seen (shifts_of (shift_tables l.p2s l.s2pp l.nsym_list l.perms l.n_satom l.n_patom l.num_trans)) 1 carts l.operations l.fc 9 l.r) l.initial.seen)
+
+abbrev pub decreases-loop-b : goal.decreases-loop-b
+decreases-loop-b l = l.count - l.b

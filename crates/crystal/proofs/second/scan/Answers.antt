@@ -1,0 +1,40 @@
+use Prim.Native.Nat.{ℕ, ◌*◌, ◌-◌, ◌≤◌, ◌<◌}
+use native.Mathlib.Omega.{arith}
+use mathlib.Core.Path.{◌≡◌, refl, ap, ◌∙◌}
+use lib.ListN.{length}
+use Rattle.lists.specs.Tab.{times, times_none, times_more}
+use Rattle.lists.specs.Digits.{times_power}
+use Rattle.blocks.specs.Block.{block}
+use Rattle.tables.specs.Compact.{ShiftTables, shift_tables, shifts_of}
+use Rattle.rotations.specs.Rotation.{coefficients}
+use Rattle.audits.specs.SecondScanLaws.{in9}
+use Rattle.crystal.specs.Laws.{operation_seen, operations_seen-w, sends, carts_inside}
+use borrow.Author.Rules.{rules}
+use Rattle.crystal.proofs.second.scan.Goals as goal
+
+pub loop-r-init : goal.loop-r-init
+loop-r-init c = (omega arith, times_none _ _)
+
+pub read9-requires : goal.read9-requires
+read9-requires c =carts_inside c.requires.1 c.loop-r.r c.loop-r-test.true
+
+pub look_operation-more-requires : goal.look_operation-more-requires
+look_operation-more-requires c =
+    let h = c.loop-r-test.true in
+    let k = c.requires.1.few in
+    (c.requires.0, sends c.requires.1 c.loop-r.r h, omega (arith, h, k))
+
+pub loop-r-preserved : goal.loop-r-preserved
+loop-r-preserved c =
+    let a = c.args in
+    let l = c.loop-r in
+    (omega arith, times_more l.r _ _ l.invariant.1 (c.look_operation-more.ensures a.r_carts.now (c.coefficients2-c.ensures ∙ ap (λ x. coefficients x 2 9) c.read9.ensures)))
+
+pub returns : goal.returns
+returns c =
+    let a = c.args in
+    let T : ShiftTables = shift_tables a.p2s.now a.s2pp.now a.nsym_list.now a.perms.now a.n_satom a.n_patom a.num_trans in
+    let l = c.loop-r in
+    let i : l.r ≡ a.num_rot = omega arith in
+    operations_seen-w (shifts_of T) 1 a.r_carts.now a.operations.now a.fc.now 9 in9 a.num_rot
+    (l.invariant.1 ∙ ap (λ k. times k (operation_seen (shifts_of T) 1 a.r_carts.now a.operations.now a.fc.now 9 (times_power a.n_satom 1 a.n_patom)) c.start-seen.result) i ∙ ap (times a.num_rot (operation_seen (shifts_of T) 1 a.r_carts.now a.operations.now a.fc.now 9 (times_power a.n_satom 1 a.n_patom))) c.start-seen.ensures)

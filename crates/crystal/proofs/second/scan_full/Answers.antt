@@ -1,0 +1,13 @@
+use borrow.Author.Rules.{rules}
+use Rattle.audits.specs.Guard.{counted, part-counted, part-noughts}
+use Rattle.crystal.proofs.second.scan_full.Goals as goal
+
+pub scan-requires : goal.scan-requires
+scan-requires c =
+    let n = c.args.n in
+    rw (c.counted3.ensures, c.counted2.ensures, c.counted.ensures, part-counted 1024 n c.requires.1, part-noughts 1024 n c.requires.1) (c.requires.0, c.requires.2)
+
+pub returns : goal.returns
+returns c =
+    let n = c.args.n in
+    rw (c.counted3.ensures, c.counted2.ensures, c.counted.ensures, part-counted 1024 n c.requires.1, part-noughts 1024 n c.requires.1) at c.scan.ensures

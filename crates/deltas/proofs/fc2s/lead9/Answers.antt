@@ -1,0 +1,7 @@
+use Rattle.deltas.specs.Rows.{lead}
+use borrow.Author.Rules.{rules}
+use Rattle.deltas.proofs.fc2s.lead9.Goals as goal
+
+pub returns : goal.returns
+unfolding lead
+returns c = cc

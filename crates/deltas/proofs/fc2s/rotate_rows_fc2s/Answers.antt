@@ -1,0 +1,32 @@
+use mathlib.Core.Path.{◌≡◌, refl, ap₂, ◌∙◌}
+use Prim.Native.Nat.{◌*◌, ◌-◌, ◌≤◌}
+use native.Mathlib.Omega.{arith}
+use lib.Dec.{lit<}
+use lib.ListN.{length}
+use Rattle.lists.specs.Tab.{times, times_none, times_more}
+use Rattle.deltas.specs.RotateDelta.{Deltas, deltas_of}
+use Rattle.deltas.specs.Rows.{add_pair, rows_all}
+use borrow.Author.Rules.{rules}
+use Rattle.deltas.proofs.fc2s.rotate_rows_fc2s.Goals as goal
+
+pub loop-i-init : goal.loop-i-init
+loop-i-init c = (omega arith, refl, times_none _ _)
+
+pub rotate_row_fc2s-requires : goal.rotate_row_fc2s-requires
+rotate_row_fc2s-requires c =
+    let l = c.loop-i in record { ready = c.requires.ready; in_range = (omega arith, l.invariant.1 ∙ c.clear_floats.auto.w.0 ∙ c.requires.in_range) }
+
+pub loop-i-preserved : goal.loop-i-preserved
+loop-i-preserved c =
+    let w = c.rotate_row_fc2s in
+    let l = c.loop-i in
+    (omega arith, w.auto.fc3 ∙ l.invariant.1, times_more l.i _ _ l.invariant.2 w.ensures)
+
+pub returns : goal.returns
+returns c =
+    let l = c.loop-i in
+    let a = c.args in
+    let D : Deltas = deltas_of a.delta_fc2s.now a.inv_u.now a.site_sym_cart.now a.rot_map_syms.now a.num_atom a.num_site_sym a.num_disp in
+    let i : l.i ≡ a.num_atom = omega arith in
+    l.invariant.2 ∙ ap₂ (λ k x. times k (λ i. times (a.num_disp * a.num_site_sym) (add_pair D 1 i)) x) i c.clear_floats.ensures
+    ∙ rows_all D 1 (length a.fc3.now) (lit< tt) c.requires.in_range

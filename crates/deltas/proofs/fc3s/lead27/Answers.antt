@@ -1,0 +1,7 @@
+use Rattle.deltas.specs.Rows.{lead}
+use borrow.Author.Rules.{rules}
+use Rattle.deltas.proofs.fc3s.lead27.Goals as goal
+
+pub returns : goal.returns
+unfolding lead
+returns c = cc

@@ -1,0 +1,18 @@
+use mathlib.Core.Path.{◌≡◌, refl, ◌∙◌}
+use Prim.Native.Nat.{◌*◌, ◌-◌, ◌≤◌}
+use native.Mathlib.Omega.{arith}
+use lib.ListN.{length}
+use Rattle.lists.specs.Tab.{times, times_none, times_more}
+use Rattle.deltas.specs.RotateDelta.{deltas_of}
+use Rattle.deltas.specs.Rows.{add_pair}
+use Rattle.deltas.specs.Guard.{few}
+use borrow.Author.Rules.{rules}
+use Rattle.deltas.proofs.fc3s.rotate_row_fc3s.Given as goal
+
+abbrev pub invariant-loop-n : goal.invariant-loop-n
+invariant-loop-n l =
+    (l.n ≤ l.num_disp * l.num_site_sym) × (length l.fc4 ≡ length l.initial.fc4)
+    × (l.fc4 ≡ times l.n (add_pair (deltas_of l.delta_fc3s l.inv_u l.site_sym_cart l.rot_map_syms l.num_atom l.num_site_sym l.num_disp) 2 l.i) l.initial.fc4)
+
+abbrev pub decreases-loop-n : goal.decreases-loop-n
+decreases-loop-n l = l.num_disp * l.num_site_sym - l.n

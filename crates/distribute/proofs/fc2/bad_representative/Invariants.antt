@@ -1,0 +1,16 @@
+use mathlib.Core.Path.{◌≡◌, sym, ap, ◌∙◌}
+use mathlib.Core.Bool.{false, not}
+use Prim.Native.Nat.{◌-◌, ◌≤◌}
+use native.Mathlib.Omega.{arith}
+use lib.ListN.{length}
+use Rattle.lists.specs.Tests.{some, some_of}
+use Rattle.distribute.specs.Fc2.{represented, bad_representative}
+use Rattle.distribute.specs.Fc2Laws.{none_yet, none_more}
+use borrow.Author.Rules.{rules}
+use Rattle.distribute.proofs.fc2.bad_representative.Given as goal
+
+abbrev pub invariant-loop-i : goal.invariant-loop-i
+invariant-loop-i l = (l.i ≤ length l.atom_list) × (some l.i (λ k. not (represented l.atom_list l.map_atoms k)) ≡ false)
+
+abbrev pub decreases-loop-i : goal.decreases-loop-i
+decreases-loop-i l = length l.atom_list - l.i

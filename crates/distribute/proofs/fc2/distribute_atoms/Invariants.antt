@@ -1,0 +1,30 @@
+use mathlib.Core.Path.{◌≡◌, refl, ◌∙◌}
+use Prim.Native.Nat.{◌-◌, ◌≤◌}
+use native.Mathlib.Omega.{arith}
+use lib.ListN.{length}
+use Rattle.lists.specs.Tab.{times, times_none, times_more}
+use Rattle.distribute.specs.Fc2.{distribute_atom, distributed_fc2}
+use Rattle.distribute.specs.Fc2Laws.{ready-length}
+use borrow.Author.Rules.{rules}
+use Rattle.distribute.proofs.fc2.distribute_atoms.Given as goal
+
+abbrev pub invariant-loop-i : goal.invariant-loop-i
+invariant-loop-i l =
+    (l.i ≤ length l.atom_list) × (length l.fc2 ≡ length l.initial.fc2)
+    × (l.fc2
+    ≡ times l.i
+    (distribute_atom
+    (record {
+      atom_list = l.atom_list;
+      fc_indices = l.fc_indices_of_atom_list;
+      r_carts = l.r_carts;
+      l.permutations = l.permutations;
+      map_atoms = l.map_atoms;
+      map_syms = l.map_syms;
+      l.num_pos = l.num_pos;
+    }))
+    l.initial.fc2)
+
+abbrev pub decreases-loop-i : goal.decreases-loop-i
+decreases-loop-i l =
+    length l.atom_list - l.i

@@ -1,0 +1,34 @@
+use mathlib.Core.Path.{sym, ap, ◌∙◌}
+use lib.IntN.{pos}
+use lib.ListN.{replicate}
+use Rattle.tables.specs.Answers.{is_done}
+use Rattle.distribute.specs.Fc2Laws.{ready, placing, refused, done_call}
+use borrow.Author.Rules.{rules}
+use Rattle.distribute.proofs.fc2.distribute_fc2.Goals as goal
+
+pub returns-then-is_refusal : goal.returns-then-is_refusal
+returns-then-is_refusal c =
+    refused _ _ _ _ _ _ c.judge_distribute_fc2-a.ensures (sym c.is_refusal.ensures ∙ c.if-is_refusal.true)
+
+pub place_atoms-requires : goal.place_atoms-requires
+place_atoms-requires c =
+    let j = c.judge_distribute_fc2-a in
+    let d = is_done j.result (sym c.is_refusal.ensures ∙ c.if-is_refusal.false) in
+    let (R, l) = ready _ _ _ _ _ (sym j.ensures ∙ d) in
+    placing l R
+
+pub distribute_atoms-requires : goal.distribute_atoms-requires
+distribute_atoms-requires c =
+    let j = c.judge_distribute_fc2 in
+    let d = is_done j.result (sym c.is_refusal.ensures ∙ c.if1.false) in
+    let (R, l) = ready _ _ _ _ _ (sym j.ensures ∙ d) in
+    let p = c.place_atoms in record { in_range = p.auto.0 ∙ l; placed = p.ensures; ready = R }
+
+pub returns : goal.returns
+returns c =
+    let j = c.judge_distribute_fc2 in
+    let d = is_done j.result (sym c.is_refusal.ensures ∙ c.if1.false) in
+    let (R, l) = ready _ _ _ _ _ (sym j.ensures ∙ d) in
+    let p = c.place_atoms in
+    done_call _ _ _ _ _ j.result j.ensures (sym c.is_refusal.ensures ∙ c.if1.false) c.distribute_atoms.ensures
+    (c.clear_ints.ensures ∙ ap (λ n. replicate n (pos 0)) (p.auto.0 ∙ l))

@@ -1,0 +1,45 @@
+use mathlib.Core.Bool.{true, false}
+use Rattle.tables.specs.Conditions.{out_of_range}
+use mathlib.Core.Path.{◌≡◌, sym, ◌∙◌}
+use Rattle.lists.specs.Tests.{not-not}
+use borrow.Author.Rules.{rules}
+use Rattle.distribute.proofs.fc2.entries_out.Goals as goal
+
+pub returns-then-not-all_below : goal.returns-then-not-all_below
+returns-then-not-all_below c =
+    let a = c.args in
+    let o1 : out_of_range a.num_pos a.atom-list.now ≡ true = sym (not-not _ c.all_below.ensures) ∙ c.if-not-all_below.true in
+    rw (o1)
+
+pub returns-then-not-all_below-2 : goal.returns-then-not-all_below-2
+returns-then-not-all_below-2 c =
+    let a = c.args in
+    let o1 : out_of_range a.num_pos a.atom-list.now ≡ false = sym (not-not _ c.all_below.ensures) ∙ c.if-not-all_below.false in
+    let o2 : out_of_range a.num-first a.fc-indices-of-atom-list.now ≡ true = sym (not-not _ c.all_below-2.ensures) ∙ c.if-not-all_below-2.true in
+    rw (o1, o2)
+
+pub returns-then-not-all_below-3 : goal.returns-then-not-all_below-3
+returns-then-not-all_below-3 c =
+    let a = c.args in
+    let o1 : out_of_range a.num_pos a.atom-list.now ≡ false = sym (not-not _ c.all_below.ensures) ∙ c.if-not-all_below.false in
+    let o2 : out_of_range a.num-first a.fc-indices-of-atom-list.now ≡ false = sym (not-not _ c.all_below-2.ensures) ∙ c.if-not-all_below-2.false in
+    let o3 : out_of_range a.num_pos a.permutations.now ≡ true = sym (not-not _ c.all_below-3.ensures) ∙ c.if-not-all_below-3.true in
+    rw (o1, o2, o3)
+
+pub returns-then-not-all_below-4 : goal.returns-then-not-all_below-4
+returns-then-not-all_below-4 c =
+    let a = c.args in
+    let o1 : out_of_range a.num_pos a.atom-list.now ≡ false = sym (not-not _ c.all_below.ensures) ∙ c.if-not-all_below.false in
+    let o2 : out_of_range a.num-first a.fc-indices-of-atom-list.now ≡ false = sym (not-not _ c.all_below-2.ensures) ∙ c.if-not-all_below-2.false in
+    let o3 : out_of_range a.num_pos a.permutations.now ≡ false = sym (not-not _ c.all_below-3.ensures) ∙ c.if-not-all_below-3.false in
+    let o4 : out_of_range a.num_pos a.map-atoms.now ≡ true = sym (not-not _ c.all_below-4.ensures) ∙ c.if-not-all_below-4.true in
+    rw (o1, o2, o3, o4)
+
+pub returns : goal.returns
+returns c =
+    let a = c.args in
+    let o1 : out_of_range a.num_pos a.atom-list.now ≡ false = sym (not-not _ c.all_below.ensures) ∙ c.if-not-all_below.false in
+    let o2 : out_of_range a.num-first a.fc-indices-of-atom-list.now ≡ false = sym (not-not _ c.all_below-2.ensures) ∙ c.if-not-all_below-2.false in
+    let o3 : out_of_range a.num_pos a.permutations.now ≡ false = sym (not-not _ c.all_below-3.ensures) ∙ c.if-not-all_below-3.false in
+    let o4 : out_of_range a.num_pos a.map-atoms.now ≡ false = sym (not-not _ c.all_below-4.ensures) ∙ c.if-not-all_below-4.false in
+    rw (o1, o2, o3, o4) (not-not _ c.all_below-5.ensures)

@@ -1,0 +1,57 @@
+use mathlib.Core.Path.{◌≡◌, sym, ap, ◌∙◌}
+use mathlib.Core.Bool.{false}
+use native.Mathlib.Omega.{arith}
+use lib.Dec.{lit≤}
+use borrow.Author.Rules.{rules}
+use Rattle.tables.specs.Answers.{is_refusal, is_done}
+use Rattle.tables.specs.Conditions.{read}
+use Rattle.tables.specs.Lengths.{set-blocks}
+use Rattle.rotations.specs.Rotation.{coefficients}
+use Rattle.distribute.specs.SlabLaws.{whole-block, loops_distribute, ready, refused, done_call}
+use Rattle.blocks.specs.Inside.{inside_slab}
+use Rattle.distribute.proofs.fc3.distribute_fc3.Goals as goal
+
+pub judge_slabs-a-requires : goal.judge_slabs-a-requires
+judge_slabs-a-requires c = (lit≤ tt, lit≤ tt)
+
+pub returns-then-is_refusal : goal.returns-then-is_refusal
+returns-then-is_refusal c =
+    let a = c.args in
+    let e = c.judge_slabs-a.ensures in
+    refused 256 2 a.fc3.now a.target a.source a.atom_mapping.now a.num_atom a.rot_cart.now a.num_first c.judge_slabs-a.result e
+    (sym c.is_refusal.ensures ∙ c.if-is_refusal.true)
+
+pub read9-requires : goal.read9-requires
+read9-requires c =
+    let a = c.args in
+    let e = c.judge_slabs-a.ensures in
+    let r : is_refusal c.judge_slabs-a.result ≡ false = sym c.is_refusal.ensures ∙ c.if-is_refusal.false in
+    let R = ready 256 2 _ _ _ _ _ _ _ (sym e ∙ is_done c.judge_slabs-a.result r) in
+    omega (arith, R.rotation_length)
+
+pub fill_slab-requires : goal.fill_slab-requires
+fill_slab-requires c =
+    let a = c.args in
+    let e = c.judge_slabs-a.ensures in
+    let r : is_refusal c.judge_slabs-a.result ≡ false = sym c.is_refusal.ensures ∙ c.if-is_refusal.false in
+    let R = ready 256 2 _ _ _ _ _ _ _ (sym e ∙ is_done c.judge_slabs-a.result r) in
+    let l = R.set-length ∙ set-blocks a.num_first a.num_atom 2 in (
+      R.mapping_fit,
+      (
+        inside_slab a.num_atom 27 2 a.target a.num_first _ R.target_below l,
+        inside_slab a.num_atom 27 2 a.source a.num_first _ R.source-below l,
+      ),
+    )
+
+pub returns : goal.returns
+returns c =
+    let a = c.args in
+    let e = c.judge_slabs-a.ensures in
+    let r : is_refusal c.judge_slabs-a.result ≡ false = sym c.is_refusal.ensures ∙ c.if-is_refusal.false in
+    let R = ready 256 2 _ _ _ _ _ _ _ (sym e ∙ is_done c.judge_slabs-a.result r) in
+    let l = R.set-length ∙ set-blocks a.num_first a.num_atom 2 in
+    let ec = c.coefficients3-c.ensures ∙ ap (λ m. coefficients m 3 27) (c.read9.ensures ∙ whole-block a.rot_cart.now R.rotation_length) in
+    done_call 256 2 a.fc3.now a.target a.source a.atom_mapping.now a.num_atom a.rot_cart.now a.num_first c.judge_slabs-a.result e r
+    (c.fill_slab.ensures a.rot_cart.now ec
+    ∙ loops_distribute a.atom_mapping.now a.rot_cart.now a.num_atom 2 a.target a.source a.num_first a.fc3.now (omega arith)
+    (λ i h. (read R.mapping_fit i h).1) l R.target_below R.source-below R.apart)

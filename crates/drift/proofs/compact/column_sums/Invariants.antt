@@ -1,0 +1,17 @@
+use Prim.Native.Nat.{◌-◌, ◌≤◌}
+use native.Mathlib.Omega.{arith}
+use mathlib.Core.Path.{◌≡◌, ap, ◌∙◌}
+use mathlib.Core.List.{[], ◌∷◌}
+use Rattle.lists.specs.Tab.{times, times_none, times_more}
+use Rattle.blocks.specs.Block.{block}
+use Rattle.lines.specs.Sums3x3.{more}
+use Rattle.places.specs.ReadOuts.{stored_in}
+use Rattle.drift.specs.CompactLaws.{column_sums}
+use borrow.Author.Rules.{rules}
+use Rattle.drift.proofs.compact.column_sums.Given as goal
+
+abbrev pub invariant-loop-i : goal.invariant-loop-i
+invariant-loop-i l = (l.i ≤ l.n) × (l.sums ≡ times l.i (λ k t. more t (block 9 (stored_in l.n l.s2pp l.nsym_list l.perms k (l.j ∷ [])) l.fc)) l.initial.sums)
+
+abbrev pub decreases-loop-i : goal.decreases-loop-i
+decreases-loop-i l = l.n - l.i

@@ -1,0 +1,42 @@
+use Prim.Native.Nat.{◌+◌, ◌-◌, ◌≤◌}
+use native.Mathlib.Omega.{arith}
+use mathlib.Core.Path.{◌≡◌, sym, ap, ◌∙◌}
+use mathlib.Core.Logic.{⊎_elim}
+use Rattle.lists.specs.Tab.{times, times_none, times_more}
+use Rattle.places.specs.ReadOuts.{stored_in}
+use Rattle.drift.specs.Loops.{look_line}
+use Rattle.drift.specs.Laws.{line_calm}
+use Rattle.drift.specs.CompactLaws.{column_sums, look_compact_columns}
+use borrow.Author.Tests.{not-false}
+use borrow.Author.Rules.{rules}
+use Rattle.drift.proofs.compact.look_columns.Goals as goal
+
+pub loop-j-init : goal.loop-j-init
+loop-j-init c = (omega arith, times_none _ _)
+
+pub column_sums-s-requires : goal.column_sums-s-requires
+column_sums-s-requires c = (c.requires, c.loop-j-test.true)
+
+pub overflow_add-n : goal.overflow_add-n
+overflow_add-n c = let g = c.requires.tables.satoms in omega arith
+
+pub look_line-more-requires : goal.look_line-more-requires
+look_line-more-requires c = let g = c.requires.tables.satoms in omega arith
+
+pub loop-j-preserved : goal.loop-j-preserved
+loop-j-preserved c =
+    let l = c.loop-j in
+    let a = c.args in
+    let f : c.if-not-calm.seen ≡ look_line (a.n + l.j) c.column_sums-s.result l.seen =
+    ⊎_elim
+    (λ w. w.2 ∙ w.1.ensures)
+    (λ w. w.1 ∙ line_calm (a.n + l.j) c.column_sums-s.result l.seen (sym c.calm.ensures ∙ not-false c.calm.result w.0.left))
+    c.if-not-calm.branch in
+    (omega arith, times_more l.j _ _ l.invariant.1 (f ∙ ap (λ s. look_line (a.n + l.j) s l.seen) c.column_sums-s.ensures))
+
+pub returns : goal.returns
+unfolding look_compact_columns
+returns c =
+    let l = c.loop-j in
+    let i : l.j ≡ c.args.n = omega arith in
+    l.invariant.1 ∙ rw i

@@ -1,0 +1,39 @@
+use Prim.Native.Nat.{◌-◌, ◌≤◌}
+use native.Mathlib.Omega.{arith}
+use mathlib.Core.Path.{◌≡◌, sym, ap, ◌∙◌}
+use mathlib.Core.Logic.{⊎_elim}
+use Rattle.lists.specs.Tab.{times, times_none, times_more}
+use Rattle.places.specs.ReadOuts.{stored_in}
+use Rattle.drift.specs.Loops.{look_line}
+use Rattle.drift.specs.Laws.{line_calm}
+use Rattle.drift.specs.CompactLaws.{compact_row_sums, look_rows}
+use borrow.Author.Tests.{not-false}
+use borrow.Author.Rules.{rules}
+use Rattle.drift.proofs.compact.look_rows.Goals as goal
+
+pub loop-i-init : goal.loop-i-init
+loop-i-init c = (omega arith, times_none _ _)
+
+pub row_sums-s-requires : goal.row_sums-s-requires
+row_sums-s-requires c = (c.requires, c.loop-i-test.true)
+
+pub look_line-more-requires : goal.look_line-more-requires
+look_line-more-requires c = let g = c.requires.tables.satoms in omega arith
+
+pub loop-i-preserved : goal.loop-i-preserved
+loop-i-preserved c =
+    let l = c.loop-i in
+    let a = c.args in
+    let f : c.if-not-calm.seen ≡ look_line l.i c.row_sums-s.result l.seen =
+    ⊎_elim
+    (λ w. w.2 ∙ w.1.ensures)
+    (λ w. w.1 ∙ line_calm l.i c.row_sums-s.result l.seen (sym c.calm.ensures ∙ not-false c.calm.result w.0.left))
+    c.if-not-calm.branch in
+    (omega arith, times_more l.i _ _ l.invariant.1 (f ∙ ap (λ s. look_line l.i s l.seen) c.row_sums-s.ensures))
+
+pub returns : goal.returns
+unfolding look_rows
+returns c =
+    let l = c.loop-i in
+    let i : l.i ≡ c.args.n = omega arith in
+    l.invariant.1 ∙ rw i

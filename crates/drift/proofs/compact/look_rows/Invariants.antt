@@ -1,0 +1,18 @@
+use Prim.Native.Nat.{◌-◌, ◌≤◌}
+use native.Mathlib.Omega.{arith}
+use mathlib.Core.Path.{◌≡◌, sym, ap, ◌∙◌}
+use mathlib.Core.Logic.{⊎_elim}
+use Rattle.lists.specs.Tab.{times, times_none, times_more}
+use Rattle.places.specs.ReadOuts.{stored_in}
+use Rattle.drift.specs.Loops.{look_line}
+use Rattle.drift.specs.Laws.{line_calm}
+use Rattle.drift.specs.CompactLaws.{compact_row_sums, look_rows}
+use borrow.Author.Tests.{not-false}
+use borrow.Author.Rules.{rules}
+use Rattle.drift.proofs.compact.look_rows.Given as goal
+
+abbrev pub invariant-loop-i : goal.invariant-loop-i
+invariant-loop-i l = (l.i ≤ l.n) × (l.seen ≡ times l.i (λ k. look_line k (compact_row_sums l.fc (stored_in l.n l.s2pp l.nsym_list l.perms) l.n k)) l.initial.seen)
+
+abbrev pub decreases-loop-i : goal.decreases-loop-i
+decreases-loop-i l = l.n - l.i

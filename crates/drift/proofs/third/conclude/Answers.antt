@@ -1,0 +1,20 @@
+use mathlib.Core.Path.{◌∙◌}
+use borrow.Author.Rules.{rules}
+use Rattle.reports.specs.Seen.{conclude_none, conclude_still, conclude_worst}
+use Rattle.drift.specs.ThirdReport.{report_at3, still_report3}
+use Rattle.drift.proofs.third.conclude.Goals as goal
+
+pub report_at-requires : goal.report_at-requires
+report_at-requires c = c.requires
+
+pub report_at-requires-2 : goal.report_at-requires-2
+report_at-requires-2 c = c.requires
+
+pub returns-then-c : goal.returns-then-c
+returns-then-c c = let a = c.args in c.report_at.ensures ∙ conclude_none still_report3 (report_at3 a.n) a.c c.if-c.true
+
+pub returns-then-c-2 : goal.returns-then-c-2
+returns-then-c-2 c = let a = c.args in c.still.ensures ∙ conclude_still still_report3 (report_at3 a.n) a.c c.if-c.false c.if-c-2.true
+
+pub returns : goal.returns
+returns c = let a = c.args in c.report_at-2.ensures ∙ conclude_worst still_report3 (report_at3 a.n) a.c c.if-c.false c.if-c-2.false

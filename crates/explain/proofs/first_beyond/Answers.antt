@@ -1,0 +1,38 @@
+use mathlib.Core.Path.{◌≡◌, sym, ap, ◌∙◌}
+use Prim.Native.Nat.{ℕ, ◌≤◌, ◌<◌, ◌-◌}
+use native.Mathlib.Omega.{arith}
+use borrow.Author.Count.{below_none, below_more}
+use mathlib.Core.Bool.{false, not}
+use lib.IntN.{pos}
+use lib.ListN.{length, get_or}
+use Rattle.lists.specs.Lowest.{lowest_by}
+use Rattle.tables.specs.Conditions.{below}
+use Rattle.tables.proofs.Integers.{handed}
+use Rattle.explain.specs.Explain.{first_beyond}
+use borrow.Author.Rules.{rules}
+use Rattle.explain.proofs.first_beyond.Goals as goal
+
+pub loop-k-init : goal.loop-k-init
+loop-k-init c = (omega arith, below_none _)
+
+pub loop-k-preserved : goal.loop-k-preserved
+loop-k-preserved c =
+    let l = c.loop-k in
+    let a = c.args in
+    let e = handed (λ z. c.is_index.result ≡ below a.n z) a.t.now l.k c.is_index-arg-1.given c.is_index.ensures in
+    (omega arith, below_more _ l.k l.invariant.1 (ap not (sym e ∙ c.if-is_index.true)))
+
+pub returns-else-is_index : goal.returns-else-is_index
+unfolding first_beyond
+returns-else-is_index c =
+    let l = c.loop-k in
+    let a = c.args in
+    let e = handed (λ z. c.is_index.result ≡ below a.n z) a.t.now l.k c.is_index-arg-1.given c.is_index.ensures in
+    lowest_by (length a.t.now) _ l.k l.invariant.0 l.invariant.1 (λ _. ap not (sym e ∙ c.if-is_index.false))
+
+pub returns : goal.returns
+unfolding first_beyond
+returns c =
+    let a = c.args in
+    let l = c.loop-k in
+    lowest_by (length a.t.now) _ l.k l.invariant.0 l.invariant.1 (λ h. absurd (omega arith))

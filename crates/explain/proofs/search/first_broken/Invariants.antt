@@ -1,0 +1,20 @@
+use mathlib.Core.Path.{◌≡◌, sym, ◌∙◌}
+use mathlib.Core.Bool.{false}
+use Prim.Native.Nat.{ℕ, ◌≤◌, ◌<◌, ◌-◌}
+use native.Mathlib.Omega.{arith}
+use borrow.Author.Count.{below_none, below_more}
+use Rattle.lists.specs.Lowest.{lowest_by}
+use Rattle.tables.specs.Shifts.{Shifts}
+use Rattle.tables.specs.Compact.{ShiftTables, shift_tables, shifts_of}
+use Rattle.explain.specs.Explain.{rule_at, broken_from, broken, first_of, first_broken}
+use Rattle.explain.specs.Laws.{found_some, found_none}
+use borrow.Author.Rules.{rules}
+use Rattle.explain.proofs.search.first_broken.Given as goal
+
+abbrev pub invariant-loop-rule : goal.invariant-loop-rule
+invariant-loop-rule l =
+    let S : Shifts = shifts_of (shift_tables l.p2s l.s2pp l.nsym_list l.perms l.n_satom l.n_patom l.num_trans) in
+    (l.rule ≤ 8) × ((q : ℕ) → q < l.rule → broken (rule_at S q) ≡ false)
+
+abbrev pub decreases-loop-rule : goal.decreases-loop-rule
+decreases-loop-rule l = 8 - l.rule

@@ -1,0 +1,53 @@
+use mathlib.Core.Path.{◌≡◌, sym, ◌∙◌}
+use mathlib.Core.Bool.{Bool, false}
+use Prim.Native.Nat.{ℕ, ◌≤◌, ◌<◌, ◌-◌}
+use native.Mathlib.Omega.{arith}
+use borrow.Author.Count.{below_none, below_more}
+use Rattle.lists.specs.Lowest.{lowest_by}
+use Rattle.tables.specs.Compact.{ShiftTables, shift_tables, shifts_of}
+use Rattle.explain.specs.Explain.{Rule, rule_at, broken_at, second_of, third_of}
+use Rattle.explain.specs.Laws.{found_some, found_none}
+use borrow.Author.Rules.{rules}
+use Rattle.explain.proofs.search.second_of.Goals as goal
+
+pub seconds-n-requires : goal.seconds-n-requires
+seconds-n-requires c = c.requires.1
+
+pub thirds-m-requires : goal.thirds-m-requires
+thirds-m-requires c = c.requires.1
+
+pub loop-j-init : goal.loop-j-init
+loop-j-init c = (omega arith, c.seconds-n.ensures, c.thirds-m.ensures, below_none _)
+
+pub third_of-requires : goal.third_of-requires
+third_of-requires c =
+    let l = c.loop-j in
+    let p = c.requires in
+    (p.0, p.1, p.2, omega (arith, c.loop-j-test.true, l.invariant.1))
+
+pub returns-then-third_of-m : goal.returns-then-third_of-m
+unfolding second_of third_of
+returns-then-third_of-m c =
+    let a = c.args in
+    let T : ShiftTables = shift_tables a.p2s.now a.s2pp.now a.nsym_list.now a.perms.now a.n_satom a.n_patom a.num_trans in
+    let R = rule_at (shifts_of T) a.rule in
+    let l = c.loop-j in
+    lowest_by R.seconds (broken_at R a.i) l.j (omega (arith, l.invariant.0, l.invariant.1)) l.invariant.3 (λ _. found_some R.thirds (R.breaks a.i l.j) c.third_of.ensures l.invariant.2 c.if-third_of-m.true)
+
+pub loop-j-preserved : goal.loop-j-preserved
+unfolding third_of
+loop-j-preserved c =
+    let a = c.args in
+    let T : ShiftTables = shift_tables a.p2s.now a.s2pp.now a.nsym_list.now a.perms.now a.n_satom a.n_patom a.num_trans in
+    let R = rule_at (shifts_of T) a.rule in
+    let l = c.loop-j in
+    (omega arith, l.invariant.1, l.invariant.2, below_more _ l.j l.invariant.3 (found_none R.thirds (R.breaks a.i l.j) c.third_of.ensures l.invariant.2 c.if-third_of-m.false))
+
+pub returns : goal.returns
+unfolding second_of
+returns c =
+    let a = c.args in
+    let T : ShiftTables = shift_tables a.p2s.now a.s2pp.now a.nsym_list.now a.perms.now a.n_satom a.n_patom a.num_trans in
+    let R = rule_at (shifts_of T) a.rule in
+    let l = c.loop-j in
+    lowest_by R.seconds (broken_at R a.i) l.j (omega (arith, l.invariant.0, l.invariant.1)) l.invariant.3 (λ h. absurd (omega (arith, h, c.loop-j-test.false, l.invariant.1)))

@@ -1,0 +1,45 @@
+use mathlib.Core.Path.{◌≡◌, sym, ◌∙◌}
+use mathlib.Core.Bool.{Bool, false}
+use Prim.Native.Nat.{ℕ, ◌≤◌, ◌<◌, ◌-◌}
+use native.Mathlib.Omega.{arith}
+use borrow.Author.Count.{below_none, below_more}
+use Rattle.lists.specs.Lowest.{lowest_by}
+use Rattle.tables.specs.Compact.{ShiftTables, shift_tables, shifts_of}
+use Rattle.explain.specs.Explain.{Rule, rule_at, third_of}
+use borrow.Author.Rules.{rules}
+use Rattle.explain.proofs.search.third_of.Goals as goal
+
+pub thirds-n-requires : goal.thirds-n-requires
+thirds-n-requires c = c.requires.1
+
+pub loop-k-init : goal.loop-k-init
+loop-k-init c = (omega arith, c.thirds-n.ensures, below_none _)
+
+pub breaks-requires : goal.breaks-requires
+breaks-requires c =
+    let l = c.loop-k in
+    let p = c.requires in
+    (p.0, p.1, p.2, p.3, omega (arith, c.loop-k-test.true, l.invariant.1))
+
+pub returns-then-breaks : goal.returns-then-breaks
+unfolding third_of
+returns-then-breaks c =
+    let a = c.args in
+    let T : ShiftTables = shift_tables a.p2s.now a.s2pp.now a.nsym_list.now a.perms.now a.n_satom a.n_patom a.num_trans in
+    let R = rule_at (shifts_of T) a.rule in
+    let l = c.loop-k in
+    lowest_by R.thirds (R.breaks a.i a.j) l.k (omega (arith, l.invariant.0, l.invariant.1)) l.invariant.2 (λ _. sym c.breaks.ensures ∙ c.if-breaks.true)
+
+pub loop-k-preserved : goal.loop-k-preserved
+loop-k-preserved c =
+    let l = c.loop-k in
+    (omega arith, l.invariant.1, below_more _ l.k l.invariant.2 (sym c.breaks.ensures ∙ c.if-breaks.false))
+
+pub returns : goal.returns
+unfolding third_of
+returns c =
+    let a = c.args in
+    let T : ShiftTables = shift_tables a.p2s.now a.s2pp.now a.nsym_list.now a.perms.now a.n_satom a.n_patom a.num_trans in
+    let R = rule_at (shifts_of T) a.rule in
+    let l = c.loop-k in
+    lowest_by R.thirds (R.breaks a.i a.j) l.k (omega (arith, l.invariant.0, l.invariant.1)) l.invariant.2 (λ h. absurd (omega (arith, h, c.loop-k-test.false, l.invariant.1)))

@@ -1,0 +1,6 @@
+use Rattle.fc2.specs.FullLaws.{evened-once}
+use borrow.Author.Rules.{rules}
+use Rattle.fc2.proofs.full.evened.Goals as goal
+
+pub returns : goal.returns
+returns c = evened-once c.args.b

@@ -1,0 +1,30 @@
+use mathlib.Core.Path.{◌≡◌, refl, ◌∙◌}
+use Prim.Native.Nat.{◌≤◌, ◌-◌}
+use native.Mathlib.Omega.{arith}
+use lib.ListN.{length}
+use Rattle.lists.specs.Tab.{times, times_none, times_more}
+use Rattle.tables.specs.Compact.{shift_tables, shifts_of}
+use Rattle.tables.specs.Shifts.{p2s_at}
+use Rattle.lines.specs.Lines.{balance_at}
+use Rattle.fc2_compact.specs.Code.{ready-same, site_all}
+use borrow.Author.Rules.{rules}
+use Rattle.fc2_compact.proofs.rows.site_pass.Goals as goal
+
+pub loop-p-init : goal.loop-p-init
+loop-p-init c = (omega arith, refl, times_none _ _)
+
+pub site_row-requires : goal.site_row-requires
+site_row-requires c =
+    let l = c.loop-p in
+    (ready-same l.invariant.1 c.requires, c.loop-p-test.true)
+
+pub loop-p-preserved : goal.loop-p-preserved
+loop-p-preserved c =
+    let l = c.loop-p in
+    (omega arith, c.site_row.auto.fc ∙ l.invariant.1, times_more l.p _ _ l.invariant.2 c.site_row.ensures)
+
+pub returns : goal.returns
+returns c =
+    let l = c.loop-p in
+    let e : l.p ≡ c.args.n_patom = omega arith in
+    l.invariant.2 ∙ rw e (site_all c.args.fc.now c.requires)

@@ -1,0 +1,18 @@
+use Prim.Native.Nat.{◌≤◌, ◌-◌}
+use native.Mathlib.Omega.{arith}
+use mathlib.Core.Path.{◌≡◌, refl, ◌∙◌}
+use lib.ListN.{length}
+use borrow.Author.Rules.{rules}
+use Rattle.lists.specs.Tab.{times, times_none, times_more}
+use Rattle.tables.specs.Compact.{shift_tables}
+use Rattle.orbits.specs.GroupLoop.{State}
+use Rattle.fc3.specs.Loops.{at3, visit_at, row3}
+use Rattle.fc3.proofs.compact.row.Given as goal
+
+abbrev pub invariant-loop-k : goal.invariant-loop-k
+invariant-loop-k l =
+    let T = shift_tables l.p2s l.s2pp l.nsym_list l.perms l.n_satom l.n_patom l.num_trans in
+    (l.k ≤ l.n_satom) × (length l.fc3 ≡ length l.initial.fc3) × (length l.done ≡ length l.initial.done) × (◌≡◌ {A = State} (l.fc3, l.done) (times l.k (λ k. visit_at T (at3 T l.p.0 l.j.0 k)) (l.initial.fc3, l.initial.done)))
+
+abbrev pub decreases-loop-k : goal.decreases-loop-k
+decreases-loop-k l = l.n_satom - l.k

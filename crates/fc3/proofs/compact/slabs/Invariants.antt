@@ -1,0 +1,18 @@
+use Prim.Native.Nat.{◌≤◌, ◌-◌}
+use native.Mathlib.Omega.{arith}
+use mathlib.Core.Path.{◌≡◌, refl, ◌∙◌}
+use lib.ListN.{length}
+use borrow.Author.Rules.{rules}
+use Rattle.lists.specs.Tab.{times, times_none, times_more}
+use Rattle.tables.specs.Compact.{shift_tables}
+use Rattle.orbits.specs.GroupLoop.{State}
+use Rattle.fc3.specs.Loops.{slab3, all3}
+use Rattle.fc3.proofs.compact.slabs.Given as goal
+
+abbrev pub invariant-loop-p : goal.invariant-loop-p
+invariant-loop-p l =
+    let T = shift_tables l.p2s l.s2pp l.nsym_list l.perms l.n_satom l.n_patom l.num_trans in
+    (l.p ≤ l.n_patom) × (length l.fc3 ≡ length l.initial.fc3) × (length l.done ≡ length l.initial.done) × (◌≡◌ {A = State} (l.fc3, l.done) (times l.p (λ p. slab3 T p) (l.initial.fc3, l.initial.done)))
+
+abbrev pub decreases-loop-p : goal.decreases-loop-p
+decreases-loop-p l = l.n_patom - l.p

@@ -1,0 +1,24 @@
+use Prim.Native.Nat.{ℕ, ◌≤◌, ◌<◌, ◌-◌}
+use native.Mathlib.Omega.{arith}
+use mathlib.Core.Path.{◌≡◌, refl}
+use lib.ListN.{length, get_or}
+use lib.Ieee.{nan, binary64, div, of_bits}
+use borrow.Author.Count.{below_none}
+use Rattle.lists.specs.Tab.{fill_more, is_tab}
+use Rattle.fc3.specs.Mean.{sixths}
+use borrow.Author.Rules.{rules}
+use Rattle.fc3.proofs.means.sixths.Goals as goal
+
+pub loop-k-init : goal.loop-k-init
+loop-k-init c = (search rules, refl, below_none _)
+
+pub loop-k-preserved : goal.loop-k-preserved
+loop-k-preserved c =
+    let l = c.loop-k in
+    (search rules, search rules, fill_more nan _ l.r l.k _ (omega arith) refl l.invariant.2)
+
+pub returns : goal.returns
+unfolding sixths
+returns c =
+    let l = c.loop-k in
+    is_tab nan 27 _ l.r l.invariant.1 (λ j h. l.invariant.2 j (omega arith))

@@ -1,0 +1,29 @@
+use Prim.Native.Nat.{◌≤◌, ◌-◌}
+use native.Mathlib.Omega.{arith}
+use mathlib.Core.Path.{◌≡◌, ◌∙◌}
+use mathlib.Core.List.{[], ◌∷◌}
+use Rattle.lists.specs.Tab.{times, times_none, times_more}
+use Rattle.fc3.specs.Spread.{line_at, plane_at}
+use Rattle.fc3.specs.Coinciding.{Six, flat}
+use borrow.Author.Rules.{rules}
+use Rattle.fc3.proofs.spots.put_plane.Goals as goal
+
+pub loop-m-init : goal.loop-m-init
+loop-m-init c = (omega arith, c.requires.0, times_none _ _)
+
+pub put_line-requires : goal.put_line-requires
+put_line-requires c =
+    let l = c.loop-m in
+    (l.invariant.1, c.requires.1, c.requires.2, omega arith)
+
+pub loop-m-preserved : goal.loop-m-preserved
+loop-m-preserved c =
+    let l = c.loop-m in
+    (omega arith, c.put_line.ensures.0, times_more l.m _ _ l.invariant.2 c.put_line.ensures.1)
+
+pub returns : goal.returns
+unfolding plane_at
+returns c =
+    let l = c.loop-m in
+    let e : l.m ≡ 3 = omega arith in
+    (l.invariant.1, l.invariant.2 ∙ rw e)

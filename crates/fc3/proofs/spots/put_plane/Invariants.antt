@@ -1,0 +1,16 @@
+use Prim.Native.Nat.{◌≤◌, ◌-◌}
+use native.Mathlib.Omega.{arith}
+use mathlib.Core.Path.{◌≡◌, ◌∙◌}
+use mathlib.Core.List.{[], ◌∷◌}
+use Rattle.lists.specs.Tab.{times, times_none, times_more}
+use Rattle.fc3.specs.Spread.{line_at, plane_at}
+use Rattle.fc3.specs.Coinciding.{Six, flat}
+use borrow.Author.Rules.{rules}
+use Rattle.fc3.proofs.spots.put_plane.Given as goal
+
+abbrev pub invariant-loop-m : goal.invariant-loop-m
+invariant-loop-m at =
+    (at.m ≤ 3) × Six at.group × (flat at.group ≡ times at.m (λ m. line_at (at.s0 ∷ at.s1 ∷ at.s2 ∷ at.s3 ∷ at.s4 ∷ at.s5 ∷ []) at.v at.l m) (flat at.initial.group))
+
+abbrev pub decreases-loop-m : goal.decreases-loop-m
+decreases-loop-m at = 3 - at.m

@@ -1,0 +1,16 @@
+use Prim.Native.Nat.{◌≤◌, ◌-◌}
+use native.Mathlib.Omega.{arith}
+use mathlib.Core.Path.{◌≡◌, ◌∙◌}
+use mathlib.Core.List.{[], ◌∷◌}
+use Rattle.lists.specs.Tab.{times, times_none, times_more}
+use Rattle.fc3.specs.Spread.{plane_at, planes_are}
+use Rattle.fc3.specs.Coinciding.{Six, flat}
+use borrow.Author.Rules.{rules}
+use Rattle.fc3.proofs.spots.put_planes.Given as goal
+
+abbrev pub invariant-loop-l : goal.invariant-loop-l
+invariant-loop-l at =
+    (at.l ≤ 3) × Six at.group × (flat at.group ≡ times at.l (λ l. plane_at (at.s0 ∷ at.s1 ∷ at.s2 ∷ at.s3 ∷ at.s4 ∷ at.s5 ∷ []) at.v l) (flat at.initial.group))
+
+abbrev pub decreases-loop-l : goal.decreases-loop-l
+decreases-loop-l at = 3 - at.l

@@ -1,0 +1,23 @@
+use Rattle.tables.specs.Compact.{shift_tables, shifts_of}
+use Rattle.fc4.specs.Loops.{takes, sized, visit-free, visit-met}
+use borrow.Author.Rules.{rules}
+use Rattle.fc4.proofs.compact.visit.Goals as goal
+
+pub group_blocks-bs-requires : goal.group_blocks-bs-requires
+group_blocks-bs-requires c =
+    (c.requires.0.fit, rw c.requires.0.work-length at c.requires.1.1)
+
+pub take-requires : goal.take-requires
+take-requires c =
+    let T = shift_tables c.args.p2s.now c.args.s2pp.now c.args.nsym_list.now c.args.perms.now c.args.n_satom c.args.n_patom c.args.num_trans in
+    let R = c.requires.0 in
+    let (x, y) = takes (shifts_of T) _ _ c.args.b R.rules (sized T R) R.work-length c.requires.1.1 c.group_blocks-bs.ensures in
+    (x, y, c.requires.1.0)
+
+pub returns-then-done-b-eq0 : goal.returns-then-done-b-eq0
+returns-then-done-b-eq0 c =
+    visit-free _ c.args.b (c.args.fc4.now, c.args.done.now) c.if-done-b-eq0.true c.group_blocks-bs.ensures c.take.ensures
+
+pub returns-else-done-b-eq0 : goal.returns-else-done-b-eq0
+returns-else-done-b-eq0 c =
+    visit-met _ c.args.b (c.args.fc4.now, c.args.done.now) c.if-done-b-eq0.false

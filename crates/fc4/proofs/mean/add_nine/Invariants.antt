@@ -1,0 +1,20 @@
+use Prim.Native.Nat.{ℕ, ◌+◌, ◌*◌, ◌≤◌, ◌<◌, ◌-◌}
+use native.Mathlib.Omega.{arith}
+use mathlib.Core.Path.{◌≡◌, refl, ap, ◌∙◌}
+use mathlib.Core.List.{[]}
+use lib.ListN.{length, get_or, length-set}
+use lib.Ieee.{nan, binary64, add}
+use borrow.Author.Count.{below_none}
+use borrow.Author.Rules.{rules}
+use Rattle.lists.specs.Tab.{fill_more, is_tab}
+use Rattle.blocks.specs.Permuted.{permuted}
+use Rattle.positions.specs.Positions.{permutation_at, permuted_in}
+use Rattle.fc4.specs.Mean.{added_nine}
+use Rattle.fc4.proofs.mean.add_nine.Given as goal
+
+abbrev pub invariant-loop-k : goal.invariant-loop-k
+invariant-loop-k l =
+    (l.k ≤ 9) × (length l.r ≡ 9) × ((j : ℕ) → j < l.k → get_or l.r j nan ≡ add binary64 (get_or l.sums j nan) (get_or (get_or l.g l.s []) (permuted 3 (permutation_at l.s) (l.h * 9 + j)) nan))
+
+abbrev pub decreases-loop-k : goal.decreases-loop-k
+decreases-loop-k l = 9 - l.k

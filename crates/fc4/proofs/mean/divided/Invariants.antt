@@ -1,0 +1,17 @@
+use Prim.Native.Nat.{ℕ, ◌≤◌, ◌<◌, ◌-◌}
+use native.Mathlib.Omega.{arith}
+use mathlib.Core.Path.{◌≡◌, refl}
+use lib.ListN.{length, get_or}
+use lib.Ieee.{nan, binary64, div, of_bits}
+use borrow.Author.Count.{below_none}
+use borrow.Author.Rules.{rules}
+use Rattle.lists.specs.Tab.{fill_more, is_tab}
+use Rattle.fc4.specs.Mean.{divided}
+use Rattle.fc4.proofs.mean.divided.Given as goal
+
+abbrev pub invariant-loop-k : goal.invariant-loop-k
+invariant-loop-k l =
+    (l.k ≤ 9) × (length l.r ≡ 9) × ((j : ℕ) → j < l.k → get_or l.r j nan ≡ div binary64 (get_or l.sums j nan) (of_bits binary64 0x4038_0000_0000_0000))
+
+abbrev pub decreases-loop-k : goal.decreases-loop-k
+decreases-loop-k l = 9 - l.k

@@ -1,0 +1,17 @@
+use Prim.Native.Nat.{◌≤◌, ◌-◌}
+use native.Mathlib.Omega.{arith}
+use mathlib.Core.Path.{◌≡◌, refl, ap, ◌∙◌}
+use lib.ListN.{length, replicate}
+use lib.Ieee.{binary64, of_bits}
+use borrow.Author.Rules.{rules}
+use Rattle.lists.specs.Tab.{times, times_none, times_more}
+use Rattle.blocks.specs.Block.{put_block}
+use Rattle.fc4.specs.Mean.{group_of, nine_sums, divided, means_to, means_are, is_group_lem}
+use Rattle.fc4.proofs.mean.group_means.Given as goal
+
+abbrev pub invariant-loop-h : goal.invariant-loop-h
+invariant-loop-h l =
+    (l.h ≤ 9) × (length l.v ≡ 81) × (l.v ≡ times l.h (λ h. put_block 9 h (divided (nine_sums (group_of l.fc4 l.bs) h))) (replicate 81 (of_bits binary64 0)))
+
+abbrev pub decreases-loop-h : goal.decreases-loop-h
+decreases-loop-h l = 9 - l.h

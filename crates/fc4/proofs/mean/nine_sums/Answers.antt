@@ -1,0 +1,30 @@
+use Prim.Native.Nat.{◌≤◌, ◌-◌}
+use native.Mathlib.Omega.{arith}
+use mathlib.Core.Path.{◌≡◌, refl, ap, ◌∙◌}
+use mathlib.Core.List.{[]}
+use lib.ListN.{length, get_or, replicate}
+use lib.Ieee.{binary64, of_bits}
+use borrow.Author.Rules.{rules}
+use Rattle.lists.specs.Tab.{times, times_none, times_more}
+use Rattle.fc4.specs.Mean.{added_nine, nine_sums, length-added}
+use Rattle.fc4.proofs.mean.nine_sums.Goals as goal
+
+pub loop-s-init : goal.loop-s-init
+loop-s-init c = (omega arith, refl, times_none _ _)
+
+pub add_nine-more-requires : goal.add_nine-more-requires
+add_nine-more-requires c =
+    (c.requires.0, c.requires.1, omega arith, c.requires.2)
+
+pub loop-s-preserved : goal.loop-s-preserved
+loop-s-preserved c =
+    let l = c.loop-s in
+    let e = c.add_nine-more.ensures in
+    (omega arith, ap length e ∙ length-added _ _ _ _, times_more l.s _ _ l.invariant.2 e)
+
+pub returns : goal.returns
+unfolding nine_sums
+returns c =
+    let l = c.loop-s in
+    let e : l.s ≡ 24 = omega arith in
+    l.invariant.2 ∙ rw e

@@ -1,0 +1,18 @@
+use Prim.Native.Nat.{ℕ, ◌≤◌, ◌<◌, ◌-◌}
+use native.Mathlib.Omega.{arith}
+use mathlib.Core.Path.{◌≡◌, refl}
+use mathlib.Core.List.{[]}
+use lib.ListN.{length, get_or, length-set}
+use borrow.Author.Count.{below_none}
+use borrow.Author.Rules.{rules}
+use Rattle.lists.specs.Tab.{fill_more, is_tab}
+use Rattle.blocks.specs.Block.{block}
+use Rattle.fc4.specs.Mean.{group_of}
+use Rattle.fc4.proofs.mean.read_group.Given as goal
+
+abbrev pub invariant-loop-s : goal.invariant-loop-s
+invariant-loop-s l =
+    (l.s ≤ 24) × (length l.g ≡ 24) × ((j : ℕ) → j < l.s → get_or l.g j [] ≡ block 81 (get_or l.bs j 0) l.fc4)
+
+abbrev pub decreases-loop-s : goal.decreases-loop-s
+decreases-loop-s l = 24 - l.s

@@ -1,0 +1,18 @@
+use Prim.Native.Nat.{ℕ, ◌≤◌, ◌<◌, ◌-◌, max}
+use native.Mathlib.Omega.{arith}
+use mathlib.Core.Path.{◌≡◌, refl, ap, ◌∙◌}
+use lib.ListN.{length, get_or, length-set}
+use borrow.Author.Count.{below_none}
+use borrow.Author.Rules.{rules}
+use Rattle.lists.specs.Tab.{fill_more, is_tab}
+use Rattle.blocks.specs.Permuted.{permuted}
+use Rattle.positions.specs.Positions.{permutation_at}
+use Rattle.fc4.specs.Spread.{later_of}
+use Rattle.fc4.proofs.spread.later.Given as goal
+
+abbrev pub invariant-loop-k : goal.invariant-loop-k
+invariant-loop-k l =
+    (l.k ≤ 81) × (length l.r ≡ 81) × ((j : ℕ) → j < l.k → get_or l.r j 0 ≡ max (get_or l.m j 0) (permuted 3 (permutation_at l.s) j))
+
+abbrev pub decreases-loop-k : goal.decreases-loop-k
+decreases-loop-k l = 81 - l.k

@@ -1,0 +1,104 @@
+use Prim.Native.Nat.{ℕ, ◌+◌, ◌≤◌, ◌<◌, ◌-◌}
+use native.Mathlib.Omega.{arith}
+use mathlib.Core.Path.{◌≡◌, refl, sym, ap, ◌∙◌}
+use lib.ListN.{length, get_or, length-set}
+use lib.Ieee.{nan}
+use borrow.Author.Count.{below_none}
+use borrow.Author.Rules.{rules}
+use Rattle.lists.specs.Tab.{times, times_none, times_more, fill_more}
+use Rattle.blocks.specs.Block.{put_block}
+use Rattle.fc4.specs.Spread.{sources_below, made_of, is_made, passed_over, put_blocks, blocks_are}
+use Rattle.fc4.proofs.spread.put_blocks.Goals as goal
+
+pub loop-s-init : goal.loop-s-init
+loop-s-init c = (omega arith, refl, times_none _ _)
+
+pub sources-m-requires : goal.sources-m-requires
+sources-m-requires c =
+    (c.inverse_permutations.ensures, c.requires.1)
+
+pub loop-k-init : goal.loop-k-init
+loop-k-init c = (omega arith, refl, below_none _)
+
+-- the source of a place is a position of the block
+source_in : (c : tie.In-loop2 invariant-loop2 decreases-loop2 invariant-loop decreases-loop) → get_or c.before.before.sources.result c.before.loop2.k 0 < 81
+source_in c =
+    let a = c.before.before.before.before.before.before.before.before.before in
+    let l = c.before.before.before.before.before.before.loop in
+    rw c.before.before.sources.ensures (sources_below a.args.bs.now (get_or a.args.bs.now l.s 0) c.before.loop2.k (omega (arith, c.loop2-test.true)))
+
+pub overflow_cast-q : goal.overflow_cast-q
+overflow_cast-q c =
+    let g = source_in c in
+    search rules
+
+pub offset_bounds-v-q : goal.offset_bounds-v-q
+offset_bounds-v-q c =
+    let g = source_in c in
+    omega arith
+
+pub bounds-v-q : goal.bounds-v-q
+bounds-v-q c =
+    let g = source_in c in
+    omega arith
+
+pub loop-k-preserved : goal.loop-k-preserved
+loop-k-preserved c =
+    let l = c.loop-k in
+    (omega arith, simp length-set l.invariant.1, fill_more nan _ l.block l.k _ (omega arith) refl l.invariant.2)
+
+pub offset_bounds-bs-s-in-loop-s : goal.offset_bounds-bs-s-in-loop-s
+offset_bounds-bs-s-in-loop-s c =
+    let t = c.loop-test in
+    search rules
+
+pub bounds-bs-s-in-loop-s : goal.bounds-bs-s-in-loop-s
+bounds-bs-s-in-loop-s c =
+    let t = c.loop-test in
+    search rules
+
+pub write81-requires : goal.write81-requires
+write81-requires c =
+    let l = c.loop in
+    let t = c.loop-test in
+    rw l.invariant.1 (c.requires.0.inside l.s t.true)
+
+pub overflow_add-s : goal.overflow_add-s
+overflow_add-s c =
+    let t = c.loop-test in
+    search rules
+
+pub next_block-s-requires : goal.next_block-s-requires
+next_block-s-requires c =
+    let t = c.loop-test in
+    omega arith
+
+pub loop-s-smaller : goal.loop-s-smaller
+loop-s-smaller c =
+    let t = c.loop-test in
+    let n = c.next_block-s.ensures in
+    omega arith
+
+-- the block that was made, written, and the blocks that were passed over, which it leaves as they are
+pub loop-s-preserved : goal.loop-s-preserved
+loop-s-preserved c =
+    let l = c.loop in
+    let p = c.loop2 in
+    let t = c.loop2-test in
+    let w = c.write81 in
+    let n = c.next_block-s.ensures in
+    let b = get_or c.args.bs.now l.s 0 in
+    let made : p.block ≡ made_of c.args.bs.now c.args.v b =
+    is_made c.args.bs.now c.args.v b c.sources.result p.block c.sources.ensures p.invariant.1 (λ j h. p.invariant.2 j (omega arith)) in (
+      n.to,
+      w.auto.fc ∙ l.invariant.1,
+      times_more l.s _ _ l.invariant.2 (w.ensures ∙ ap (λ y. put_block 81 b y l.fc4) made)
+          ∙ sym (passed_over c.args.bs.now c.args.v c.args.fc4.now (l.s + 1) c.next_block-s.result n.from n.passed),
+    )
+
+pub returns : goal.returns
+unfolding put_blocks
+returns c =
+    let l = c.loop-s in
+    let e : l.s ≡ 24 = omega arith in
+    (rw e at l.invariant.2) ∙ blocks_are c.args.bs.now c.args.v c.args.fc4.now c.requires.0.count

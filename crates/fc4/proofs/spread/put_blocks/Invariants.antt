@@ -1,0 +1,25 @@
+use Prim.Native.Nat.{ℕ, ◌+◌, ◌≤◌, ◌<◌, ◌-◌}
+use native.Mathlib.Omega.{arith}
+use mathlib.Core.Path.{◌≡◌, refl, sym, ap, ◌∙◌}
+use lib.ListN.{length, get_or, length-set}
+use lib.Ieee.{nan}
+use borrow.Author.Count.{below_none}
+use borrow.Author.Rules.{rules}
+use Rattle.lists.specs.Tab.{times, times_none, times_more, fill_more}
+use Rattle.blocks.specs.Block.{put_block}
+use Rattle.fc4.specs.Spread.{sources_below, made_of, is_made, passed_over, put_blocks, blocks_are}
+use Rattle.fc4.proofs.spread.put_blocks.Given as goal
+
+abbrev pub invariant-loop-k : goal.invariant-loop-k
+invariant-loop-k l =
+    (l.k ≤ 81) × (length l.block ≡ 81) × ((j : ℕ) → j < l.k → get_or l.block j nan ≡ get_or l.v (get_or l.m j 0) nan)
+
+abbrev pub decreases-loop-k : goal.decreases-loop-k
+decreases-loop-k l = 81 - l.k
+
+abbrev pub invariant-loop-s : goal.invariant-loop-s
+invariant-loop-s l =
+    (l.s ≤ 24) × (length l.fc4 ≡ length l.initial.fc4) × (l.fc4 ≡ times l.s (λ s. put_block 81 (get_or l.bs s 0) (made_of l.bs l.v (get_or l.bs s 0))) l.initial.fc4)
+
+abbrev pub decreases-loop-s : goal.decreases-loop-s
+decreases-loop-s l = 24 - l.s

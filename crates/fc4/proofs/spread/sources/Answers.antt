@@ -1,0 +1,35 @@
+use Prim.Native.Nat.{◌≤◌, ◌-◌}
+use native.Mathlib.Omega.{arith}
+use mathlib.Core.Path.{◌≡◌, ◌∙◌}
+use mathlib.Core.Logic.{⊎_elim}
+use lib.ListN.{replicate}
+use borrow.Author.Rules.{rules}
+use Rattle.lists.specs.Tab.{times, times_none, times_more}
+use Rattle.positions.specs.Inverses.{inverse-at, inverse-below}
+use Rattle.fc4.specs.Spread.{later_if_shared, sources_of, not-shared, is_shared}
+use Rattle.fc4.proofs.spread.sources.Goals as goal
+
+pub loop-s-init : goal.loop-s-init
+loop-s-init c = (omega arith, times_none _ _)
+
+pub later-n-requires : goal.later-n-requires
+later-n-requires c =
+    let l = c.loop in
+    (c.requires.1, rw (inverse-at c.requires.0 l.s) (inverse-below l.s (omega arith)))
+
+pub loop-s-preserved : goal.loop-s-preserved
+loop-s-preserved c =
+    let l = c.loop in
+    let e : c.if-bs-s.m ≡ later_if_shared c.args.bs.now c.args.b l.s l.m =
+    ⊎_elim
+    (λ w. w.3 ∙ is_shared c.args.bs.now c.args.b l.s l.m w.0.taken w.2.ensures (inverse-at c.requires.0 l.s))
+    (λ w. w.1 ∙ not-shared c.args.bs.now c.args.b l.s l.m w.0.left)
+    c.if-bs-s.branch in
+    (omega arith, times_more l.s _ _ l.invariant.1 e)
+
+pub returns : goal.returns
+unfolding sources_of
+returns c =
+    let l = c.loop-s in
+    let e : l.s ≡ 24 = omega arith in
+    l.invariant.1 ∙ rw e

@@ -1,0 +1,17 @@
+use Prim.Native.Nat.{◌≤◌, ◌-◌}
+use native.Mathlib.Omega.{arith}
+use mathlib.Core.Path.{◌≡◌, ◌∙◌}
+use mathlib.Core.Logic.{⊎_elim}
+use lib.ListN.{replicate}
+use borrow.Author.Rules.{rules}
+use Rattle.lists.specs.Tab.{times, times_none, times_more}
+use Rattle.positions.specs.Inverses.{inverse-at, inverse-below}
+use Rattle.fc4.specs.Spread.{later_if_shared, sources_of, not-shared, is_shared}
+use Rattle.fc4.proofs.spread.sources.Given as goal
+
+abbrev pub invariant-loop-s : goal.invariant-loop-s
+invariant-loop-s l =
+    (l.s ≤ 24) × (l.m ≡ times l.s (later_if_shared l.bs l.b) (replicate 81 0))
+
+abbrev pub decreases-loop-s : goal.decreases-loop-s
+decreases-loop-s l = 24 - l.s

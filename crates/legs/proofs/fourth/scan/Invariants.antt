@@ -1,0 +1,16 @@
+use Prim.Native.Nat.{◌-◌, ◌≤◌}
+use native.Mathlib.Omega.{arith}
+use mathlib.Core.Path.{◌≡◌, ap, ◌∙◌}
+use Rattle.lists.specs.Tab.{times, times_none, times_more}
+use Rattle.tables.specs.Compact.{ShiftTables, shift_tables, shifts_of}
+use Rattle.audits.specs.FourthScanLaws.{in81}
+use Rattle.legs.specs.Laws.{leg_seen, legs_seen-w}
+use borrow.Author.Rules.{rules}
+use Rattle.legs.proofs.fourth.scan.Given as goal
+
+abbrev pub invariant-loop-e : goal.invariant-loop-e
+invariant-loop-e l =
+    (l.e ≤ 4) × (l.seen ≡ times l.e (leg_seen (shifts_of (shift_tables l.p2s l.s2pp l.nsym_list l.perms l.n_satom l.n_patom l.num_trans)) 3 l.fc 81) l.initial.seen)
+
+abbrev pub decreases-loop-e : goal.decreases-loop-e
+decreases-loop-e l = 4 - l.e

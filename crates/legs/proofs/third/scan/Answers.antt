@@ -1,0 +1,26 @@
+use Prim.Native.Nat.{◌-◌, ◌≤◌}
+use native.Mathlib.Omega.{arith}
+use mathlib.Core.Path.{◌≡◌, ap, ◌∙◌}
+use Rattle.lists.specs.Tab.{times, times_none, times_more}
+use Rattle.tables.specs.Compact.{ShiftTables, shift_tables, shifts_of}
+use Rattle.audits.specs.ThirdScanLaws.{in27}
+use Rattle.legs.specs.Laws.{leg_seen, legs_seen-w}
+use borrow.Author.Rules.{rules}
+use Rattle.legs.proofs.third.scan.Goals as goal
+
+pub loop-e-init : goal.loop-e-init
+loop-e-init c = (omega arith, times_none _ _)
+
+pub look_leg-more-requires : goal.look_leg-more-requires
+look_leg-more-requires c =let h = c.loop-e-test.true in (c.requires, omega (arith, h))
+
+pub loop-e-preserved : goal.loop-e-preserved
+loop-e-preserved c = let l = c.loop-e in (omega arith, times_more l.e _ _ l.invariant.1 c.look_leg-more.ensures)
+
+pub returns : goal.returns
+returns c =
+    let a = c.args in
+    let T : ShiftTables = shift_tables a.p2s.now a.s2pp.now a.nsym_list.now a.perms.now a.n_satom a.n_patom a.num_trans in
+    let l = c.loop-e in
+    let i : l.e ≡ 3 = omega arith in
+    legs_seen-w (shifts_of T) 2 a.fc.now 27 in27 (l.invariant.1 ∙ ap (λ k. times k (leg_seen (shifts_of T) 2 a.fc.now 27) c.start-seen.result) i ∙ ap (times 3 (leg_seen (shifts_of T) 2 a.fc.now 27)) c.start-seen.ensures)

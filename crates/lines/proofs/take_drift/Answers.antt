@@ -1,0 +1,38 @@
+use Rattle.lines.specs.Lines.{less_at, line_less, step_is, step_fits}
+use Rattle.lists.specs.Tab.{times, times_none, times_more}
+use mathlib.Core.Path.{◌≡◌, refl, ◌∙◌}
+use lib.ListN.{length}
+use native.Mathlib.Omega.{arith}
+use Prim.Native.Nat.{◌≤◌, ◌-◌, ◌+◌, ◌*◌}
+use borrow.Author.Rules.{rules}
+use Rattle.lines.proofs.take_drift.Goals as goal
+
+pub loop-k-init : goal.loop-k-init
+loop-k-init c = (omega arith, refl, times_none _ _)
+
+pub index_of-at-requires : goal.index_of-at-requires
+index_of-at-requires c = omega (arith, c.requires.within c.loop-k.k c.loop-k-test.true)
+
+pub read9-b-requires : goal.read9-b-requires
+read9-b-requires c =
+    let l = c.loop in
+    rw l.invariant.1 (step_fits c.requires l.k c.loop-test.true c.index_of.ensures)
+
+pub write9-requires : goal.write9-requires
+write9-requires c =
+    let l = c.loop in
+    rw l.invariant.1 (step_fits c.requires l.k c.loop-test.true c.index_of.ensures)
+
+pub loop-k-preserved : goal.loop-k-preserved
+unfolding less_at
+loop-k-preserved c =
+    let l = c.loop in
+    let e = step_is c.requires l.k c.loop-test.true c.index_of.ensures in
+    (omega arith, c.write9.auto.fc ∙ l.invariant.1, times_more l.k _ _ l.invariant.2 (rw (c.less.ensures, c.read9-b.ensures, e) at c.write9.ensures))
+
+pub returns : goal.returns
+unfolding line_less
+returns c =
+    let l = c.loop-k in
+    let i : l.k ≡ c.args.count = omega arith in
+    l.invariant.2 ∙ rw i

@@ -1,0 +1,19 @@
+use Prim.Native.Nat.{◌-◌}
+use native.Mathlib.Omega.{arith}
+use lib.ListN.{length}
+use Rattle.lists.specs.Clear.{Cleared, cleared_none, cleared_more, cleared_all}
+use borrow.Author.Rules.{rules}
+use Rattle.lists.proofs.clear_bytes.Goals as goal
+
+pub loop-i-init : goal.loop-i-init
+loop-i-init c = cleared_none 0 c.args.w.now
+
+pub loop-i-preserved : goal.loop-i-preserved
+loop-i-preserved c =
+    let l = c.loop-i in
+    cleared_more 0 _ l.i l.w (omega arith) l.invariant
+
+pub returns : goal.returns
+returns c =
+    let l = c.loop-i in
+    cleared_all 0 _ l.i l.w (omega arith) l.invariant

@@ -1,0 +1,26 @@
+use mathlib.Core.Path.{sym, ap, ◌∙◌}
+use native.Mathlib.Omega.{arith}
+use lib.ListN.{length}
+use Rattle.distances.specs.Near.{distance}
+use Rattle.matching.specs.Matching.{searched}
+use Rattle.matching.specs.CellsOutcomeLaws.{accepted, refused, done}
+use borrow.Author.Rules.{rules}
+use Rattle.matching.proofs.cells.compute_permutation.Goals as goal
+
+pub fill-requires : goal.fill-requires
+fill-requires c =
+    let a = c.args in
+    let g = accepted (length a.rot_atom.now) (length a.pos.now) (length a.rot_pos.now) a.num_pos (sym c.judge_matching-a.ensures ∙ c.in-Done.is) in
+    record { pos_len = omega (arith, g.slots_len, g.triples.pos_len); rot_len = omega (arith, g.slots_len, g.triples.rot_len) }
+
+pub returns-in-Refused : goal.returns-in-Refused
+returns-in-Refused c =
+    let a = c.args in
+    refused a.rot_atom.now a.cell a.pos.now a.rot_pos.now a.num_pos _ (sym c.judge_matching-a.ensures ∙ c.in-Refused.is)
+
+pub returns-in-Done : goal.returns-in-Done
+returns-in-Done c =
+    let a = c.args in
+    let d = sym c.judge_matching-a.ensures ∙ c.in-Done.is in
+    let n = (accepted (length a.rot_atom.now) (length a.pos.now) (length a.rot_pos.now) a.num_pos d).slots_len in
+    c.fill.ensures ∙ ap (searched (distance a.cell a.pos.now a.rot_pos.now)) n ∙ done a.rot_atom.now a.cell a.pos.now a.rot_pos.now a.num_pos d

@@ -1,0 +1,16 @@
+use mathlib.Core.Path.{◌≡◌, refl, sym, ◌∙◌}
+use Prim.Native.Nat.{ℕ, ◌≤◌, ◌<◌, ◌-◌}
+use native.Mathlib.Omega.{arith}
+use lib.IntN.{pos, negsuc}
+use lib.ListN.{length, get_or, replicate, length-replicate, get_or-replicate}
+use lib.Seq.{ext_get_or}
+use borrow.Author.Count.{below_none}
+use Rattle.lists.specs.Tab.{fill_more}
+use borrow.Author.Rules.{rules}
+use Rattle.matching.proofs.slots.clear.Given as goal
+
+abbrev pub invariant-loop-j : goal.invariant-loop-j
+invariant-loop-j l = (l.j ≤ length l.initial.rot_atom) × (length l.rot_atom ≡ length l.initial.rot_atom) × ((k : ℕ) → k < l.j → get_or l.rot_atom k (pos 0) ≡ negsuc 0)
+
+abbrev pub decreases-loop-j : goal.decreases-loop-j
+decreases-loop-j l = length l.initial.rot_atom - l.j

@@ -1,0 +1,38 @@
+use mathlib.Core.List.{[], ◌∷◌}
+use Rattle.places.specs.ReadOuts.{stored-read, s2pp-read, s2pp-small, nsym_read, along, along-below}
+use Rattle.places.proofs.stored_block4.Goals as goal
+
+pub nsym_at-t-requires : goal.nsym_at-t-requires
+nsym_at-t-requires c = (nsym_read c.requires.0 c.args.i.0 c.requires.1).0
+
+pub s2pp_at-requires : goal.s2pp_at-requires
+s2pp_at-requires c =
+    (s2pp-read c.requires.0 c.args.i.0 c.requires.1).0
+
+pub perms_at-requires : goal.perms_at-requires
+perms_at-requires c =
+    along c.requires.0 c.args.i.0 c.requires.1 _ c.args.j.0 c.nsym_at-t.ensures c.requires.2
+
+pub perms_at-requires-2 : goal.perms_at-requires-2
+perms_at-requires-2 c =
+    along c.requires.0 c.args.i.0 c.requires.1 _ c.args.k.0 c.nsym_at-t.ensures c.requires.3
+
+pub perms_at-requires-3 : goal.perms_at-requires-3
+perms_at-requires-3 c =
+    along c.requires.0 c.args.i.0 c.requires.1 _ c.args.l.0 c.nsym_at-t.ensures c.requires.4
+
+pub block4-requires : goal.block4-requires
+block4-requires c =
+    let T = c.requires.0 in
+    let t = c.nsym_at-t.ensures in (
+      T.satoms,
+      s2pp-small T c.args.i.0 c.requires.1 _ c.s2pp_at.ensures,
+      along-below T c.args.i.0 c.requires.1 _ c.args.j.0 _ t c.perms_at.ensures c.requires.2,
+      along-below T c.args.i.0 c.requires.1 _ c.args.k.0 _ t c.perms_at-2.ensures c.requires.3,
+      along-below T c.args.i.0 c.requires.1 _ c.args.l.0 _ t c.perms_at-3.ensures c.requires.4,
+    )
+
+pub returns : goal.returns
+returns c =
+    let a = c.args in
+    rw (stored-read a.n_satom a.s2pp.now a.nsym_list.now a.perms.now a.i.0 (a.j.0 ∷ a.k.0 ∷ a.l.0 ∷ [])) cc

@@ -1,0 +1,19 @@
+use mathlib.Core.Path.{◌≡◌, refl, ◌∙◌}
+use Prim.Native.Nat.{◌+◌, ◌-◌, ◌*◌, ◌<◌, ◌≤◌}
+use native.Mathlib.Omega.{arith}
+use lib.ListN.{length}
+use borrow.Author.Rules.{rules}
+use Rattle.lists.specs.Tab.{times, times_none, times_more}
+use Rattle.blocks.specs.Block.{block, put_block}
+use Rattle.tables.specs.Conditions.{index_at}
+use Rattle.blocks.specs.Inside.{inside-atom, inside-block, inside-small}
+use Rattle.read_out.specs.Copies.{copy_legs}
+use Rattle.read_out.proofs.fc3.line.Given as goal
+
+abbrev pub invariant-loop-k : goal.invariant-loop-k
+invariant-loop-k l =
+    (l.k ≤ l.n_satom) × (length l.full ≡ length l.initial.full)
+    × (l.full ≡ times l.k (λ k. copy_legs l.perms l.n_satom 27 l.t 0 (l.to * l.n_satom + k) (l.from * l.n_satom + index_at l.perms (l.t * l.n_satom + k)) l.fc3) l.initial.full)
+
+abbrev pub decreases-loop-k : goal.decreases-loop-k
+decreases-loop-k l = l.n_satom - l.k

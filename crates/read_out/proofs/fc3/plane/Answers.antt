@@ -1,0 +1,61 @@
+use mathlib.Core.Path.{◌≡◌, refl, ◌∙◌}
+use Prim.Native.Nat.{◌+◌, ◌-◌, ◌*◌, ◌<◌, ◌≤◌}
+use native.Mathlib.Omega.{arith}
+use lib.ListN.{length}
+use borrow.Author.Rules.{rules}
+use Rattle.lists.specs.Tab.{times, times_none, times_more}
+use Rattle.tables.specs.Conditions.{index_at}
+use Rattle.blocks.specs.Inside.{inside-atom, inside-small}
+use Rattle.read_out.specs.Copies.{copy_legs}
+use Rattle.read_out.proofs.fc3.plane.Goals as goal
+
+pub loop-j-init : goal.loop-j-init
+loop-j-init c = (omega arith, refl, times_none _ _)
+
+pub perms_at-image-requires : goal.perms_at-image-requires
+perms_at-image-requires c = (c.requires.along c.loop-j.j (omega arith)).0
+
+pub index_of-b-requires : goal.index_of-b-requires
+index_of-b-requires c =
+    let a = c.args in
+    let l = c.loop-j in
+    let k = inside-small a.n_satom 27 1 _ _ (omega arith) (omega arith) (inside-atom a.n_satom 27 1 a.to _ l.j (omega arith) c.requires.blocks_in.0) in
+    omega arith
+
+pub index_of-f-requires : goal.index_of-f-requires
+index_of-f-requires c =
+    let a = c.args in
+    let l = c.loop-j in
+    let p = c.perms_at-image in
+    let i = (c.requires.along l.j (omega arith)).1 in
+    let g : p.result.0 < a.n_satom = omega (arith, p.ensures) in
+    let k = inside-small a.n_satom 27 1 _ _ (omega arith) (omega arith) (inside-atom a.n_satom 27 1 a.from _ p.result.0 g c.requires.blocks_in.1) in
+    omega arith
+
+pub line-requires : goal.line-requires
+line-requires c =
+    let a = c.args in
+    let l = c.loop-j in
+    let p = c.perms_at-image in
+    let i = (c.requires.along l.j (omega arith)).1 in
+    let g : p.result.0 < a.n_satom = omega (arith, p.ensures) in
+    rw (c.index_of-b.ensures, c.index_of-f.ensures, l.invariant.1)
+    (c.requires.along, (inside-atom a.n_satom 27 1 a.to _ l.j (omega arith) c.requires.blocks_in.0, inside-atom a.n_satom 27 1 a.from _ p.result.0 g c.requires.blocks_in.1))
+
+pub loop-j-preserved : goal.loop-j-preserved
+unfolding copy_legs
+loop-j-preserved c =
+    let a = c.args in
+    let l = c.loop-j in
+    let p = c.perms_at-image in
+    let r : c.line.new.full ≡ copy_legs a.perms.now a.n_satom 27 a.t 1 (a.to * a.n_satom + l.j) (a.from * a.n_satom + index_at a.perms.now (a.t * a.n_satom + l.j)) a.fc3.now l.full =
+    ◌∙◌ {b = copy_legs a.perms.now a.n_satom 27 a.t 1 c.index_of-b.result c.index_of-f.result a.fc3.now l.full}
+    c.line.ensures (rw (c.index_of-b.ensures, c.index_of-f.ensures, p.ensures)) in
+    (omega arith, c.line.auto.full ∙ l.invariant.1, times_more l.j (λ k. copy_legs a.perms.now a.n_satom 27 a.t 1 (a.to * a.n_satom + k) (a.from * a.n_satom + index_at a.perms.now (a.t * a.n_satom + k)) a.fc3.now) a.full.now l.invariant.2 r)
+
+pub returns : goal.returns
+unfolding copy_legs
+returns c =
+    let l = c.loop-j in
+    let i : l.j ≡ c.args.n_satom = omega arith in
+    l.invariant.2 ∙ rw i

@@ -1,0 +1,19 @@
+use mathlib.Core.Path.{◌≡◌, refl, ◌∙◌}
+use Prim.Native.Nat.{◌+◌, ◌-◌, ◌*◌, ◌<◌, ◌≤◌}
+use native.Mathlib.Omega.{arith}
+use lib.ListN.{length}
+use borrow.Author.Rules.{rules}
+use Rattle.lists.specs.Tab.{times, times_none, times_more}
+use Rattle.blocks.specs.Block.{block, put_block}
+use Rattle.tables.specs.Conditions.{index_at}
+use Rattle.blocks.specs.Inside.{inside-atom, inside-block, inside-small}
+use Rattle.read_out.specs.Copies.{copy_legs}
+use Rattle.read_out.proofs.fc4.line.Given as goal
+
+abbrev pub invariant-loop-l : goal.invariant-loop-l
+invariant-loop-l v =
+    (v.l ≤ v.n_satom) × (length v.full ≡ length v.initial.full)
+    × (v.full ≡ times v.l (λ k. copy_legs v.perms v.n_satom 81 v.t 0 (v.to * v.n_satom + k) (v.from * v.n_satom + index_at v.perms (v.t * v.n_satom + k)) v.fc4) v.initial.full)
+
+abbrev pub decreases-loop-l : goal.decreases-loop-l
+decreases-loop-l v = v.n_satom - v.l

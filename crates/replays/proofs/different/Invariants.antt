@@ -1,0 +1,10 @@
+use Rattle.std.proofs.Common.{◌≡◌, ℕ, ◌-◌, ◌≤◌, cond, eqb, length, get_or, ap, ◌∙◌, arith, rules}
+use Rattle.lists.specs.Tab.{times, times_none, times_more}
+use Rattle.replays.specs.Tally.{differing, increased}
+use Rattle.replays.proofs.different.Given as goal
+
+abbrev pub invariant-loop-i : goal.invariant-loop-i
+invariant-loop-i l = (l.i ≤ length l.got) × (l.d ≡ times l.i (λ i. differing l.r l.got i) 0)
+
+abbrev pub decreases-loop-i : goal.decreases-loop-i
+decreases-loop-i l = length l.got - l.i

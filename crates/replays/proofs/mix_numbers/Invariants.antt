@@ -1,0 +1,10 @@
+use Rattle.std.proofs.Common.{◌≡◌, ℕ, ◌-◌, ◌≤◌, length, ap, ◌∙◌, arith, rules}
+use Rattle.lists.specs.Tab.{times, times_none, times_more}
+use Rattle.replays.specs.Words.{mixed_number}
+use Rattle.replays.proofs.mix_numbers.Given as goal
+
+abbrev pub invariant-loop-i : goal.invariant-loop-i
+invariant-loop-i l = (l.i ≤ length l.got) × (l.g ≡ times l.i (λ i. mixed_number l.got i) l.h)
+
+abbrev pub decreases-loop-i : goal.decreases-loop-i
+decreases-loop-i l = length l.got - l.i

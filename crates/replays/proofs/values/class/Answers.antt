@@ -1,0 +1,13 @@
+use Rattle.std.proofs.Common.{refl, arith, rules}
+use Rattle.replays.specs.Values.{classes}
+use Rattle.replays.proofs.values.class.Goals as goal
+
+pub index_of-requires : goal.index_of-requires
+index_of-requires c = omega arith
+
+pub bounds-t-index_of : goal.bounds-t-index_of
+bounds-t-index_of c = rw c.index_of.ensures (omega arith)
+
+pub returns : goal.returns
+unfolding classes
+returns c = rw c.index_of.ensures refl

@@ -1,0 +1,11 @@
+use Rattle.std.proofs.Common.{◌≡◌, ℕ, ◌-◌, ◌≤◌, length, ap, ◌∙◌, arith, rules}
+use Rattle.lists.specs.Tab.{times, times_none, times_more}
+use Rattle.replays.specs.Words.{mixed}
+use Rattle.replays.specs.Values.{mixed_float}
+use Rattle.replays.proofs.values.mix_floats.Given as goal
+
+abbrev pub invariant-loop-i : goal.invariant-loop-i
+invariant-loop-i l = (l.i ≤ length l.s) × (l.g ≡ times l.i (λ i. mixed_float l.s i) l.h)
+
+abbrev pub decreases-loop-i : goal.decreases-loop-i
+decreases-loop-i l = length l.s - l.i

@@ -1,0 +1,15 @@
+use Prim.Native.Nat.{◌+◌, ◌-◌, ◌≤◌}
+use native.Mathlib.Omega.{arith}
+use mathlib.Core.Path.{◌≡◌, ◌∙◌}
+use lib.ListN.{length, get_or}
+use lib.Ieee.{nan}
+use Rattle.lists.specs.Tab.{times, times_none, times_more}
+use Rattle.reports.specs.Loops.{look, look_at}
+use borrow.Author.Rules.{rules}
+use Rattle.reports.proofs.seen.look_numbers.Given as goal
+
+abbrev pub invariant-loop-k : goal.invariant-loop-k
+invariant-loop-k l = (l.k ≤ length l.x) × (l.seen ≡ times l.k (λ j. look (l.first + j) (get_or l.x j nan)) l.initial.seen)
+
+abbrev pub decreases-loop-k : goal.decreases-loop-k
+decreases-loop-k l = length l.x - l.k

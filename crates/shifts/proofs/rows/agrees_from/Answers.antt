@@ -1,0 +1,27 @@
+use mathlib.Core.Bool.{true≢false}
+use mathlib.Core.Path.{◌≡◌, refl, sym}
+use Prim.Native.Nat.{ℕ, ◌-◌, ◌≤◌, ◌<◌}
+use native.Mathlib.Omega.{arith}
+use borrow.Author.Count.{below_more}
+use borrow.Author.Rules.{rules}
+use Rattle.lists.specs.Tests.{not-both}
+use Rattle.shifts.specs.Rows.{image}
+use Rattle.shifts.proofs.rows.agrees_from.Goals as goal
+
+pub loop-a-init : goal.loop-a-init
+loop-a-init c = (c.requires.4, λ k h g. absurd (omega arith), omega arith)
+
+pub agrees_at-requires : goal.agrees_at-requires
+agrees_at-requires c = let p = c.requires in (p.0, p.1, p.2, p.3, c.loop-a-test.true)
+
+pub loop-a-preserved : goal.loop-a-preserved
+loop-a-preserved c =
+    let a = c.args in
+    let l = c.loop-a in
+    (omega arith, below_more (λ k. a.start ≤ k → image a.perms.now a.n_satom a.u (image a.perms.now a.n_satom a.t k) ≡ image a.perms.now a.n_satom a.v k) l.a l.invariant.1 (λ _. c.agrees_at.ensures.0 c.if-agrees_at.true), omega arith)
+
+pub returns-else-agrees_at : goal.returns-else-agrees_at
+returns-else-agrees_at c = (λ q. absurd (true≢false (sym q)), λ f. absurd (not-both (c.agrees_at.ensures.1 (f c.loop-a.a c.loop-a.invariant.2 c.loop-a-test.true)) c.if-agrees_at.false))
+
+pub returns : goal.returns
+returns c = (λ _ k g h. c.loop-a.invariant.1 k (omega arith) g, λ _. refl)

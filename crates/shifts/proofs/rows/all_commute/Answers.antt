@@ -1,0 +1,28 @@
+use mathlib.Core.Bool.{true≢false}
+use mathlib.Core.Path.{◌≡◌, refl, sym}
+use Prim.Native.Nat.{ℕ, ◌-◌, ◌≤◌, ◌<◌}
+use native.Mathlib.Omega.{arith}
+use lib.ListN.{get_or}
+use borrow.Author.Count.{below_more}
+use borrow.Author.Rules.{rules}
+use Rattle.lists.specs.Tests.{not-both}
+use Rattle.shifts.specs.Loops.{Commutes}
+use Rattle.shifts.proofs.rows.all_commute.Goals as goal
+
+pub loop-g-init : goal.loop-g-init
+loop-g-init c = (omega arith, λ k h. absurd (omega arith))
+
+pub generator_commutes-requires : goal.generator_commutes-requires
+generator_commutes-requires c = (c.requires.0, c.loop-g-test.true, c.requires.1)
+
+pub loop-g-preserved : goal.loop-g-preserved
+loop-g-preserved c =
+    let l = c.loop-g in
+    let a = c.args in
+    (omega arith, below_more (λ k. (get_or a.gens.now k 0 ≡ 0 → ⊥) → Commutes a.n_satom a.perms.now k (λ x. get_or a.right.now x 0)) l.g l.invariant.1 (c.generator_commutes.ensures.0 c.if-generator_commutes.true))
+
+pub returns-else-generator_commutes : goal.returns-else-generator_commutes
+returns-else-generator_commutes c = (λ q. absurd (true≢false (sym q)), λ f. absurd (not-both (c.generator_commutes.ensures.1 (f c.loop-g.g c.loop-g-test.true)) c.if-generator_commutes.false))
+
+pub returns : goal.returns
+returns c = (λ _ k h. c.loop-g.invariant.1 k (omega arith), λ _. refl)

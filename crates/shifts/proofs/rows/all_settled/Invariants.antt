@@ -1,0 +1,16 @@
+use mathlib.Core.Bool.{true≢false}
+use mathlib.Core.Path.{◌≡◌, refl, sym}
+use Prim.Native.Nat.{ℕ, ◌-◌, ◌≤◌, ◌<◌}
+use native.Mathlib.Omega.{arith}
+use lib.ListN.{length, get_or, length-replicate}
+use borrow.Author.Count.{below_more}
+use borrow.Author.Rules.{rules}
+use Rattle.lists.specs.Tests.{not-both}
+use Rattle.shifts.specs.Loops.{Settled}
+use Rattle.shifts.proofs.rows.all_settled.Given as goal
+
+abbrev pub invariant-loop-s : goal.invariant-loop-s
+invariant-loop-s l = (l.s ≤ l.num_trans) × (length l.right ≡ 1024) × ((k : ℕ) → k < l.s → (get_or l.gens k 0 ≡ 0 → ⊥) → Settled l.n_satom l.num_trans l.perms l.p2s l.s2pp l.sent l.gens k)
+
+abbrev pub decreases-loop-s : goal.decreases-loop-s
+decreases-loop-s l = l.num_trans - l.s

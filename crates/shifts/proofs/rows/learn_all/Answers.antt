@@ -1,0 +1,43 @@
+use mathlib.Core.Bool.{true≢false}
+use mathlib.Core.Path.{◌≡◌, refl, sym}
+use Prim.Native.Nat.{ℕ, ◌-◌, ◌≤◌, ◌<◌}
+use native.Mathlib.Omega.{arith}
+use lib.ListN.{length}
+use borrow.Author.Count.{below_more}
+use borrow.Author.Rules.{rules}
+use Rattle.lists.specs.Tests.{not-both}
+use Rattle.shifts.specs.Loops.{Made, Known}
+use Rattle.shifts.proofs.Generators.{made_more, known_start}
+use Rattle.shifts.proofs.rows.learn_all.Goals as goal
+
+pub overflow_add-known : goal.overflow_add-known
+overflow_add-known c = omega (arith, c.requires.0.rows.shifts)
+
+pub offset_bounds-known-null : goal.offset_bounds-known-null
+offset_bounds-known-null c = omega (arith, c.requires.0.rows.shifts, c.requires.1)
+
+pub bounds-known-null : goal.bounds-known-null
+bounds-known-null c = omega (arith, c.requires.0.rows.shifts, c.requires.1)
+
+pub loop-u-init : goal.loop-u-init
+loop-u-init c =
+    let a = c.args in
+    (omega arith, c.requires.3, λ k h. absurd (omega arith), known_start a.n_satom a.num_trans a.perms.now a.gens.now a.null (omega (arith, c.requires.0.rows.shifts, c.requires.1)) (c.requires.2 a.gens.now))
+
+pub learn-requires : goal.learn-requires
+learn-requires c =
+    let l = c.loop-u in
+    ((c.requires.0, c.requires.1, c.loop-u-test.true), (c.requires.2 l.gens, l.invariant.3, l.invariant.1))
+
+pub loop-u-preserved : goal.loop-u-preserved
+loop-u-preserved c =
+    let a = c.args in
+    let l = c.loop-u in
+    let L = c.learn.ensures.0 in
+    (omega arith, L.size, below_more _ l.u (λ k b. made_more a.n_satom a.num_trans a.perms.now l.gens _ L.more (l.invariant.2 k b)) L.made, L.knows)
+
+pub returns-else-learn : goal.returns-else-learn
+returns-else-learn c = (λ q. absurd (true≢false (sym q)), λ C. absurd (not-both (c.learn.ensures.1 C) c.if-learn.false))
+
+pub returns : goal.returns
+returns c = (λ _ k h. c.loop-u.invariant.2 k (omega arith), λ _. refl)

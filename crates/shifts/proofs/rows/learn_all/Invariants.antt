@@ -1,0 +1,17 @@
+use mathlib.Core.Bool.{true≢false}
+use mathlib.Core.Path.{◌≡◌, refl, sym}
+use Prim.Native.Nat.{ℕ, ◌-◌, ◌≤◌, ◌<◌}
+use native.Mathlib.Omega.{arith}
+use lib.ListN.{length}
+use borrow.Author.Count.{below_more}
+use borrow.Author.Rules.{rules}
+use Rattle.lists.specs.Tests.{not-both}
+use Rattle.shifts.specs.Loops.{Made, Known}
+use Rattle.shifts.proofs.Generators.{made_more, known_start}
+use Rattle.shifts.proofs.rows.learn_all.Given as goal
+
+abbrev pub invariant-loop-u : goal.invariant-loop-u
+invariant-loop-u l = (l.u ≤ l.num_trans) × (length l.gens ≡ 1024) × ((k : ℕ) → k < l.u → Made l.n_satom l.num_trans l.perms l.gens k) × Known l.n_satom l.num_trans l.perms l.gens l.known
+
+abbrev pub decreases-loop-u : goal.decreases-loop-u
+decreases-loop-u l = l.num_trans - l.u

@@ -1,0 +1,16 @@
+use mathlib.Core.Bool.{false}
+use mathlib.Core.Path.{◌≡◌, sym, ◌∙◌}
+use Prim.Native.Nat.{ℕ, ◌≤◌, ◌<◌, ◌-◌}
+use native.Mathlib.Omega.{arith}
+use borrow.Author.Count.{below_none, below_more}
+use borrow.Author.Rules.{rules}
+use Rattle.shifts.specs.Rows.{rows_of}
+use Rattle.tables.specs.Shifts.{is_null, has_null}
+use Rattle.tables.proofs.Loops.{one-passed, all_failed}
+use Rattle.shifts.proofs.rules.has_null.Given as goal
+
+abbrev pub invariant-loop-t : goal.invariant-loop-t
+invariant-loop-t l = (l.t ≤ l.num_trans) × ((k : ℕ) → k < l.t → is_null (rows_of l.n_satom l.num_trans l.perms) k ≡ false)
+
+abbrev pub decreases-loop-t : goal.decreases-loop-t
+decreases-loop-t l = l.num_trans - l.t

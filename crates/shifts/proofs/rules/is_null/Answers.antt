@@ -1,0 +1,37 @@
+use mathlib.Core.Bool.{true}
+use mathlib.Core.Path.{◌≡◌, sym, ap, ◌∙◌}
+use Prim.Native.Nat.{ℕ, ◌≤◌, ◌<◌, ◌-◌}
+use native.Mathlib.Omega.{arith}
+use lib.Dec.{eqb}
+use borrow.Author.Tests.{not-true, not-false}
+use borrow.Author.Count.{below_none, below_more}
+use borrow.Author.Rules.{rules}
+use Rattle.shifts.specs.Rows.{rows_of, row_is, row_read}
+use Rattle.tables.specs.Shifts.{row, is_null}
+use Rattle.tables.proofs.Loops.{all-passed, one_failed}
+use Rattle.shifts.proofs.rules.is_null.Goals as goal
+
+pub loop-a-init : goal.loop-a-init
+loop-a-init c = (omega arith, below_none _)
+
+pub perms_at-b-requires : goal.perms_at-b-requires
+perms_at-b-requires c = row_read c.requires.0 c.args.t c.loop-a.a c.requires.1 c.loop-a-test.true
+
+pub returns-then-not-same_super : goal.returns-then-not-same_super
+unfolding is_null
+returns-then-not-same_super c =
+    let a = c.args in
+    let k = c.loop-a.a in
+    let e = c.perms_at-b.ensures ∙ row_is a.n_satom a.num_trans a.perms.now a.t k in
+    one_failed a.n_satom _ k c.loop-a-test.true (ap (λ x. eqb x k) (sym e) ∙ sym c.same_super.ensures ∙ not-true _ c.if-not-same_super.true)
+
+pub loop-a-preserved : goal.loop-a-preserved
+loop-a-preserved c =
+    let a = c.args in
+    let l = c.loop-a in
+    let e = c.perms_at-b.ensures ∙ row_is a.n_satom a.num_trans a.perms.now a.t l.a in
+    (omega arith, below_more _ l.a l.invariant.1 (ap (λ x. eqb x l.a) (sym e) ∙ sym c.same_super.ensures ∙ not-false _ c.if-not-same_super.false))
+
+pub returns : goal.returns
+unfolding is_null
+returns c = let a = c.args in all-passed a.n_satom _ (λ k h. c.loop-a.invariant.1 k (omega arith))

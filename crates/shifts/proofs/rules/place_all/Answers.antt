@@ -1,0 +1,48 @@
+use mathlib.Core.Bool.{true≢false}
+use mathlib.Core.Path.{◌≡◌, refl, sym, subst}
+use Prim.Native.Nat.{◌-◌, ◌≤◌}
+use native.Mathlib.Omega.{arith}
+use borrow.Author.Rules.{rules}
+use Rattle.lists.specs.Tests.{not-both}
+use Rattle.tables.specs.Conditions.{read}
+use Rattle.shifts.specs.Placing.{Placed, Spread}
+use Rattle.shifts.proofs.Placing.{none-placed, placed-fresh, placed-more}
+use Rattle.shifts.proofs.rules.place_all.Goals as goal
+
+pub loop-p-init : goal.loop-p-init
+loop-p-init c = (omega arith, rw c.requires.3 (none-placed _ _ _ _ _))
+
+pub p2s_at-a-requires : goal.p2s_at-a-requires
+p2s_at-a-requires c = (read c.requires.0 c.loop-p.p c.loop-p-test.true).0
+
+pub place_images-requires : goal.place_images-requires
+place_images-requires c =
+    let a = c.args in
+    let l = c.loop-p in
+    let h = (read c.requires.0 l.p c.loop-p-test.true).1 in
+    (c.requires.1, c.requires.2, omega (arith, c.p2s_at-a.ensures, h), placed-fresh a.n_satom a.num_trans l.p a.perms.now a.p2s.now a.s2pp.now l.sent l.invariant.1, l.invariant.1.size)
+
+pub loop-p-preserved : goal.loop-p-preserved
+loop-p-preserved c =
+    let a = c.args in
+    let l = c.loop-p in
+    let e = c.p2s_at-a.ensures in
+    (omega arith, placed-more a.n_satom a.num_trans l.p a.perms.now a.p2s.now a.s2pp.now l.sent l.invariant.1 _ _ e (c.place_images.ensures.0 c.if-place_images.true))
+
+pub returns-else-place_images : goal.returns-else-place_images
+returns-else-place_images c =
+    let a = c.args in
+    let l = c.loop-p in
+    let e = c.p2s_at-a.ensures in (
+      λ q. absurd (true≢false (sym q)),
+      λ f.
+          let o = subst (λ x. Spread a.n_satom a.num_trans a.perms.now a.s2pp.now x l.p) (sym e) (f l.p c.loop-p-test.true) in
+          absurd (not-both (c.place_images.ensures.1 o) c.if-place_images.false),
+    )
+
+pub returns : goal.returns
+returns c =
+    let a = c.args in
+    let l = c.loop-p in
+    let i : l.p ≡ a.n_patom = omega arith in
+    (λ _. subst (λ k. Placed a.n_satom a.num_trans k a.perms.now a.p2s.now a.s2pp.now l.sent) i l.invariant.1, λ _. refl)

@@ -1,0 +1,77 @@
+use mathlib.Core.Bool.{true≢false}
+use mathlib.Core.Path.{◌≡◌, refl, sym, ap, ◌∙◌, subst}
+use Prim.Native.Nat.{◌+◌, ◌-◌, ◌≤◌, ◌<◌}
+use native.Mathlib.Omega.{arith}
+use lib.ListN.{get_or, set}
+use borrow.Author.Tests.{eqb-true, eq-eqb, not-true, not-false}
+use borrow.Author.Rules.{rules}
+use Rattle.lists.specs.Tests.{not-both}
+use Rattle.tables.specs.Conditions.{index_at, read}
+use Rattle.shifts.specs.Rows.{image}
+use Rattle.shifts.specs.Placing.{Placing}
+use Rattle.shifts.proofs.Placing.{none-placing, placing-more, placing-twice}
+use Rattle.shifts.proofs.Generators.{image-below, image-read}
+use Rattle.shifts.proofs.rules.place_images.Goals as goal
+
+pub loop-t-init : goal.loop-t-init
+loop-t-init c = (omega arith, none-placing _ _ _ _ _ _ c.requires.4)
+
+pub perms_at-x-requires : goal.perms_at-x-requires
+perms_at-x-requires c = image-read c.requires.1 c.loop-t.t c.args.a.0 c.loop-t-test.true c.requires.2
+
+pub s2pp_at-q-requires : goal.s2pp_at-q-requires
+s2pp_at-q-requires c =
+    (read c.requires.0 c.perms_at-x.result.0 (omega (arith, c.perms_at-x.ensures, image-below c.requires.1 c.loop-t.t c.args.a.0 c.loop-t-test.true c.requires.2))).0
+
+pub returns-then-not-same_prim : goal.returns-then-not-same_prim
+returns-then-not-same_prim c =
+    let a = c.args in
+    let l = c.loop-t in
+    let e = c.s2pp_at-q.ensures ∙ ap (index_at a.s2pp.now) c.perms_at-x.ensures in
+    (λ q. absurd (true≢false (sym q)), λ f. absurd (not-both (c.same_prim.ensures ∙ eq-eqb _ _ (e ∙ f.0 l.t c.loop-t-test.true)) (not-true _ c.if-not-same_prim.true)))
+
+pub offset_bounds-sent-i : goal.offset_bounds-sent-i
+offset_bounds-sent-i c =
+    omega (arith, c.perms_at-x.ensures, c.requires.1.atoms, image-below c.requires.1 c.loop-t.t c.args.a.0 c.loop-t-test.true c.requires.2)
+
+pub bounds-sent-i : goal.bounds-sent-i
+bounds-sent-i c =
+    omega (arith, c.perms_at.ensures, c.requires.1.atoms, image-below c.requires.1 c.loop.t c.args.a.0 c.loop-test.true c.requires.2)
+
+pub returns-then-sent-i-ne0 : goal.returns-then-sent-i-ne0
+returns-then-sent-i-ne0 c =
+    let a = c.args in
+    let l = c.loop in
+    let h = c.loop-test.true in
+    let e = c.perms_at.ensures in (
+      λ q. absurd (true≢false (sym q)),
+      λ f. absurd (placing-twice a.n_satom l.t a.a.0 a.p.0 a.perms.now a.s2pp.now a.sent.now l.sent l.invariant.1 a.num_trans h c.requires.3 f (λ z. c.if-sent-i-ne0.true (ap (λ x. get_or l.sent x 0) e ∙ z))),
+    )
+
+pub offset_bounds-sent-i-in-loop-t : goal.offset_bounds-sent-i-in-loop-t
+offset_bounds-sent-i-in-loop-t c =
+    omega (arith, c.perms_at.ensures, c.requires.1.atoms, image-below c.requires.1 c.loop.t c.args.a.0 c.loop-test.true c.requires.2)
+
+pub bounds-sent-i-in-loop-t : goal.bounds-sent-i-in-loop-t
+bounds-sent-i-in-loop-t c =
+    omega (arith, c.perms_at.ensures, c.requires.1.atoms, image-below c.requires.1 c.loop.t c.args.a.0 c.loop-test.true c.requires.2)
+
+pub loop-t-preserved : goal.loop-t-preserved
+loop-t-preserved c =
+    let a = c.args in
+    let l = c.loop in
+    let h = c.loop-test.true in
+    let e : c.before.before.before.before.before.perms_at.result.0 ≡ image a.perms.now a.n_satom l.t a.a.0 = c.perms_at.ensures in
+    let f = c.s2pp_at.ensures ∙ ap (index_at a.s2pp.now) e in
+    let small : image a.perms.now a.n_satom l.t a.a.0 < 1024 = omega (arith, c.requires.1.atoms, image-below c.requires.1 l.t a.a.0 h c.requires.2) in (
+      omega arith,
+      subst (λ x. Placing a.n_satom (l.t + 1) a.a.0 a.p.0 a.perms.now a.s2pp.now a.sent.now (set l.sent x (l.t + 1))) (sym e)
+          (placing-more a.n_satom l.t a.a.0 a.p.0 a.perms.now a.s2pp.now a.sent.now l.sent l.invariant.1 small (sym f ∙ eqb-true _ _ (sym c.same_prim.ensures ∙ not-false _ c.if1.false)) (ap (λ x. get_or l.sent x 0) (sym e) ∙ c.if-sent-i-ne0.false)),
+    )
+
+pub returns : goal.returns
+returns c =
+    let a = c.args in
+    let l = c.loop-t in
+    let i : l.t ≡ a.num_trans = omega arith in
+    (λ _. subst (λ k. Placing a.n_satom k a.a.0 a.p.0 a.perms.now a.s2pp.now a.sent.now l.sent) i l.invariant.1, λ _. refl)

@@ -1,0 +1,14 @@
+use mathlib.Core.Path.{◌≡◌, refl, ap, ◌∙◌}
+use Prim.Native.Nat.{ℕ, ◌+◌, ◌*◌, ◌-◌, ◌≤◌}
+use native.Mathlib.Omega.{arith}
+use lib.ListN.{length, take, drop}
+use Rattle.standing.specs.RetireAll.{add_all}
+use Rattle.standing.specs.Steps.{adds-first, adds-more, adds-last}
+use borrow.Author.Rules.{rules}
+use Rattle.standing.proofs.retire.add_all.Given as goal
+
+abbrev pub invariant-loop-i : goal.invariant-loop-i
+invariant-loop-i l = (l.i ≤ l.m) × (l.long ≡ l.count + 14 * l.i) × (length l.lent ≡ length l.initial.lent) × (add_all l.initial.lent l.count (take l.m l.list) ≡ add_all l.lent l.long (drop l.i (take l.m l.list)))
+
+abbrev pub decreases-loop-i : goal.decreases-loop-i
+decreases-loop-i l = l.m - l.i

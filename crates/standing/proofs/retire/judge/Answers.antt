@@ -1,0 +1,96 @@
+use mathlib.Core.Path.{◌≡◌, ap}
+use mathlib.Core.Logic.{inl, inr}
+use native.Mathlib.Omega.{arith}
+use Rattle.roll.specs.StartLaws.{told-no, told_yes}
+use Rattle.roll.specs.HoldingLaws.{is_sized, at-least-eight, count_is}
+use borrow.Author.Tests.{not-true, not-false}
+use Rattle.standing.specs.Steps.{not_7, not_9, not_11, not_8, may_add, the_list, no_add, many, count_small}
+use borrow.Author.Rules.{rules}
+use Rattle.standing.proofs.retire.judge.Goals as goal
+
+pub is_lawful-requires : goal.is_lawful-requires
+is_lawful-requires c = (told_yes c.is_whole_roll.ensures c.if-not-is_whole_roll.false, count_is _ c.count_in-n.ensures.0)
+
+pub look_up-f-requires : goal.look_up-f-requires
+look_up-f-requires c = (told_yes c.is_whole_roll.ensures c.if-not-is_whole_roll.false, omega (arith, count_is _ c.count_in-n.ensures.0))
+
+pub end_of-requires : goal.end_of-requires
+end_of-requires c = (told_yes c.is_whole_roll.ensures c.if-not-is_whole_roll.false, count_is _ c.count_in-n.ensures.0, c.requires.0)
+
+pub gather-m-requires : goal.gather-m-requires
+gather-m-requires c = (told_yes c.is_whole_roll.ensures c.if-not-is_whole_roll.false, count_is _ c.count_in-n.ensures.0, c.requires.1)
+
+pub returns-then-not-is_whole_roll : goal.returns-then-not-is_whole_roll
+returns-then-not-is_whole_roll c =
+    let a = c.args in
+    (not_7 a.lent.now _ a.count a.x 0 c.roll_bytes-b.ensures (told-no c.is_whole_roll.ensures c.if-not-is_whole_roll.true), λ k q. no_add q)
+
+pub returns-then-not-is_lawful : goal.returns-then-not-is_lawful
+returns-then-not-is_lawful c =
+    let a = c.args in (
+      not_9 a.lent.now _ a.count a.x c.count_in-n.result c.roll_bytes-b.ensures (told_yes c.is_whole_roll.ensures c.if-not-is_whole_roll.false) (count_is _ c.count_in-n.ensures.0)
+          (told-no c.is_lawful.ensures c.if-not-is_lawful.true),
+      λ k q. no_add q,
+    )
+
+pub returns-then-not-f : goal.returns-then-not-f
+returns-then-not-f c =
+    let a = c.args in (
+      not_11 a.lent.now _ a.count a.x c.count_in-n.result c.roll_bytes-b.ensures (told_yes c.is_whole_roll.ensures c.if-not-is_whole_roll.false) (count_is _ c.count_in-n.ensures.0)
+          (told_yes c.is_lawful.ensures c.if-not-is_lawful.false) c.look_up-f.ensures (not-true _ c.if-not-f.true),
+      λ k q. no_add q,
+    )
+
+pub returns-then-n-m-gt1000 : goal.returns-then-n-m-gt1000
+returns-then-n-m-gt1000 c =
+    let a = c.args in (
+      not_8 a.lent.now _ a.count a.x c.count_in-n.result c.roll_bytes-b.ensures (told_yes c.is_whole_roll.ensures c.if-not-is_whole_roll.false) (count_is _ c.count_in-n.ensures.0)
+          (told_yes c.is_lawful.ensures c.if-not-is_lawful.false) c.look_up-f.ensures (not-false _ c.if-not-f.false) c.end_of_lem.ensures.0 c.gather-m.ensures.2
+          (inl c.if-n-m-gt1000.true),
+      λ k q. no_add q,
+    )
+
+pub returns-then-long-gt65536 : goal.returns-then-long-gt65536
+returns-then-long-gt65536 c =
+    let a = c.args in (
+      not_8 a.lent.now _ a.count a.x c.count_in-n.result c.roll_bytes-b.ensures (told_yes c.is_whole_roll.ensures c.if-not-is_whole_roll.false) (count_is _ c.count_in-n.ensures.0)
+          (told_yes c.is_lawful.ensures c.if-not-is_lawful.false) c.look_up-f.ensures (not-false _ c.if-not-f.false) c.end_of_lem.ensures.0 c.gather-m.ensures.2
+          (inr (inl c.if-long-gt65536.true)),
+      λ k q. no_add q,
+    )
+
+pub returns-then-lent-long : goal.returns-then-lent-long
+returns-then-lent-long c =
+    let a = c.args in (
+      not_8 a.lent.now _ a.count a.x c.count_in-n.result c.roll_bytes-b.ensures (told_yes c.is_whole_roll.ensures c.if-not-is_whole_roll.false) (count_is _ c.count_in-n.ensures.0)
+          (told_yes c.is_lawful.ensures c.if-not-is_lawful.false) c.look_up-f.ensures (not-false _ c.if-not-f.false) c.end_of_lem.ensures.0 c.gather-m.ensures.2
+          (inr (inr c.if-lent-long.true)),
+      λ k q. no_add q,
+    )
+
+pub returns : goal.returns
+returns c =
+    let a = c.args in (
+      may_add a.lent.now _ a.count a.x c.count_in-n.result c.roll_bytes-b.ensures (told_yes c.is_whole_roll.ensures c.if-not-is_whole_roll.false) (count_is _ c.count_in-n.ensures.0)
+          (told_yes c.is_lawful.ensures c.if-not-is_lawful.false) c.look_up-f.ensures (not-false _ c.if-not-f.false) c.end_of_lem.ensures.0 c.gather-m.ensures.2
+          (omega arith) (omega arith) (omega arith),
+      λ k q. let z : c.gather-m.result ≡ k = ap many q in rw (← z)
+          (the_list a.lent.now _ a.count a.x c.count_in-n.result c.roll_bytes-b.ensures (told_yes c.is_whole_roll.ensures c.if-not-is_whole_roll.false) (count_is _ c.count_in-n.ensures.0)
+          (told_yes c.is_lawful.ensures c.if-not-is_lawful.false) c.look_up-f.ensures (not-false _ c.if-not-f.false) c.end_of_lem.ensures.0 c.gather-m.ensures.1),
+    )
+
+pub overflow_mul-long : goal.overflow_mul-long
+overflow_mul-long c = omega (arith, c.gather-m.ensures.0, count_is _ c.count_in-n.ensures.0, (is_sized _ (told_yes c.is_whole_roll.ensures c.if-not-is_whole_roll.false)).few)
+
+pub overflow_add-long : goal.overflow_add-long
+overflow_add-long c =
+    let a = c.args in
+    let R = told_yes c.is_whole_roll.ensures c.if-not-is_whole_roll.false in
+    omega (arith, c.gather-m.ensures.0, count_is _ c.count_in-n.ensures.0, (is_sized _ R).few, count_small a.lent.now _ a.count c.roll_bytes-b.ensures R)
+
+pub overflow_add-n : goal.overflow_add-n
+overflow_add-n c = omega (arith, c.gather-m.ensures.0, count_is _ c.count_in-n.ensures.0, (is_sized _ (told_yes c.is_whole_roll.ensures c.if-not-is_whole_roll.false)).few)
+
+pub count_in-n-requires : goal.count_in-n-requires
+count_in-n-requires c =
+    (at-least-eight _ (told_yes c.is_whole_roll.ensures c.if-not-is_whole_roll.false), omega arith)

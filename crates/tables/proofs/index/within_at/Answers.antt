@@ -1,0 +1,11 @@
+use mathlib.Core.Path.{◌≡◌, sym, ◌∙◌}
+use borrow.Author.Rules.{rules}
+use Rattle.tables.specs.Conditions.{below}
+use Rattle.tables.proofs.Integers.{handed}
+use Rattle.tables.proofs.index.within_at.Goals as goal
+
+pub returns : goal.returns
+returns c =
+    let a = c.args in
+    let e = handed (λ z. c.is_Within.result ≡ below a.n z) a.t.now a.i c.is_within-arg-1.given c.is_Within.ensures in
+    (λ q. sym e ∙ q, λ q. e ∙ q)

@@ -1,0 +1,30 @@
+use Prim.Native.Nat.{◌≤◌, ◌-◌}
+use native.Mathlib.Omega.{arith}
+use mathlib.Core.Bool.{false}
+use mathlib.Core.Path.{◌≡◌, refl, ◌∙◌}
+use lib.ListN.{length}
+use borrow.Author.Rules.{rules}
+use Rattle.lists.specs.Tab.{times, times_more}
+use Rattle.tables.specs.Compact.{shift_tables}
+use Rattle.transposes_fc3.specs.Fc3Loops.{at3, exchange_at, row_t, idle_2}
+use Rattle.transposes_fc3.proofs.row2.Goals as goal
+
+pub loop-k-init : goal.loop-k-init
+loop-k-init c =
+    (omega arith, refl, idle_2 _ c.requires.trading.sound c.args.p.0 c.args.j.0 c.requires.in_range.0 c.requires.in_range.1 c.args.fc3.now, omega arith)
+
+pub visit2-requires : goal.visit2-requires
+visit2-requires c =
+    let l = c.loop-k in record { trading = rw l.invariant.1 c.requires.trading; atoms = ((c.requires.in_range.0, c.requires.in_range.1, omega arith), l.invariant.3) }
+
+pub loop-k-preserved : goal.loop-k-preserved
+loop-k-preserved c =
+    let l = c.loop-k in
+    (omega arith, c.visit2.auto.fc3 ∙ l.invariant.1, times_more l.k _ _ l.invariant.2 c.visit2.ensures, omega arith)
+
+pub returns : goal.returns
+unfolding row_t
+returns c =
+    let l = c.loop-k in
+    let e : l.k ≡ c.args.n_satom = omega arith in
+    l.invariant.2 ∙ rw e

@@ -1,0 +1,18 @@
+use Prim.Native.Nat.{◌≤◌, ◌-◌}
+use native.Mathlib.Omega.{arith}
+use mathlib.Core.Bool.{false}
+use mathlib.Core.Path.{◌≡◌, refl, ◌∙◌}
+use lib.ListN.{length}
+use borrow.Author.Rules.{rules}
+use Rattle.lists.specs.Tab.{times, times_more}
+use Rattle.tables.specs.Compact.{shift_tables}
+use Rattle.transposes_fc3.specs.Fc3Loops.{at3, exchange_at, row_t, idle_2}
+use Rattle.transposes_fc3.proofs.row2.Given as goal
+
+abbrev pub invariant-loop-k : goal.invariant-loop-k
+invariant-loop-k l =
+    let T = shift_tables l.p2s l.s2pp l.nsym_list l.perms l.n_satom l.n_patom l.num_trans in
+    (l.k ≤ l.n_satom) × (length l.fc3 ≡ length l.initial.fc3) × (l.fc3 ≡ times l.k (λ k. exchange_at false T 2 (at3 T l.p.0 l.j.0 k)) l.initial.fc3) × (l.j.0 ≤ l.k)
+
+abbrev pub decreases-loop-k : goal.decreases-loop-k
+decreases-loop-k l = l.n_satom - l.k

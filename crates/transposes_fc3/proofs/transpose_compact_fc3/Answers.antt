@@ -1,0 +1,26 @@
+use mathlib.Core.Path.{sym, ap, ◌∙◌}
+use mir.Syntax.{w64}
+use mir.ValLaws.{to_z-of_z}
+use borrow.Author.Rules.{rules}
+use Rattle.tables.specs.Compact.{shift_tables, shifts_of}
+use Rattle.transposes_fc3.specs.Fc3.{transposed_by}
+use Rattle.transposes_fc3.specs.Fc3Loops.{transpose_refused, transpose_ready, transpose_done}
+use Rattle.transposes_fc3.proofs.transpose_compact_fc3.Goals as goal
+
+pub returns-then-is_refusal : goal.returns-then-is_refusal
+returns-then-is_refusal c =
+    let a = c.args in
+    let T = shift_tables a.p2s.now a.s2pp.now a.nsym_list.now a.perms.now a.n_satom a.n_patom a.num_trans in
+    transpose_refused a.fc3.now T a.done.now a.t_type c.judge_compact-a.result c.judge_compact-a.ensures (sym c.is_refusal.ensures ∙ c.if-is_refusal.true)
+
+pub transpose-requires : goal.transpose-requires
+transpose-requires c =
+    let a = c.args in
+    let T = shift_tables a.p2s.now a.s2pp.now a.nsym_list.now a.perms.now a.n_satom a.n_patom a.num_trans in
+    transpose_ready a.fc3.now T a.done.now a.t_type c.judge_compact-a.result c.judge_compact-a.ensures (sym c.is_refusal.ensures ∙ c.if-is_refusal.false)
+
+pub returns : goal.returns
+returns c =
+    let a = c.args in
+    let T = shift_tables a.p2s.now a.s2pp.now a.nsym_list.now a.perms.now a.n_satom a.n_patom a.num_trans in
+    transpose_done a.fc3.now T a.done.now a.t_type c.judge_compact-a.result c.judge_compact-a.ensures (sym c.is_refusal.ensures ∙ c.if-is_refusal.false) (c.transpose.ensures ∙ ap (λ t. transposed_by (shifts_of T) t a.fc3.now) (to_z-of_z w64 a.t_type c.ranges.t_type)) c.clear_bytes.ensures

@@ -1,0 +1,13 @@
+use Prim.Native.Nat.{◌+◌, ◌≤◌, ◌<◌, ◌-◌}
+use native.Mathlib.Omega.{arith}
+use mathlib.Core.Path.{◌≡◌}
+use lib.ListN.{length, get_or, length-set}
+use borrow.Author.Rules.{rules}
+use Rattle.transposes_fc4.specs.Pairs.{from_pairs, Permuted, none-traded, one-traded, all-permuted}
+use Rattle.transposes_fc4.proofs.exchanging.permute_pairs.Given as goal
+
+abbrev pub invariant-loop-n : goal.invariant-loop-n
+invariant-loop-n l = (l.n ≤ 27) × Permuted (from_pairs l.m l.n) l.b l.initial.fc4 l.fc4
+
+abbrev pub decreases-loop-n : goal.decreases-loop-n
+decreases-loop-n l = 27 - l.n

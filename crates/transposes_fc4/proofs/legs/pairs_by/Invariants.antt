@@ -1,0 +1,18 @@
+use Prim.Native.Nat.{ℕ, ◌≤◌, ◌<◌, ◌-◌}
+use native.Mathlib.Omega.{arith}
+use mathlib.Core.Path.{◌≡◌, refl, ap, ◌∙◌}
+use lib.ListN.{length, get_or, length-set}
+use borrow.Author.Count.{below_none}
+use borrow.Author.Rules.{rules}
+use Rattle.lists.specs.Tab.{fill_more, is_tab}
+use Rattle.blocks.specs.Permuted.{permuted}
+use Rattle.positions.specs.Positions.{permutation_at}
+use Rattle.transposes_fc4.specs.Rows.{first_pairs, taken_to, first_in_lem}
+use Rattle.transposes_fc4.proofs.legs.pairs_by.Given as goal
+
+abbrev pub invariant-loop-n : goal.invariant-loop-n
+invariant-loop-n l =
+    (l.n ≤ 54) × (length l.m ≡ 54) × ((j : ℕ) → j < l.n → get_or l.m j 0 ≡ permuted 3 (permutation_at l.s) (get_or first_pairs j 0))
+
+abbrev pub decreases-loop-n : goal.decreases-loop-n
+decreases-loop-n l = 54 - l.n
