@@ -96,11 +96,17 @@ def names(root):
 def renamed(text, table, fields=None):
     """The text of a file of specs/ or proofs/; with fields, of a proof of a function, where a name after a dot is the program's unless it is a field."""
 
+    aliases = set(re.findall(r"(?m)^use Rattle\.(?!std\.)[^\s{]* as (\S+)$", text))
+
+    def aliased(at):
+        head = re.search(r"(?:^|[\s(\[{,])([^\s(\[{,.]+)\.$", text[max(0, at - 60):at])
+        return bool(head) and head[1] in aliases and head[1] != "tie"
+
     def one(m):
         t = m[0]
         if t.startswith(("--", "//")):
             return re.sub(r"`(" + IDENT + r")`", lambda k: "`" + table.get(k[1], k[1]) + "`", t)
-        if fields is not None and m.start() and text[m.start() - 1] == "." and t not in fields:
+        if fields is not None and m.start() and text[m.start() - 1] == "." and t not in fields and not aliased(m.start()):
             return t
         return table.get(t, t)
 

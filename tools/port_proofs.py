@@ -307,6 +307,8 @@ def turn(path, of, own, calls, module):
                     body2 = as_record(body, names)
                     if body2:
                         body = (" " if not body.startswith("\n") else "\n    ") + body2.strip()
+            body = body if body[:1] in " \n" else " " + body
+            body = re.sub(r"^\n(?=\S)", "\n    ", body)
             ans.append("\n".join([*comment, f"pub {new} : goal.{new}", *unfold, f"{new} {'c' if params else ''}".rstrip() + f" ={body}"]))
             continue
         if re.search(r": \{M : Type 1\} → statement", d):

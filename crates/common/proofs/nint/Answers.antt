@@ -37,10 +37,10 @@ end : (c : tie.Then2) → nint (x c.before.before) ≡ cond (sign_of (b c.before
 end c = nint_end (x c.before.before) (held c.before.before) (number c.before) c.if2.true
 
 pub returns-then-b-ge9223372036854775808 : goal.returns-then-b-ge9223372036854775808
-returns-then-b-ge9223372036854775808 c =sym (end c ∙ ap (λ (s : Bool). cond s (neg_ℤ (pos (2 ^ 63))) (pos (2 ^ 63 - 1))) (le-leb (2 ^ 63) (b c) c.if-b-ge9223372036854775808.true))
+returns-then-b-ge9223372036854775808 c = sym (end c ∙ ap (λ (s : Bool). cond s (neg_ℤ (pos (2 ^ 63))) (pos (2 ^ 63 - 1))) (le-leb (2 ^ 63) (b c) c.if-b-ge9223372036854775808.true))
 
 pub returns-else-b-ge9223372036854775808 : goal.returns-else-b-ge9223372036854775808
-returns-else-b-ge9223372036854775808 c =sym (end c ∙ ap (λ (s : Bool). cond s (neg_ℤ (pos (2 ^ 63))) (pos (2 ^ 63 - 1))) (lt-leb (2 ^ 63) (b c) c.if-b-ge9223372036854775808.false))
+returns-else-b-ge9223372036854775808 c = sym (end c ∙ ap (λ (s : Bool). cond s (neg_ℤ (pos (2 ^ 63))) (pos (2 ^ 63 - 1))) (lt-leb (2 ^ 63) (b c) c.if-b-ge9223372036854775808.false))
 
 pub whole_size-n-requires : goal.whole_size-n-requires
 whole_size-n-requires c = c.if-e-lt1075.true

@@ -51,19 +51,19 @@ overflow_cast-v c = record { sfits = lt_of_le_of_lt c.whole_size.ensures.1 (lit<
 
 pub int_to_float-v : goal.int_to_float-v
 unfolding in_float
-int_to_float-v c =subst (λ (z : ℤ). T (in_float binary64 z)) (sym (z-is c)) (le→leb (n c) (2 ^ 53) c.whole_size.ensures.1)
+int_to_float-v c = subst (λ (z : ℤ). T (in_float binary64 z)) (sym (z-is c)) (le→leb (n c) (2 ^ 53) c.whole_size.ensures.1)
 
 pub float_to_bits-result : goal.float_to_bits-result
-float_to_bits-result c =v-number (n c) (to_z w64 (n c)) (z-is c) c.whole_size.ensures.1
+float_to_bits-result c = v-number (n c) (to_z w64 (n c)) (z-is c) c.whole_size.ensures.1
 
 pub overflow_mul-result : goal.overflow_mul-result
 overflow_mul-result c = omega (arith, wide (start c))
 
 pub overflow_add-result : goal.overflow_add-result
-overflow_add-result c =omega (arith, wide (start c), v-small (n c) (to_z w64 (n c)) (z-is c) c.whole_size.ensures.1)
+overflow_add-result c = omega (arith, wide (start c), v-small (n c) (to_z w64 (n c)) (z-is c) c.whole_size.ensures.1)
 
 pub float_from_bits-result : goal.float_from_bits-result
-float_from_bits-result c =v_pattern (n c) (to_z w64 (n c)) (z-is c) c.whole_size.ensures.1 (b (start c)) (wide (start c))
+float_from_bits-result c = v_pattern (n c) (to_z w64 (n c)) (z-is c) c.whole_size.ensures.1 (b (start c)) (wide (start c))
 
 pub returns : goal.returns
 returns c =

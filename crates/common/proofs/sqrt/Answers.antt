@@ -24,7 +24,7 @@ pub float_to_bits-b : goal.float_to_bits-b
 float_to_bits-b c = above_number (x c) (up c)
 
 pub returns-then-e-ge2047 : goal.returns-then-e-ge2047
-returns-then-e-ge2047 c =at_infinity (x c) (held c) (up c) c.if-e-ge2047.true
+returns-then-e-ge2047 c = at_infinity (x c) (held c) (up c) c.if-e-ge2047.true
 
 -- how far the digits of a subnormal value move up
 abbrev digits : tie.Then3 → ℕ
@@ -50,10 +50,10 @@ root_float-requires c =
     let e = whole-shift (x c) (held c) (up c) c.if-e-eq0.true in record { fact_1 = subst (λ (z : ℕ). 2 ^ 52 ≤ z) (sym e) (move c).2.1; fact_2 = subst (λ (z : ℕ). z < 2 ^ 53) (sym e) (move c).2.2; fact_3 = omega arith }
 
 pub returns-then-e-eq0 : goal.returns-then-e-eq0
-returns-then-e-eq0 c =c.root_float.ensures ∙ at_subnormal (x c) (held c) (up c) c.if-e-eq0.true
+returns-then-e-eq0 c = c.root_float.ensures ∙ at_subnormal (x c) (held c) (up c) c.if-e-eq0.true
 
 pub returns-then-x : goal.returns-then-x
-returns-then-x c =c.root_float-then-x.ensures ∙ at_normal (x c) (held c) (up c) c.if-e-ge2047.false c.if-e-eq0.false
+returns-then-x c = c.root_float-then-x.ensures ∙ at_normal (x c) (held c) (up c) c.if-e-ge2047.false c.if-e-eq0.false
 
 pub returns-then-x-2 : goal.returns-then-x-2
 returns-then-x-2 c = at_zero (x c) c.if-x-2.true

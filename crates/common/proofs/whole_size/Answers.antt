@@ -26,7 +26,7 @@ overflow_add-result c = omega (arith, div-le_self (2 ^ 52 + digits_of (b c)) (2 
 
 pub returns : goal.returns
 returns c =
-(
+    (
       half_at_lem (field_of (b c)) (digits_of (b c)) (k c) (digits_lt (b c)) c.requires (k_is c),
       omega (arith, digits_lt (b c), div-le_self (2 ^ 52 + digits_of (b c)) (2 ^ k c)),
     )

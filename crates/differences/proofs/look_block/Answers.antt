@@ -10,7 +10,7 @@ pub loop-k-init : goal.loop-k-init
 loop-k-init c = (omega arith, times_none _ _)
 
 pub look_place-more-requires : goal.look_place-more-requires
-look_place-more-requires c =(c.requires.0, c.loop-k-test.true, c.requires.1)
+look_place-more-requires c = (c.requires.0, c.loop-k-test.true, c.requires.1)
 
 pub loop-k-preserved : goal.loop-k-preserved
 loop-k-preserved c = let l = c.loop-k in (omega arith, times_more l.k _ _ l.invariant.1 c.look_place-more.ensures)

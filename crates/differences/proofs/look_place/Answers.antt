@@ -11,10 +11,10 @@ use Rattle.differences.specs.Laws.{look_place, few-places}
 use Rattle.differences.proofs.look_place.Goals as goal
 
 pub own-here-requires : goal.own-here-requires
-own-here-requires c =in_here c.requires.0 c.args.k c.requires.1
+own-here-requires c = in_here c.requires.0 c.args.k c.requires.1
 
 pub index_of-place-requires : goal.index_of-place-requires
-index_of-place-requires c =let h = in_here c.requires.0 c.args.k c.requires.1 in omega (arith, h, c.requires.2)
+index_of-place-requires c = let h = in_here c.requires.0 c.args.k c.requires.1 in omega (arith, h, c.requires.2)
 
 pub loop-i-init : goal.loop-i-init
 loop-i-init c = (omega arith, times_none _ _)

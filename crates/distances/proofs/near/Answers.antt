@@ -5,40 +5,40 @@ use Rattle.distances.specs.ToldLaws.{near-told}
 use Rattle.distances.proofs.near.Goals as goal
 
 pub index_of-requires : goal.index_of-requires
-index_of-requires c =omega (arith, c.requires.0, c.requires.1)
+index_of-requires c = omega (arith, c.requires.0, c.requires.1)
 
 pub index_of-requires-2 : goal.index_of-requires-2
-index_of-requires-2 c =omega (arith, c.requires.0, c.requires.1)
+index_of-requires-2 c = omega (arith, c.requires.0, c.requires.1)
 
 pub index_of-requires-3 : goal.index_of-requires-3
-index_of-requires-3 c =omega (arith, c.requires.0, c.requires.1)
+index_of-requires-3 c = omega (arith, c.requires.0, c.requires.1)
 
 pub index_of-requires-4 : goal.index_of-requires-4
-index_of-requires-4 c =omega (arith, c.requires.0, c.requires.1)
+index_of-requires-4 c = omega (arith, c.requires.0, c.requires.1)
 
 pub index_of-requires-5 : goal.index_of-requires-5
-index_of-requires-5 c =omega (arith, c.requires.0, c.requires.1)
+index_of-requires-5 c = omega (arith, c.requires.0, c.requires.1)
 
 pub index_of-requires-6 : goal.index_of-requires-6
-index_of-requires-6 c =omega (arith, c.requires.0, c.requires.1)
+index_of-requires-6 c = omega (arith, c.requires.0, c.requires.1)
 
 pub bounds-pos-index_of : goal.bounds-pos-index_of
-bounds-pos-index_of c =rw c.index_of.ensures (omega (arith, c.requires.0, c.requires.1))
+bounds-pos-index_of c = rw c.index_of.ensures (omega (arith, c.requires.0, c.requires.1))
 
 pub bounds-rot_pos-index_of : goal.bounds-rot_pos-index_of
-bounds-rot_pos-index_of c =rw c.index_of-2.ensures (omega (arith, c.requires.0, c.requires.1))
+bounds-rot_pos-index_of c = rw c.index_of-2.ensures (omega (arith, c.requires.0, c.requires.1))
 
 pub bounds-pos-index_of-2 : goal.bounds-pos-index_of-2
-bounds-pos-index_of-2 c =rw c.index_of-3.ensures (omega (arith, c.requires.0, c.requires.1))
+bounds-pos-index_of-2 c = rw c.index_of-3.ensures (omega (arith, c.requires.0, c.requires.1))
 
 pub bounds-rot_pos-index_of-2 : goal.bounds-rot_pos-index_of-2
-bounds-rot_pos-index_of-2 c =rw c.index_of-4.ensures (omega (arith, c.requires.0, c.requires.1))
+bounds-rot_pos-index_of-2 c = rw c.index_of-4.ensures (omega (arith, c.requires.0, c.requires.1))
 
 pub bounds-pos-index_of-3 : goal.bounds-pos-index_of-3
-bounds-pos-index_of-3 c =rw c.index_of-5.ensures (omega (arith, c.requires.0, c.requires.1))
+bounds-pos-index_of-3 c = rw c.index_of-5.ensures (omega (arith, c.requires.0, c.requires.1))
 
 pub bounds-rot_pos-index_of-3 : goal.bounds-rot_pos-index_of-3
-bounds-rot_pos-index_of-3 c =rw c.index_of-6.ensures (omega (arith, c.requires.0, c.requires.1))
+bounds-rot_pos-index_of-3 c = rw c.index_of-6.ensures (omega (arith, c.requires.0, c.requires.1))
 
 pub shorter-requires : goal.shorter-requires
 shorter-requires c = c.requires.2.reaches

@@ -15,7 +15,7 @@ pub loop-i-init : goal.loop-i-init
 loop-i-init c = (omega arith, refl, times_none _ _)
 
 pub index_of-requires : goal.index_of-requires
-index_of-requires c =row-start c.requires.0 c.loop-i.i c.loop-i-test.true
+index_of-requires c = row-start c.requires.0 c.loop-i.i c.loop-i-test.true
 
 pub line_sums-s-requires : goal.line_sums-s-requires
 line_sums-s-requires c =

@@ -10,7 +10,7 @@ use borrow.Author.Rules.{rules}
 use Rattle.standing.proofs.end_of.Goals as goal
 
 pub loop-i-init : goal.loop-i-init
-loop-i-init c =(omega arith, start_first c.args.b.now, carried_none c.args.b.now c.args.x, c.requires.2)
+loop-i-init c = (omega arith, start_first c.args.b.now, carried_none c.args.b.now c.args.x, c.requires.2)
 
 pub replacer-y-requires : goal.replacer-y-requires
 replacer-y-requires c =

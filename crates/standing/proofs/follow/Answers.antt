@@ -5,13 +5,13 @@ use borrow.Author.Rules.{rules}
 use Rattle.standing.proofs.follow.Goals as goal
 
 pub look_up-f-requires : goal.look_up-f-requires
-look_up-f-requires c =(c.requires.0, omega (arith, c.requires.1))
+look_up-f-requires c = (c.requires.0, omega (arith, c.requires.1))
 
 pub look_up-e-requires : goal.look_up-e-requires
-look_up-e-requires c =(c.requires.0, omega (arith, c.requires.1))
+look_up-e-requires c = (c.requires.0, omega (arith, c.requires.1))
 
 pub end_of-last-requires : goal.end_of-last-requires
-end_of-last-requires c =(c.requires.0, c.requires.1, c.requires.2)
+end_of-last-requires c = (c.requires.0, c.requires.1, c.requires.2)
 
 pub returns-then-not-f : goal.returns-then-not-f
 returns-then-not-f c =

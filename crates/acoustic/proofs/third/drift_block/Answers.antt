@@ -13,7 +13,7 @@ use borrow.Author.Rules.{rules}
 use Rattle.acoustic.proofs.third.drift_block.Goals as goal
 
 pub row_of-requires : goal.row_of-requires
-row_of-requires c =pos_of c.args.n_satom c.args.n_patom c.args.r c.requires.2
+row_of-requires c = pos_of c.args.n_satom c.args.n_patom c.args.r c.requires.2
 
 pub p2s_at-i-requires : goal.p2s_at-i-requires
 p2s_at-i-requires c =
@@ -22,7 +22,7 @@ p2s_at-i-requires c =
     rw c.row_of.ensures (read c.requires.0.fit.p2s-fit (a.r / a.n_satom) ((div-lt_iff_lt-mul h).1 c.requires.2)).0
 
 pub column_of-requires : goal.column_of-requires
-column_of-requires c =pos_of c.args.n_satom c.args.n_patom c.args.r c.requires.2
+column_of-requires c = pos_of c.args.n_satom c.args.n_patom c.args.r c.requires.2
 
 pub index_of-t-requires : goal.index_of-t-requires
 index_of-t-requires c =

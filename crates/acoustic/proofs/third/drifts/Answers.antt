@@ -19,13 +19,13 @@ unfolding in_float
 int_to_float-inv_n c = le→leb c.args.n_satom (2 ^ 53) (omega (arith, c.requires.0.ready.fit.satoms))
 
 pub overflow_mul-count : goal.overflow_mul-count
-overflow_mul-count c =let g = mul-le-mul c.requires.0.ready.fit.patoms c.requires.0.ready.fit.satoms in omega (arith, g)
+overflow_mul-count c = let g = mul-le-mul c.requires.0.ready.fit.patoms c.requires.0.ready.fit.satoms in omega (arith, g)
 
 pub loop-r-init : goal.loop-r-init
 loop-r-init c = (omega arith, refl, times_none _ _)
 
 pub drift_block-v-requires : goal.drift_block-v-requires
-drift_block-v-requires c =(c.requires.0.ready, c.requires.1, c.loop-r-test.true)
+drift_block-v-requires c = (c.requires.0.ready, c.requires.1, c.loop-r-test.true)
 
 pub write27-requires : goal.write27-requires
 write27-requires c =

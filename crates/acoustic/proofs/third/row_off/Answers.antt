@@ -16,7 +16,7 @@ use borrow.Author.Rules.{rules}
 use Rattle.acoustic.proofs.third.row_off.Goals as goal
 
 pub row_of-requires : goal.row_of-requires
-row_of-requires c =pos_of c.args.n_satom c.args.n_patom c.args.row c.requires.2
+row_of-requires c = pos_of c.args.n_satom c.args.n_patom c.args.row c.requires.2
 
 pub p2s_at-i-requires : goal.p2s_at-i-requires
 p2s_at-i-requires c =
@@ -25,7 +25,7 @@ p2s_at-i-requires c =
     rw c.row_of.ensures (read c.requires.0.ready.fit.p2s-fit (a.row / a.n_satom) ((div-lt_iff_lt-mul h).1 c.requires.2)).0
 
 pub column_of-requires : goal.column_of-requires
-column_of-requires c =pos_of c.args.n_satom c.args.n_patom c.args.row c.requires.2
+column_of-requires c = pos_of c.args.n_satom c.args.n_patom c.args.row c.requires.2
 
 pub loop-k-init : goal.loop-k-init
 loop-k-init c = (omega arith, refl, times_none _ _)

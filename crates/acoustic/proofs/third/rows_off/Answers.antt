@@ -11,13 +11,13 @@ use borrow.Author.Rules.{rules}
 use Rattle.acoustic.proofs.third.rows_off.Goals as goal
 
 pub overflow_mul-count : goal.overflow_mul-count
-overflow_mul-count c =let g = mul-le-mul c.requires.0.ready.fit.patoms c.requires.0.ready.fit.satoms in omega (arith, g)
+overflow_mul-count c = let g = mul-le-mul c.requires.0.ready.fit.patoms c.requires.0.ready.fit.satoms in omega (arith, g)
 
 pub loop-row-init : goal.loop-row-init
 loop-row-init c = (omega arith, refl, times_none _ _)
 
 pub row_off-requires : goal.row_off-requires
-row_off-requires c =(rw c.loop-row.invariant.1 c.requires.0, c.requires.1, c.loop-row-test.true)
+row_off-requires c = (rw c.loop-row.invariant.1 c.requires.0, c.requires.1, c.loop-row-test.true)
 
 pub overflow_step-row : goal.overflow_step-row
 overflow_step-row c =

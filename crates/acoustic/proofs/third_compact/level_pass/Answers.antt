@@ -9,7 +9,7 @@ pub legs_off-requires : goal.legs_off-requires
 legs_off-requires c = c.requires.room
 
 pub symmetrize-requires : goal.symmetrize-requires
-symmetrize-requires c =rw c.legs_off.auto.fc3 (compact_ready _ _ _ _ c.requires)
+symmetrize-requires c = rw c.legs_off.auto.fc3 (compact_ready _ _ _ _ c.requires)
 
 pub returns : goal.returns
 returns c =

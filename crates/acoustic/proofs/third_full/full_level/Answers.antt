@@ -8,7 +8,7 @@ use borrow.Author.Rules.{rules}
 use Rattle.acoustic.proofs.third_full.full_level.Goals as goal
 
 pub symmetrize-requires : goal.symmetrize-requires
-symmetrize-requires c =rw c.full_legs_off.auto.fc3 (tiles_ready c.args.n _ _ c.requires.0 c.requires.1)
+symmetrize-requires c = rw c.full_legs_off.auto.fc3 (tiles_ready c.args.n _ _ c.requires.0 c.requires.1)
 
 pub returns : goal.returns
 returns c =

@@ -7,10 +7,10 @@ use Rattle.audits.specs.Later.{Next, next-none, next_more}
 use Rattle.audits.proofs.fourth.next.Goals as goal
 
 pub loop-r-init : goal.loop-r-init
-loop-r-init c =next-none c.args.n c.args.b c.args.count c.requires.0
+loop-r-init c = next-none c.args.n c.args.b c.args.count c.requires.0
 
 pub falls-requires : goal.falls-requires
-falls-requires c =let h = c.loop-r-test.true in c.requires.2 (omega arith)
+falls-requires c = let h = c.loop-r-test.true in c.requires.2 (omega arith)
 
 pub returns-then-not-falls : goal.returns-then-not-falls
 returns-then-not-falls c = c.loop-r.invariant

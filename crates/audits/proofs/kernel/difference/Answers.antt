@@ -4,10 +4,10 @@ use Rattle.audits.specs.Kernel.{another, difference_in, readable, in_here, order
 use Rattle.audits.proofs.kernel.difference.Goals as goal
 
 pub first_order-i-requires : goal.first_order-i-requires
-first_order-i-requires c =(c.requires.0, c.requires.1)
+first_order-i-requires c = (c.requires.0, c.requires.1)
 
 pub own-here-requires : goal.own-here-requires
-own-here-requires c =in_here c.requires.0 c.args.k c.requires.1
+own-here-requires c = in_here c.requires.0 c.args.k c.requires.1
 
 pub read-there-requires : goal.read-there-requires
 read-there-requires c =
@@ -17,7 +17,7 @@ read-there-requires c =
     readable c.requires.0 _ c.args.k h c.requires.1
 
 pub index_of-place-requires : goal.index_of-place-requires
-index_of-place-requires c =let h = in_here c.requires.0 c.args.k c.requires.1 in omega arith
+index_of-place-requires c = let h = in_here c.requires.0 c.args.k c.requires.1 in omega arith
 
 pub returns : goal.returns
 unfolding difference_in

@@ -14,7 +14,7 @@ pub loop-i-init : goal.loop-i-init
 loop-i-init c = (omega arith, below_none _)
 
 pub own-requires : goal.own-requires
-own-requires c =in_here c.requires.0 c.args.k c.requires.1
+own-requires c = in_here c.requires.0 c.args.k c.requires.1
 
 pub read-requires : goal.read-requires
 read-requires c =

@@ -8,7 +8,7 @@ use Rattle.audits.specs.Kernel.{another, position_to, first-none, one_more}
 use Rattle.audits.proofs.kernel.first_position.Goals as goal
 
 pub loop-i-init : goal.loop-i-init
-loop-i-init c =(c.requires.more, first-none c.requires c.args.fc.now)
+loop-i-init c = (c.requires.more, first-none c.requires c.args.fc.now)
 
 pub first_unlike-until-requires : goal.first_unlike-until-requires
 first_unlike-until-requires c = (c.requires, c.loop-i-test.true, c.loop-i.invariant.1.within)

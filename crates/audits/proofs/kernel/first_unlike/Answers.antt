@@ -13,7 +13,7 @@ pub loop-k-init : goal.loop-k-init
 loop-k-init c = (omega arith, below_none _)
 
 pub own-requires : goal.own-requires
-own-requires c =in_here c.requires.0 c.loop-k.k (omega (arith, c.requires.2))
+own-requires c = in_here c.requires.0 c.loop-k.k (omega (arith, c.requires.2))
 
 pub read-requires : goal.read-requires
 read-requires c =

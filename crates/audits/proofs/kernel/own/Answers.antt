@@ -9,4 +9,4 @@ pub index_of-requires : goal.index_of-requires
 index_of-requires c = let h = c.requires in omega arith
 
 pub returns : goal.returns
-returns c =ap (λ q. get_or c.args.fc.now q nan) c.index_of.ensures
+returns c = ap (λ q. get_or c.args.fc.now q nan) c.index_of.ensures

@@ -6,7 +6,7 @@ use borrow.Author.Rules.{rules}
 use Rattle.audits.proofs.kernel.position.Goals as goal
 
 pub index_of-requires : goal.index_of-requires
-index_of-requires c =let g = c.requires.0 in let h = c.requires.1 in omega arith
+index_of-requires c = let g = c.requires.0 in let h = c.requires.1 in omega arith
 
 pub overflow_cast-result : goal.overflow_cast-result
 overflow_cast-result c =
@@ -14,4 +14,4 @@ overflow_cast-result c =
     omega (arith, g)
 
 pub returns : goal.returns
-returns c =ap (λ q. get_or c.args.t.now q 0) c.index_of.ensures
+returns c = ap (λ q. get_or c.args.t.now q 0) c.index_of.ensures

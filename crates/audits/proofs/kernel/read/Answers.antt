@@ -7,10 +7,10 @@ use Rattle.audits.specs.Kernel.{there}
 use Rattle.audits.proofs.kernel.read.Goals as goal
 
 pub position-requires : goal.position-requires
-position-requires c =(c.requires.1, c.requires.2, c.requires.3)
+position-requires c = (c.requires.1, c.requires.2, c.requires.3)
 
 pub own-requires : goal.own-requires
-own-requires c =rw c.position.ensures c.requires.4
+own-requires c = rw c.position.ensures c.requires.4
 
 pub returns : goal.returns
 unfolding there

@@ -6,13 +6,13 @@ use Rattle.audits.specs.SecondScanLaws.{same-atoms, read-tables, other-below, sa
 use Rattle.audits.proofs.second.group_blocks.Goals as goal
 
 pub column_of-requires : goal.column_of-requires
-column_of-requires c =satoms_pos _ c.requires.0 c.args.b c.requires.1
+column_of-requires c = satoms_pos _ c.requires.0 c.args.b c.requires.1
 
 pub row_of-requires : goal.row_of-requires
-row_of-requires c =satoms_pos _ c.requires.0 c.args.b c.requires.1
+row_of-requires c = satoms_pos _ c.requires.0 c.args.b c.requires.1
 
 pub p2s_at-i-requires : goal.p2s_at-i-requires
-p2s_at-i-requires c =rw c.row_of.ensures (p2s-read _ c.requires.0 c.args.b c.requires.1).0
+p2s_at-i-requires c = rw c.row_of.ensures (p2s-read _ c.requires.0 c.args.b c.requires.1).0
 
 pub stored_block2-ij-requires : goal.stored_block2-ij-requires
 stored_block2-ij-requires c =

@@ -6,16 +6,16 @@ use Rattle.audits.specs.ThirdScanLaws.{same-atoms, read-tables, others_below, sa
 use Rattle.audits.proofs.third.group_blocks.Goals as goal
 
 pub column_of-requires : goal.column_of-requires
-column_of-requires c =satoms_pos _ c.requires.0 c.args.b c.requires.1
+column_of-requires c = satoms_pos _ c.requires.0 c.args.b c.requires.1
 
 pub row_of-pj-requires : goal.row_of-pj-requires
-row_of-pj-requires c =satoms_pos _ c.requires.0 c.args.b c.requires.1
+row_of-pj-requires c = satoms_pos _ c.requires.0 c.args.b c.requires.1
 
 pub column_of-requires-2 : goal.column_of-requires-2
-column_of-requires-2 c =satoms_pos _ c.requires.0 c.args.b c.requires.1
+column_of-requires-2 c = satoms_pos _ c.requires.0 c.args.b c.requires.1
 
 pub row_of-requires : goal.row_of-requires
-row_of-requires c =satoms_pos _ c.requires.0 c.args.b c.requires.1
+row_of-requires c = satoms_pos _ c.requires.0 c.args.b c.requires.1
 
 pub p2s_at-i-requires : goal.p2s_at-i-requires
 p2s_at-i-requires c =

@@ -8,22 +8,22 @@ use borrow.Author.Rules.{rules}
 use Rattle.crystal.proofs.fourth.image_block.Goals as goal
 
 pub column_of-requires : goal.column_of-requires
-column_of-requires c = images.satoms-pos _ c.requires.0 c.args.b c.requires.2
+column_of-requires c = images.satoms_pos _ c.requires.0 c.args.b c.requires.2
 
 pub row_of-pjk-requires : goal.row_of-pjk-requires
-row_of-pjk-requires c =images.satoms-pos _ c.requires.0 c.args.b c.requires.2
+row_of-pjk-requires c = images.satoms_pos _ c.requires.0 c.args.b c.requires.2
 
 pub column_of-requires-2 : goal.column_of-requires-2
-column_of-requires-2 c =images.satoms-pos _ c.requires.0 c.args.b c.requires.2
+column_of-requires-2 c = images.satoms_pos _ c.requires.0 c.args.b c.requires.2
 
 pub row_of-pj-requires : goal.row_of-pj-requires
-row_of-pj-requires c =images.satoms-pos _ c.requires.0 c.args.b c.requires.2
+row_of-pj-requires c = images.satoms_pos _ c.requires.0 c.args.b c.requires.2
 
 pub column_of-requires-3 : goal.column_of-requires-3
-column_of-requires-3 c =images.satoms-pos _ c.requires.0 c.args.b c.requires.2
+column_of-requires-3 c = images.satoms_pos _ c.requires.0 c.args.b c.requires.2
 
 pub row_of-requires : goal.row_of-requires
-row_of-requires c =images.satoms-pos _ c.requires.0 c.args.b c.requires.2
+row_of-requires c = images.satoms_pos _ c.requires.0 c.args.b c.requires.2
 
 pub p2s_at-i-requires : goal.p2s_at-i-requires
 p2s_at-i-requires c =
@@ -35,7 +35,7 @@ p2s_at-i-requires c =
 pub perms_at-x-requires : goal.perms_at-x-requires
 perms_at-x-requires c =
     let a = c.args in
-    let h = images.satoms-pos _ c.requires.0 a.b c.requires.2 in
+    let h = images.satoms_pos _ c.requires.0 a.b c.requires.2 in
     let er : c.row_of-pj.result ≡ a.b / a.n_satom / a.n_satom = c.row_of-pj.ensures ∙ ap (λ x. x / a.n_satom) c.row_of-pjk.ensures in
     let ep : c.row_of.result ≡ a.b / a.n_satom / a.n_satom / a.n_satom = c.row_of.ensures ∙ ap (λ x. x / a.n_satom) er in
     let i : c.p2s_at-i.result.0 < a.n_satom = rw (c.p2s_at-i.ensures, ep) (images.p2s-read _ c.requires.0 a.b c.requires.2).1 in
@@ -47,7 +47,7 @@ perms_at-x-requires c =
 pub perms_at-y-requires : goal.perms_at-y-requires
 perms_at-y-requires c =
     let a = c.args in
-    let h = images.satoms-pos _ c.requires.0 a.b c.requires.2 in
+    let h = images.satoms_pos _ c.requires.0 a.b c.requires.2 in
     let er : c.row_of-pj.result ≡ a.b / a.n_satom / a.n_satom = c.row_of-pj.ensures ∙ ap (λ x. x / a.n_satom) c.row_of-pjk.ensures in
     let ep : c.row_of.result ≡ a.b / a.n_satom / a.n_satom / a.n_satom = c.row_of.ensures ∙ ap (λ x. x / a.n_satom) er in
     let i : c.p2s_at-i.result.0 < a.n_satom = rw (c.p2s_at-i.ensures, ep) (images.p2s-read _ c.requires.0 a.b c.requires.2).1 in
@@ -59,7 +59,7 @@ perms_at-y-requires c =
 pub perms_at-z-requires : goal.perms_at-z-requires
 perms_at-z-requires c =
     let a = c.args in
-    let h = images.satoms-pos _ c.requires.0 a.b c.requires.2 in
+    let h = images.satoms_pos _ c.requires.0 a.b c.requires.2 in
     let er : c.row_of-pj.result ≡ a.b / a.n_satom / a.n_satom = c.row_of-pj.ensures ∙ ap (λ x. x / a.n_satom) c.row_of-pjk.ensures in
     let ep : c.row_of.result ≡ a.b / a.n_satom / a.n_satom / a.n_satom = c.row_of.ensures ∙ ap (λ x. x / a.n_satom) er in
     let i : c.p2s_at-i.result.0 < a.n_satom = rw (c.p2s_at-i.ensures, ep) (images.p2s-read _ c.requires.0 a.b c.requires.2).1 in
@@ -71,7 +71,7 @@ perms_at-z-requires c =
 pub perms_at-w-requires : goal.perms_at-w-requires
 perms_at-w-requires c =
     let a = c.args in
-    let h = images.satoms-pos _ c.requires.0 a.b c.requires.2 in
+    let h = images.satoms_pos _ c.requires.0 a.b c.requires.2 in
     let er : c.row_of-pj.result ≡ a.b / a.n_satom / a.n_satom = c.row_of-pj.ensures ∙ ap (λ x. x / a.n_satom) c.row_of-pjk.ensures in
     let ep : c.row_of.result ≡ a.b / a.n_satom / a.n_satom / a.n_satom = c.row_of.ensures ∙ ap (λ x. x / a.n_satom) er in
     let i : c.p2s_at-i.result.0 < a.n_satom = rw (c.p2s_at-i.ensures, ep) (images.p2s-read _ c.requires.0 a.b c.requires.2).1 in
@@ -83,7 +83,7 @@ perms_at-w-requires c =
 pub stored_block4-requires : goal.stored_block4-requires
 stored_block4-requires c =
     let a = c.args in
-    let h = images.satoms-pos _ c.requires.0 a.b c.requires.2 in
+    let h = images.satoms_pos _ c.requires.0 a.b c.requires.2 in
     let er : c.row_of-pj.result ≡ a.b / a.n_satom / a.n_satom = c.row_of-pj.ensures ∙ ap (λ x. x / a.n_satom) c.row_of-pjk.ensures in
     let ep : c.row_of.result ≡ a.b / a.n_satom / a.n_satom / a.n_satom = c.row_of.ensures ∙ ap (λ x. x / a.n_satom) er in
     let i : c.p2s_at-i.result.0 < a.n_satom = rw (c.p2s_at-i.ensures, ep) (images.p2s-read _ c.requires.0 a.b c.requires.2).1 in
@@ -104,7 +104,7 @@ returns c =
     let ep : c.row_of.result ≡ a.b / a.n_satom / a.n_satom / a.n_satom = c.row_of.ensures ∙ ap (λ x. x / a.n_satom) er in
     let ej : c.column_of-3.result ≡ a.b / a.n_satom / a.n_satom % a.n_satom = c.column_of-3.ensures ∙ ap (λ x. x % a.n_satom) er in
     let ek : c.column_of-2.result ≡ a.b / a.n_satom % a.n_satom = c.column_of-2.ensures ∙ ap (λ x. x % a.n_satom) c.row_of-pjk.ensures in
-    images.image-is T c.requires.0 a.b c.requires.2 a.operations.now a.r
+    images.image_is T c.requires.0 a.b c.requires.2 a.operations.now a.r
     (c.p2s_at-i.ensures ∙ ap (index_at a.p2s.now) ep) c.perms_at-x.ensures
     (c.perms_at-y.ensures ∙ ap (λ j. index_at a.operations.now (a.r * a.n_satom + j)) ej)
     (c.perms_at-z.ensures ∙ ap (λ j. index_at a.operations.now (a.r * a.n_satom + j)) ek)

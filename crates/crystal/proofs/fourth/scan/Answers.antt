@@ -16,7 +16,7 @@ pub loop-r-init : goal.loop-r-init
 loop-r-init c = (omega arith, times_none _ _)
 
 pub read9-requires : goal.read9-requires
-read9-requires c =carts_inside c.requires.1 c.loop-r.r c.loop-r-test.true
+read9-requires c = carts_inside c.requires.1 c.loop-r.r c.loop-r-test.true
 
 pub look_operation-more-requires : goal.look_operation-more-requires
 look_operation-more-requires c =

@@ -8,13 +8,13 @@ use borrow.Author.Rules.{rules}
 use Rattle.crystal.proofs.second.image_block.Goals as goal
 
 pub column_of-requires : goal.column_of-requires
-column_of-requires c = images.satoms-pos _ c.requires.0 c.args.b c.requires.2
+column_of-requires c = images.satoms_pos _ c.requires.0 c.args.b c.requires.2
 
 pub row_of-requires : goal.row_of-requires
-row_of-requires c =images.satoms-pos _ c.requires.0 c.args.b c.requires.2
+row_of-requires c = images.satoms_pos _ c.requires.0 c.args.b c.requires.2
 
 pub p2s_at-i-requires : goal.p2s_at-i-requires
-p2s_at-i-requires c =rw c.row_of.ensures (images.p2s-read _ c.requires.0 c.args.b c.requires.2).0
+p2s_at-i-requires c = rw c.row_of.ensures (images.p2s-read _ c.requires.0 c.args.b c.requires.2).0
 
 pub perms_at-x-requires : goal.perms_at-x-requires
 perms_at-x-requires c =
@@ -23,13 +23,13 @@ perms_at-x-requires c =
 
 pub perms_at-y-requires : goal.perms_at-y-requires
 perms_at-y-requires c =
-    let j : c.column_of.result < c.args.n_satom = rw c.column_of.ensures (mod-lt c.args.b (images.satoms-pos _ c.requires.0 c.args.b c.requires.2)) in
+    let j : c.column_of.result < c.args.n_satom = rw c.column_of.ensures (mod-lt c.args.b (images.satoms_pos _ c.requires.0 c.args.b c.requires.2)) in
     (c.requires.1.each _ j).0
 
 pub stored_block2-requires : goal.stored_block2-requires
 stored_block2-requires c =
     let i : c.p2s_at-i.result.0 < c.args.n_satom = rw (c.p2s_at-i.ensures, c.row_of.ensures) (images.p2s-read _ c.requires.0 c.args.b c.requires.2).1 in
-    let j : c.column_of.result < c.args.n_satom = rw c.column_of.ensures (mod-lt c.args.b (images.satoms-pos _ c.requires.0 c.args.b c.requires.2)) in
+    let j : c.column_of.result < c.args.n_satom = rw c.column_of.ensures (mod-lt c.args.b (images.satoms_pos _ c.requires.0 c.args.b c.requires.2)) in
     let x : c.perms_at-x.result.0 < c.args.n_satom = rw c.perms_at-x.ensures (c.requires.1.each _ i).1 in
     let y : c.perms_at-y.result.0 < c.args.n_satom = rw c.perms_at-y.ensures (c.requires.1.each _ j).1 in
     (images.read-tables _ c.requires.0 c.args.b c.requires.2, x, y)
@@ -38,6 +38,6 @@ pub returns : goal.returns
 returns c =
     let a = c.args in
     let T : ShiftTables = shift_tables a.p2s.now a.s2pp.now a.nsym_list.now a.perms.now a.n_satom a.n-patom a.num-trans in
-    images.image-is T c.requires.0 a.b c.requires.2 a.operations.now a.r
+    images.image_is T c.requires.0 a.b c.requires.2 a.operations.now a.r
     (c.p2s_at-i.ensures ∙ ap (index_at a.p2s.now) c.row_of.ensures) c.perms_at-x.ensures
     (c.perms_at-y.ensures ∙ ap (λ j. index_at a.operations.now (a.r * a.n_satom + j)) c.column_of.ensures) c.stored_block2.ensures

@@ -8,16 +8,16 @@ use borrow.Author.Rules.{rules}
 use Rattle.crystal.proofs.third.image_block.Goals as goal
 
 pub column_of-requires : goal.column_of-requires
-column_of-requires c = images.satoms-pos _ c.requires.0 c.args.b c.requires.2
+column_of-requires c = images.satoms_pos _ c.requires.0 c.args.b c.requires.2
 
 pub row_of-pj-requires : goal.row_of-pj-requires
-row_of-pj-requires c =images.satoms-pos _ c.requires.0 c.args.b c.requires.2
+row_of-pj-requires c = images.satoms_pos _ c.requires.0 c.args.b c.requires.2
 
 pub column_of-requires-2 : goal.column_of-requires-2
-column_of-requires-2 c =images.satoms-pos _ c.requires.0 c.args.b c.requires.2
+column_of-requires-2 c = images.satoms_pos _ c.requires.0 c.args.b c.requires.2
 
 pub row_of-requires : goal.row_of-requires
-row_of-requires c =images.satoms-pos _ c.requires.0 c.args.b c.requires.2
+row_of-requires c = images.satoms_pos _ c.requires.0 c.args.b c.requires.2
 
 pub p2s_at-i-requires : goal.p2s_at-i-requires
 p2s_at-i-requires c =
@@ -28,7 +28,7 @@ p2s_at-i-requires c =
 pub perms_at-x-requires : goal.perms_at-x-requires
 perms_at-x-requires c =
     let a = c.args in
-    let h = images.satoms-pos _ c.requires.0 a.b c.requires.2 in
+    let h = images.satoms_pos _ c.requires.0 a.b c.requires.2 in
     let ep : c.row_of.result ≡ a.b / a.n_satom / a.n_satom = c.row_of.ensures ∙ ap (λ x. x / a.n_satom) c.row_of-pj.ensures in
     let i : c.p2s_at-i.result.0 < a.n_satom = rw (c.p2s_at-i.ensures, ep) (images.p2s-read _ c.requires.0 a.b c.requires.2).1 in
     let j : c.column_of-2.result < a.n_satom = rw c.column_of-2.ensures (mod-lt _ h) in
@@ -38,7 +38,7 @@ perms_at-x-requires c =
 pub perms_at-y-requires : goal.perms_at-y-requires
 perms_at-y-requires c =
     let a = c.args in
-    let h = images.satoms-pos _ c.requires.0 a.b c.requires.2 in
+    let h = images.satoms_pos _ c.requires.0 a.b c.requires.2 in
     let ep : c.row_of.result ≡ a.b / a.n_satom / a.n_satom = c.row_of.ensures ∙ ap (λ x. x / a.n_satom) c.row_of-pj.ensures in
     let i : c.p2s_at-i.result.0 < a.n_satom = rw (c.p2s_at-i.ensures, ep) (images.p2s-read _ c.requires.0 a.b c.requires.2).1 in
     let j : c.column_of-2.result < a.n_satom = rw c.column_of-2.ensures (mod-lt _ h) in
@@ -48,7 +48,7 @@ perms_at-y-requires c =
 pub perms_at-z-requires : goal.perms_at-z-requires
 perms_at-z-requires c =
     let a = c.args in
-    let h = images.satoms-pos _ c.requires.0 a.b c.requires.2 in
+    let h = images.satoms_pos _ c.requires.0 a.b c.requires.2 in
     let ep : c.row_of.result ≡ a.b / a.n_satom / a.n_satom = c.row_of.ensures ∙ ap (λ x. x / a.n_satom) c.row_of-pj.ensures in
     let i : c.p2s_at-i.result.0 < a.n_satom = rw (c.p2s_at-i.ensures, ep) (images.p2s-read _ c.requires.0 a.b c.requires.2).1 in
     let j : c.column_of-2.result < a.n_satom = rw c.column_of-2.ensures (mod-lt _ h) in
@@ -58,7 +58,7 @@ perms_at-z-requires c =
 pub stored_block3-requires : goal.stored_block3-requires
 stored_block3-requires c =
     let a = c.args in
-    let h = images.satoms-pos _ c.requires.0 a.b c.requires.2 in
+    let h = images.satoms_pos _ c.requires.0 a.b c.requires.2 in
     let ep : c.row_of.result ≡ a.b / a.n_satom / a.n_satom = c.row_of.ensures ∙ ap (λ x. x / a.n_satom) c.row_of-pj.ensures in
     let i : c.p2s_at-i.result.0 < a.n_satom = rw (c.p2s_at-i.ensures, ep) (images.p2s-read _ c.requires.0 a.b c.requires.2).1 in
     let j : c.column_of-2.result < a.n_satom = rw c.column_of-2.ensures (mod-lt _ h) in
@@ -74,7 +74,7 @@ returns c =
     let T : ShiftTables = shift_tables a.p2s.now a.s2pp.now a.nsym_list.now a.perms.now a.n_satom a.n-patom a.num-trans in
     let ep : c.row_of.result ≡ a.b / a.n_satom / a.n_satom = c.row_of.ensures ∙ ap (λ x. x / a.n_satom) c.row_of-pj.ensures in
     let ej : c.column_of-2.result ≡ a.b / a.n_satom % a.n_satom = c.column_of-2.ensures ∙ ap (λ x. x % a.n_satom) c.row_of-pj.ensures in
-    images.image-is T c.requires.0 a.b c.requires.2 a.operations.now a.r
+    images.image_is T c.requires.0 a.b c.requires.2 a.operations.now a.r
     (c.p2s_at-i.ensures ∙ ap (index_at a.p2s.now) ep) c.perms_at-x.ensures
     (c.perms_at-y.ensures ∙ ap (λ j. index_at a.operations.now (a.r * a.n_satom + j)) ej)
     (c.perms_at-z.ensures ∙ ap (λ j. index_at a.operations.now (a.r * a.n_satom + j)) c.column_of.ensures) c.stored_block3.ensures

@@ -11,19 +11,19 @@ use borrow.Author.Rules.{rules}
 use Rattle.deltas.proofs.fc3s.add_pair_fc3s.Goals as goal
 
 pub column_of-s-requires : goal.column_of-s-requires
-column_of-s-requires c =(pair c.requires.ready c.args.n c.requires.in_range.1).some
+column_of-s-requires c = (pair c.requires.ready c.args.n c.requires.in_range.1).some
 
 pub row_of-d-requires : goal.row_of-d-requires
-row_of-d-requires c =(pair c.requires.ready c.args.n c.requires.in_range.1).some
+row_of-d-requires c = (pair c.requires.ready c.args.n c.requires.in_range.1).some
 
 pub read9-requires : goal.read9-requires
-read9-requires c =rw c.column_of-s.ensures (pair c.requires.ready c.args.n c.requires.in_range.1).symmetry_fits
+read9-requires c = rw c.column_of-s.ensures (pair c.requires.ready c.args.n c.requires.in_range.1).symmetry_fits
 
 pub overflow_mul-num_disp : goal.overflow_mul-num_disp
-overflow_mul-num_disp c =omega (arith, (pair c.requires.ready c.args.n c.requires.in_range.1).total-few)
+overflow_mul-num_disp c = omega (arith, (pair c.requires.ready c.args.n c.requires.in_range.1).total-few)
 
 pub column-u-requires : goal.column-u-requires
-column-u-requires c =(c.requires.in_range.1, c.requires.ready.inverse-length)
+column-u-requires c = (c.requires.in_range.1, c.requires.ready.inverse-length)
 
 pub perms_at-image-requires : goal.perms_at-image-requires
 perms_at-image-requires c =

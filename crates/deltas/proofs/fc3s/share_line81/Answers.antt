@@ -16,7 +16,7 @@ pub loop-j-init : goal.loop-j-init
 loop-j-init c = (omega arith, refl, λ m e. times_none _ _)
 
 pub perms_at-image-requires : goal.perms_at-image-requires
-perms_at-image-requires c =(c.requires.0.image-at c.loop-j.j (omega arith)).0
+perms_at-image-requires c = (c.requires.0.image-at c.loop-j.j (omega arith)).0
 
 pub index_of-t-requires : goal.index_of-t-requires
 index_of-t-requires c =

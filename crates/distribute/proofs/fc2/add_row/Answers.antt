@@ -18,10 +18,10 @@ pub loop-other-init : goal.loop-other-init
 loop-other-init c = (omega arith, refl, times_none _ _)
 
 pub perms_at-image-requires : goal.perms_at-image-requires
-perms_at-image-requires c =(c.requires.image c.loop-other.other (omega arith)).0
+perms_at-image-requires c = (c.requires.image c.loop-other.other (omega arith)).0
 
 pub index_of-target-requires : goal.index_of-target-requires
-index_of-target-requires c =omega (arith, c.requires.todo_fits)
+index_of-target-requires c = omega (arith, c.requires.todo_fits)
 
 pub index_of-source-requires : goal.index_of-source-requires
 index_of-source-requires c =

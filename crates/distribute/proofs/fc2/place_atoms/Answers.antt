@@ -16,10 +16,10 @@ pub loop-i-init : goal.loop-i-init
 loop-i-init c = (omega arith, refl, below_none _)
 
 pub entry-atom-requires : goal.entry-atom-requires
-entry-atom-requires c =(read c.requires.index_table c.loop-i.i (omega arith)).0
+entry-atom-requires c = (read c.requires.index_table c.loop-i.i (omega arith)).0
 
 pub overflow_cast-atom_list_reverse : goal.overflow_cast-atom_list_reverse
-overflow_cast-atom_list_reverse c =record { sfits = omega (arith, c.requires.atom_list_len_bound) }
+overflow_cast-atom_list_reverse c = record { sfits = omega (arith, c.requires.atom_list_len_bound) }
 
 pub offset_bounds-atom_list_reverse-atom : goal.offset_bounds-atom_list_reverse-atom
 offset_bounds-atom_list_reverse-atom c =

@@ -14,7 +14,7 @@ pub loop-i-init : goal.loop-i-init
 loop-i-init c = (omega arith, times_none _ _)
 
 pub stored_block2-at-requires : goal.stored_block2-at-requires
-stored_block2-at-requires c =(c.requires.0.tables, c.loop-i-test.true, c.requires.1)
+stored_block2-at-requires c = (c.requires.0.tables, c.loop-i-test.true, c.requires.1)
 
 pub read9-b-requires : goal.read9-b-requires
 read9-b-requires c =

@@ -14,7 +14,7 @@ pub loop-j-init : goal.loop-j-init
 loop-j-init c = (omega arith, times_none _ _)
 
 pub stored_block2-at-requires : goal.stored_block2-at-requires
-stored_block2-at-requires c =(c.requires.0.tables, c.requires.1, c.loop-j-test.true)
+stored_block2-at-requires c = (c.requires.0.tables, c.requires.1, c.loop-j-test.true)
 
 pub read9-b-requires : goal.read9-b-requires
 read9-b-requires c =

@@ -12,7 +12,7 @@ pub loop-i-init : goal.loop-i-init
 loop-i-init c = (omega arith, times_none _ _)
 
 pub full2-b-requires : goal.full2-b-requires
-full2-b-requires c =(c.requires.0.small, c.loop-i-test.true, omega (arith, c.requires.1))
+full2-b-requires c = (c.requires.0.small, c.loop-i-test.true, omega (arith, c.requires.1))
 
 pub add8-m-requires : goal.add8-m-requires
 add8-m-requires c =

@@ -13,10 +13,10 @@ pub loop-j-init : goal.loop-j-init
 loop-j-init c = (omega arith, refl, times_none _ _)
 
 pub full2-b-requires : goal.full2-b-requires
-full2-b-requires c =(c.requires.sized.small, omega (arith, c.requires.i_lt_n), c.requires.i_lt_n)
+full2-b-requires c = (c.requires.sized.small, omega (arith, c.requires.i_lt_n), c.requires.i_lt_n)
 
 pub full2-c-requires : goal.full2-c-requires
-full2-c-requires c =(c.requires.sized.small, c.requires.i_lt_n, omega (arith, c.requires.i_lt_n))
+full2-c-requires c = (c.requires.sized.small, c.requires.i_lt_n, omega (arith, c.requires.i_lt_n))
 
 pub average_pair-requires : goal.average_pair-requires
 average_pair-requires c =

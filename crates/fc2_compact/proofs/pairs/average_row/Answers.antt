@@ -10,7 +10,7 @@ use borrow.Author.Rules.{rules}
 use Rattle.fc2_compact.proofs.pairs.average_row.Goals as goal
 
 pub p2s_at-i-requires : goal.p2s_at-i-requires
-p2s_at-i-requires c =p2s-read c.requires.0 c.args.p c.requires.1
+p2s_at-i-requires c = p2s-read c.requires.0 c.args.p c.requires.1
 
 pub loop-j-init : goal.loop-j-init
 loop-j-init c = (omega arith, refl, times_none _ _)

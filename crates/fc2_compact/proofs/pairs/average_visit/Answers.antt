@@ -3,7 +3,7 @@ use borrow.Author.Rules.{rules}
 use Rattle.fc2_compact.proofs.pairs.average_visit.Goals as goal
 
 pub s2pp_at-requires : goal.s2pp_at-requires
-s2pp_at-requires c =s2pp-read _ c.args.fc.now _ _ _ c.requires
+s2pp_at-requires c = s2pp-read _ c.args.fc.now _ _ _ c.requires
 
 pub returns-then-s2pp_at-p : goal.returns-then-s2pp_at-p
 returns-then-s2pp_at-p c =

@@ -4,7 +4,7 @@ use borrow.Author.Rules.{rules}
 use Rattle.fc2_compact.proofs.rows.site_row.Goals as goal
 
 pub p2s_at-i-requires : goal.p2s_at-i-requires
-p2s_at-i-requires c =p2s-read c.requires.0 c.args.p c.requires.1
+p2s_at-i-requires c = p2s-read c.requires.0 c.args.p c.requires.1
 
 pub block2-b-requires : goal.block2-b-requires
 block2-b-requires c =

@@ -9,7 +9,7 @@ put_planes-requires c =
 
 pub copy_blocks-requires : goal.copy_blocks-requires
 copy_blocks-requires c =
-(
+    (
       c.requires,
       c.put_planes.ensures.0,
       slots_in c.slot-s0.ensures.1 c.slot-s1.ensures.1 c.slot-s2.ensures.1 c.slot-s3.ensures.1 c.slot-s4.ensures.1 c.slot-s5.ensures.1,

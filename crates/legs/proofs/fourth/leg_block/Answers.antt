@@ -15,19 +15,19 @@ last-leg : (leg : ℕ) → leg ≤ 3 → (leg ≡ 0 → ⊥) → (leg ≡ 1 → 
 last-leg leg h a b d = omega (arith, h, a, b, d)
 
 pub column_of-requires : goal.column_of-requires
-column_of-requires c =room_pos c.args.n_satom 2 1 c.args.t c.requires.2
+column_of-requires c = room_pos c.args.n_satom 2 1 c.args.t c.requires.2
 
 pub row_of-ab-requires : goal.row_of-ab-requires
-row_of-ab-requires c =room_pos c.args.n_satom 2 1 c.args.t c.requires.2
+row_of-ab-requires c = room_pos c.args.n_satom 2 1 c.args.t c.requires.2
 
 pub column_of-requires-2 : goal.column_of-requires-2
-column_of-requires-2 c =room_pos c.args.n_satom 2 1 c.args.t c.requires.2
+column_of-requires-2 c = room_pos c.args.n_satom 2 1 c.args.t c.requires.2
 
 pub row_of-requires : goal.row_of-requires
-row_of-requires c =room_pos c.args.n_satom 2 1 c.args.t c.requires.2
+row_of-requires c = room_pos c.args.n_satom 2 1 c.args.t c.requires.2
 
 pub column_of-requires-3 : goal.column_of-requires-3
-column_of-requires-3 c =room_pos c.args.n_satom 2 1 c.args.t c.requires.2
+column_of-requires-3 c = room_pos c.args.n_satom 2 1 c.args.t c.requires.2
 
 pub stored_block4-requires : goal.stored_block4-requires
 stored_block4-requires c =

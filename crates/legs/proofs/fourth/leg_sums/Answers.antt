@@ -15,7 +15,7 @@ pub loop-i-init : goal.loop-i-init
 loop-i-init c = (omega arith, sums_none 81 _ _)
 
 pub leg_block-at-requires : goal.leg_block-at-requires
-leg_block-at-requires c =(c.requires.0.fit, c.requires.1, c.requires.2, c.loop-i-test.true)
+leg_block-at-requires c = (c.requires.0.fit, c.requires.1, c.requires.2, c.loop-i-test.true)
 
 pub read81-b-requires : goal.read81-b-requires
 read81-b-requires c =

@@ -12,7 +12,7 @@ pub loop-e-init : goal.loop-e-init
 loop-e-init c = (omega arith, times_none _ _)
 
 pub look_leg-more-requires : goal.look_leg-more-requires
-look_leg-more-requires c =let h = c.loop-e-test.true in (c.requires, omega (arith, h))
+look_leg-more-requires c = let h = c.loop-e-test.true in (c.requires, omega (arith, h))
 
 pub loop-e-preserved : goal.loop-e-preserved
 loop-e-preserved c = let l = c.loop-e in (omega arith, times_more l.e _ _ l.invariant.1 c.look_leg-more.ensures)

@@ -15,13 +15,13 @@ last-leg : (leg : ℕ) → leg ≤ 2 → (leg ≡ 0 → ⊥) → (leg ≡ 1 → 
 last-leg leg h a b = omega (arith, h, a, b)
 
 pub column_of-requires : goal.column_of-requires
-column_of-requires c =room_pos c.args.n_satom 1 1 c.args.t c.requires.2
+column_of-requires c = room_pos c.args.n_satom 1 1 c.args.t c.requires.2
 
 pub row_of-requires : goal.row_of-requires
-row_of-requires c =room_pos c.args.n_satom 1 1 c.args.t c.requires.2
+row_of-requires c = room_pos c.args.n_satom 1 1 c.args.t c.requires.2
 
 pub column_of-requires-2 : goal.column_of-requires-2
-column_of-requires-2 c =room_pos c.args.n_satom 1 1 c.args.t c.requires.2
+column_of-requires-2 c = room_pos c.args.n_satom 1 1 c.args.t c.requires.2
 
 pub stored_block3-requires : goal.stored_block3-requires
 stored_block3-requires c =

@@ -29,7 +29,7 @@ pub overflow_sub-e : goal.overflow_sub-e
 overflow_sub-e c = let h = c.requires.1 in omega arith
 
 pub leg_sums-sums-requires : goal.leg_sums-sums-requires
-leg_sums-sums-requires c =(c.requires.0, omega (arith, c.requires.1), subst (λ (x : ℕ). c.loop-t.t < x) (power c.args.n_satom) c.loop-t-test.true)
+leg_sums-sums-requires c = (c.requires.0, omega (arith, c.requires.1), subst (λ (x : ℕ). c.loop-t.t < x) (power c.args.n_satom) c.loop-t-test.true)
 
 pub index_of-requires : goal.index_of-requires
 index_of-requires c =

@@ -10,7 +10,7 @@ pub returns-then-b-a : goal.returns-then-b-a
 returns-then-b-a c = let a = c.args in difference-refused a.a.now a.b.now c.if-b-a.true
 
 pub look_differences-seen-requires : goal.look_differences-seen-requires
-look_differences-seen-requires c =(c.if-b-a.false, omega arith)
+look_differences-seen-requires c = (c.if-b-a.false, omega arith)
 
 pub returns : goal.returns
 returns c =

@@ -13,16 +13,16 @@ pub returns-then-known-v-ne0 : goal.returns-then-known-v-ne0
 returns-then-known-v-ne0 c = (c.requires.1.2, λ _. refl)
 
 pub is_after-requires : goal.is_after-requires
-is_after-requires c =(c.requires.0.0.rows, c.requires.0.1, c.requires.0.2, c.row_after.ensures.0)
+is_after-requires c = (c.requires.0.0.rows, c.requires.0.1, c.requires.0.2, c.row_after.ensures.0)
 
 pub bounds-known-r : goal.bounds-known-r
-bounds-known-r c =omega (arith, c.requires.0.0.rows.shifts, c.requires.0.1)
+bounds-known-r c = omega (arith, c.requires.0.0.rows.shifts, c.requires.0.1)
 
 pub bounds-known-v-then-is_after : goal.bounds-known-v-then-is_after
-bounds-known-v-then-is_after c =omega (arith, c.requires.0.0.rows.shifts, c.row_after.ensures.0)
+bounds-known-v-then-is_after c = omega (arith, c.requires.0.0.rows.shifts, c.row_after.ensures.0)
 
 pub bounds-known-r-then-is_after : goal.bounds-known-r-then-is_after
-bounds-known-r-then-is_after c =omega (arith, c.requires.0.0.rows.shifts, c.requires.0.1)
+bounds-known-r-then-is_after c = omega (arith, c.requires.0.0.rows.shifts, c.requires.0.1)
 
 pub returns-then-is_after : goal.returns-then-is_after
 returns-then-is_after c =

@@ -19,7 +19,7 @@ pub returns-then-not-learn_after : goal.returns-then-not-learn_after
 returns-then-not-learn_after c = (c.learn_after.ensures.0, λ C. absurd (not-both (c.learn_after.ensures.1 C) (not-true _ c.if-not-learn_after.true)))
 
 pub bounds-known-r : goal.bounds-known-r
-bounds-known-r c =omega (arith, c.requires.0.0.rows.shifts, c.loop.invariant.1)
+bounds-known-r c = omega (arith, c.requires.0.0.rows.shifts, c.loop.invariant.1)
 
 pub returns-then-x-eq0 : goal.returns-then-x-eq0
 returns-then-x-eq0 c = (c.learn_after.ensures.0, λ _. refl)

@@ -5,10 +5,10 @@ use borrow.Author.Rules.{rules}
 use Rattle.standing.proofs.retire.waits.Goals as goal
 
 pub end_of-requires : goal.end_of-requires
-end_of-requires c =(c.requires.0, c.requires.1, c.set_at-set.ensures.1)
+end_of-requires c = (c.requires.0, c.requires.1, c.set_at-set.ensures.1)
 
 pub look_up-f-requires : goal.look_up-f-requires
-look_up-f-requires c =(c.requires.0, omega (arith, c.requires.1))
+look_up-f-requires c = (c.requires.0, omega (arith, c.requires.1))
 
 pub returns-then-wide-eq3 : goal.returns-then-wide-eq3
 returns-then-wide-eq3 c =

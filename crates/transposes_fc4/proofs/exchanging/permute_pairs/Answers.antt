@@ -7,7 +7,7 @@ use Rattle.transposes_fc4.specs.Pairs.{from_pairs, Permuted, none-traded, one-tr
 use Rattle.transposes_fc4.proofs.exchanging.permute_pairs.Goals as goal
 
 pub loop-n-init : goal.loop-n-init
-loop-n-init c =(omega arith, none-traded c.args.b c.args.fc4.now c.requires.1 c.args.m.now c.requires.0)
+loop-n-init c = (omega arith, none-traded c.args.b c.args.fc4.now c.requires.1 c.args.m.now c.requires.0)
 
 pub index_of-x-requires : goal.index_of-x-requires
 index_of-x-requires c =

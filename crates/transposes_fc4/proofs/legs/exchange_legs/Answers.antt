@@ -5,7 +5,7 @@ use borrow.Author.Rules.{rules}
 use Rattle.transposes_fc4.proofs.legs.exchange_legs.Goals as goal
 
 pub pairs_of-m-requires : goal.pairs_of-m-requires
-pairs_of-m-requires c =(c.requires.1, c.requires.2, c.requires.3)
+pairs_of-m-requires c = (c.requires.1, c.requires.2, c.requires.3)
 
 pub pairs-requires : goal.pairs-requires
 pairs-requires c =

@@ -4,7 +4,7 @@ use borrow.Author.Rules.{rules}
 use Rattle.transposes_fc4.proofs.legs.pairs_of.Goals as goal
 
 pub pair_row-requires : goal.pair_row-requires
-pair_row-requires c =(c.requires.0, c.requires.1)
+pair_row-requires c = (c.requires.0, c.requires.1)
 
 pub pairs_by-requires : goal.pairs_by-requires
 pairs_by-requires c =

@@ -10,7 +10,7 @@ returns-then-leg_a-leg_b c =
     swapped-none c.args.leg_a c.args.leg_b _ c.args.fc4.now c.if-leg_a-leg_b.true
 
 pub exchange_legs-requires : goal.exchange_legs-requires
-exchange_legs-requires c =(c.requires.0, c.requires.1, c.requires.2, c.if-leg_a-leg_b.false)
+exchange_legs-requires c = (c.requires.0, c.requires.1, c.requires.2, c.if-leg_a-leg_b.false)
 
 pub returns : goal.returns
 returns c =
