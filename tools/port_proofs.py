@@ -81,34 +81,60 @@ def as_record(body, names):
 
 
 class Function:
-    def __init__(self, of, own, calls):
-        self.of, self.own, self.calls = of, own, calls
+    def __init__(self, of, own, words):
+        self.of, self.own = of, own
         self.places = {p[0]: p for p in of["places"]}
         self.arms = {p[0]: a for p, a in zip(of["places"], of["arms"])}
         self.needs = {plain(o): (n, at) for (o, n), at in zip(of["needs"], of["asked_at"])}
+        self.typed = {p[0]: v for p, v in zip(of["places"], of["typed"])}
+        self.words = words
         self.args = {}
         for o, n in of["args"]:
             if o.startswith(".args "):
                 self.args[o[7:]] = n[7:]
 
-    def field(self, place, parts):
+    def chain(self, place):
+        out = []
+        while place in self.places:
+            out.append(place)
+            place = self.places[place][1]
+        return out
+
+    def step(self, place, goal, head):
+        """The place whose step has that name: the one that the path leads to, else the one of the goal's chain."""
+        each = [place, *self.chain(place), *self.chain(goal)]
+        for name in (head, re.sub(r"\d+$", "", head)):
+            for at in each:
+                if at in self.places and self.places[at][2] and plain(self.places[at][2][0]) == plain(name):
+                    return at
+        return None
+
+    def field(self, place, goal, parts):
         """The parts of a path below the place, as today's answers have them."""
         if not parts:
             return parts
-        head, rest = parts[0], parts[1:]
-        at = self.places.get(place)
-        arm = self.arms.get(place)
-        if arm:
-            for new, step, prefix in arm[2]:
-                if plain(step) == plain(head) and prefix and [*rest[:len(prefix)]] == prefix:
+        head, rest = parts[0], [self.words.get(p, p) for p in parts[1:]]
+        for at in [place, *self.chain(goal)]:
+            arm = self.arms.get(at)
+            for new, step, prefix in arm[2] if arm else []:
+                if plain(step) == plain(head) and prefix and rest[:len(prefix)] == prefix:
                     return [arm[0], new, *rest[len(prefix):]]
-        if at and at[2] and plain(at[2][0]) == plain(head):
+        if rest[:1] == ["given"]:
+            for at in self.chain(goal):
+                for var, step in self.typed.get(at, []):
+                    if plain(step) == plain(head):
+                        return ["type_inv", var, *rest[1:]]
+        if at := self.step(place, goal, head):
+            at = self.places[at]
+            swap = dict((o, n) for o, n in at[4])
+            if rest and rest[0] in swap:
+                rest = [swap[rest[0]], *rest[1:]]
             return [at[2][1], *self.product(at[3], rest)]
         if head in ("args", "ranges") and rest:
             return [head, self.args.get(rest[0], rest[0]), *rest[1:]]
         if head == "requires" and rest and len(self.own) > 1:
             return [head, *self.clause(self.own, rest)]
-        return parts
+        return [head, *rest]
 
     def clause(self, names, rest):
         k, i = 0, 0
@@ -151,12 +177,12 @@ class Function:
                 while i < len(parts) and parts[i] == "before":
                     at, i = (self.places[at][1] if at in self.places else None), i + 1
                 if i == len(parts):
-                    return "c", ("ctx", at)
-                new = self.field(at, parts[i:])
+                    return "c", ("ctx", at or place)
+                new = self.field(at, place, parts[i:])
                 return ".".join(["c", *new]), ("step", at, parts[i:])
             if kind[0] == "step":
-                whole = self.field(kind[1], kind[2] + parts[1:])
-                base = self.field(kind[1], kind[2])
+                whole = self.field(kind[1], place, kind[2] + parts[1:])
+                base = self.field(kind[1], place, kind[2])
                 if whole[:len(base)] == base:
                     return ".".join([parts[0], *whole[len(base):]]), None
                 return ".".join(["c", *whole]), None
@@ -243,13 +269,13 @@ def blocks_of(text):
     return uses, decls
 
 
-def turn(path, of, own, calls, module):
+def turn(path, of, own, calls, words, module):
     text = read(path)
     if "tie.close" not in text or "Tie as tie" not in text:
         return "another shape"
     uses, decls = blocks_of(text)
     uses = [u for u in uses if not re.search(r"\.(Tie as tie|Statement\.\{statement\})$", u)]
-    f = Function(of, own, calls)
+    f = Function(of, own, words)
     inv, ans, left, head = [], [], [], []
     loops = {plain(o): (n, names, changed) for ((o, n), names), changed in zip(of["loops"], of["changed"])}
     for d in decls:
@@ -299,6 +325,8 @@ def turn(path, of, own, calls, module):
             if body.strip() == "search rules" and not unfold:
                 continue
             body = f.body(body, place)
+            body = re.sub(r"(?<![\w-])not-(?:true|false) _ (c\.[^\s()]*\.(?:true|false))-raw(?![\w-])", r"\1", body)
+            body = re.sub(r"\((c\.[^\s()]*\.(?:true|false))\)", r"\1", body)
             if new.endswith("-requires") or re.search(r"-requires-", new):
                 step = re.sub(r"-requires.*", "", new)
                 callee = next((p[3] for p in of["places"] if p[2] and p[2][1] == step and p[3]), None) or step.split("-")[0]
@@ -337,11 +365,13 @@ def main(root, names):
         if not os.path.exists(file):
             continue
         table = {k: v for k, v in json.loads(read(file)).items() if k.startswith(f"Rattle-{crate}-proofs.") and ".Lts" in k}
+        source = " ".join(read(p) for p in glob.glob(os.path.join(root, "crates", crate, "src", "**", "*.rt"), recursive=True))
+        words = {w.replace("_", "-"): w for w in re.findall(r"\w+", source) if "_" in w}
         for key, of in sorted(table.items()):
             where = key[len(f"Rattle-{crate}-proofs."):].rsplit(".Lts", 1)[0]
             path = os.path.join(root, "crates", crate, "proofs", *where.split("."), "Proof.antt")
             if os.path.exists(path):
-                said = turn(path, of, calls.get("::".join([crate, *where.split(".")]), []), calls, f"Rattle.{crate}.proofs.{where}")
+                said = turn(path, of, calls.get("::".join([crate, *where.split(".")]), []), calls, words, f"Rattle.{crate}.proofs.{where}")
                 if said:
                     print(f"{crate} {where}: {said}")
 

@@ -79,7 +79,7 @@ module _ (T : ShiftTables) (l : List Float) (p i j : ℕ) (r : ReadyAt T (length
         let S = shifts_of T in
         let L = r.ready.rules in
         let k = row S (nsym_at S j) (p2s_at S p) in
-        let hk = L.row-Below (nsym_at S j) (p2s_at S p) (L.nsym_below j r.second) (L.p2s-below p r.first) in
+        let hk = L.row_below (nsym_at S j) (p2s_at S p) (L.nsym_below j r.second) (L.p2s-below p r.first) in
         let f : q ≡ s2pp_at S j = e ∙ s2pp_is T j in
         let m : mate S (p * T.n_satom + j) ≡ q * T.n_satom + k = mate_is S L p j r.first r.second ∙ ap (λ a. a * T.n_satom + k) (sym f) in
         omega (arith, m, hk, mul-le-mul_right T.n_satom h)

@@ -151,7 +151,7 @@ module _ (S : Shifts) (L : Laws S) (p j : ℕ) (hp : p < S.n_patom) (hj : j < S.
   mate-below = rw mate_is (in_row S.n_patom n (s2pp_at S j) (row S (nsym_at S j) (p2s_at S p)) (L.s2pp-below j hj) image)
     where
       image : row S (nsym_at S j) (p2s_at S p) < n
-      image = L.row-Below (nsym_at S j) (p2s_at S p) (L.nsym_below j hj) (L.p2s-below p hp)
+      image = L.row_below (nsym_at S j) (p2s_at S p) (L.nsym_below j hj) (L.p2s-below p hp)
 
   stays_is : stays_at S 1 0 u ≡ stays S p j
   unfolding stays_at rest digits
@@ -161,7 +161,7 @@ module _ (S : Shifts) (L : Laws S) (p j : ℕ) (hp : p < S.n_patom) (hj : j < S.
   stays-own : mate S u ≡ u → (p2s_at S p ≡ j → ⊥) → stays S p j ≡ true
   stays-own e ne =
       let k = row S (nsym_at S j) (p2s_at S p) in
-      let hk = L.row-Below (nsym_at S j) (p2s_at S p) (L.nsym_below j hj) (L.p2s-below p hp) in
+      let hk = L.row_below (nsym_at S j) (p2s_at S p) (L.nsym_below j hj) (L.p2s-below p hp) in
       let w : s2pp_at S j * n + k ≡ p * n + j = sym mate_is ∙ e in
       let f : s2pp_at S j ≡ p = sym (block_of_lem n (s2pp_at S j) k hk) ∙ ap (λ b. b / n) w ∙ block_of_lem n p j hj in
       let g : k ≡ j = sym (place_of n (s2pp_at S j) k hk) ∙ ap (λ b. b % n) w ∙ place_of n p j hj in

@@ -140,7 +140,7 @@ module _ (S : Shifts) (L : Laws S) where
           spelled x xs l f u v =
               let ys = map (row S (nsym_at S x)) xs in
               let ly : length ys ≡ m = length-map xs _ ∙ l in
-              let by : Below S.n_satom ys = all_map (λ k. k < S.n_satom) (λ k. k < S.n_satom) (row S (nsym_at S x)) xs (λ k hk. L.row-Below (nsym_at S x) k (L.nsym_below x f.0) hk) f.1 in
+              let by : Below S.n_satom ys = all_map (λ k. k < S.n_satom) (λ k. k < S.n_satom) (row S (nsym_at S x)) xs (λ k hk. L.row_below (nsym_at S x) k (L.nsym_below x f.0) hk) f.1 in
               let e : block_atoms S (stored_atoms S (x ∷ xs)) ≡ horner S.n_satom (s2pp_at S x) ys = unfold block_atoms stored_atoms in refl in (
                 ap first e ∙ (rw ly at (rest_horner S.n_satom (s2pp_at S x) ys by)) ∙ ap (s2pp_at S) u,
                 ap partner e ∙ ap (λ l. get_or l i 0) (rw ly at (digits-horner S.n_satom (s2pp_at S x) ys by))

@@ -274,7 +274,7 @@ module _ (S : Shifts) (L : Laws S) where
     length-map xs _ ∙ suc_inj p.0,
     L.s2pp-below (atom x) p.1.0.0,
     p.1.0.1,
-    all_map (Fit S) (Fit S) _ xs (λ y h. (L.row-Below (nsym_at S (atom x)) (atom y) (L.nsym_below (atom x) p.1.0.0) h.0, h.1)) p.1.1,
+    all_map (Fit S) (Fit S) _ xs (λ y h. (L.row_below (nsym_at S (atom x)) (atom y) (L.nsym_below (atom x) p.1.0.0) h.0, h.1)) p.1.1,
   )
 
   pub opened_legs : (m : ℕ) (ys : List Leg) → Place S m ys → Legs S m (legs_at S ys)

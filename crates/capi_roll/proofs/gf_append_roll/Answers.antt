@@ -11,4 +11,4 @@ returns-then-new_count-eq1 c =
 pub returns : goal.returns
 returns c =
     let a = c.args in
-    append-slot a.lent.now a.count (entry a.kind a.set a.earlier a.label.now) a.new_count.now c.if1.false c.judge_append-a.ensures c.number_of_appended.ensures c.seven_or_two.ensures
+    append-slot a.lent.now a.count (entry a.kind a.set a.earlier a.label.now) a.new_count.now c.if-new_count-eq1.false c.judge_append-a.ensures c.number_of_appended.ensures c.seven_or_two.ensures

@@ -10,9 +10,9 @@ returns-then-new_count-eq1 c =
 pub returns-then-is_roll : goal.returns-then-is_roll
 returns-then-is_roll c =
     let a = c.args in
-    retire_slot a.lent.now a.count a.set a.new_count.now c.if1.false c.is_roll.ensures c.if-is_roll.true
+    retire_slot a.lent.now a.count a.set a.new_count.now c.if-new_count-eq1.false c.is_roll.ensures c.if-is_roll.true
 
 pub returns : goal.returns
 returns c =
     let a = c.args in
-    retire_seven a.lent.now a.count a.set a.new_count.now c.if1.false c.is_roll.ensures c.if-is_roll.false
+    retire_seven a.lent.now a.count a.set a.new_count.now c.if-new_count-eq1.false c.is_roll.ensures c.if-is_roll.false

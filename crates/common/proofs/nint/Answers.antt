@@ -68,12 +68,12 @@ pub overflow_cast-z : goal.overflow_cast-z
 overflow_cast-z c = record { sfits = n-lt c }
 
 pub overflow_sub-result-then-b-ge9223372036854775808-2 : goal.overflow_sub-result-then-b-ge9223372036854775808-2
-overflow_sub-result-then-b-ge9223372036854775808-2 c = record { sfits = minus-small c.if4.n (n-lt c) }
+overflow_sub-result-then-b-ge9223372036854775808-2 c = record { sfits = minus-small c.if-e-lt1075.n (n-lt c) }
 
 pub returns-then-b-ge9223372036854775808-2 : goal.returns-then-b-ge9223372036854775808-2
 returns-then-b-ge9223372036854775808-2 c =
-    minus-out c.if4.n (n-lt c) ∙ sym (n_is c ∙ ap (λ (s : Bool). signed s c.if4.n) (le-leb (2 ^ 63) (b (start c)) c.if-b-ge9223372036854775808-2.true))
+    minus-out c.if-e-lt1075.n (n-lt c) ∙ sym (n_is c ∙ ap (λ (s : Bool). signed s c.if-e-lt1075.n) (le-leb (2 ^ 63) (b (start c)) c.if-b-ge9223372036854775808-2.true))
 
 pub returns-else-b-ge9223372036854775808-2 : goal.returns-else-b-ge9223372036854775808-2
 returns-else-b-ge9223372036854775808-2 c =
-    plus_is c.if4.n (n-lt c) ∙ sym (n_is c ∙ ap (λ (s : Bool). signed s c.if4.n) (lt-leb (2 ^ 63) (b (start c)) c.if-b-ge9223372036854775808-2.false))
+    plus_is c.if-e-lt1075.n (n-lt c) ∙ sym (n_is c ∙ ap (λ (s : Bool). signed s c.if-e-lt1075.n) (lt-leb (2 ^ 63) (b (start c)) c.if-b-ge9223372036854775808-2.false))

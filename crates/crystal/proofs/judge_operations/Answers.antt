@@ -30,12 +30,12 @@ pub returns-then-not-all_below : goal.returns-then-not-all_below
 unfolding judged_operations
 returns-then-not-all_below c =
     let a = c.args in
-    let o : out_of_range a.n a.operations.now ≡ true = not-false (out_of_range a.n a.operations.now) (sym c.all_below.ensures ∙ not-true _ c.if-not-all_below.true) in
+    let o : out_of_range a.n a.operations.now ≡ true = not-false (out_of_range a.n a.operations.now) (sym c.all_below.ensures ∙ c.if-not-all_below.true) in
     simp (le-ltb _ _ c.if-num_rot-gt-MOST.false, eq-eqb _ _ c.if-carts_len-num_rot.false, eq-eqb _ _ c.if-operations-num_rot.false, o)
 
 pub returns : goal.returns
 unfolding judged_operations
 returns c =
     let a = c.args in
-    let o : out_of_range a.n a.operations.now ≡ false = not-true (out_of_range a.n a.operations.now) (sym c.all_below.ensures ∙ not-false _ c.if-not-all_below.false) in
+    let o : out_of_range a.n a.operations.now ≡ false = not-true (out_of_range a.n a.operations.now) (sym c.all_below.ensures ∙ c.if-not-all_below.false) in
     simp (le-ltb _ _ c.if-num_rot-gt-MOST.false, eq-eqb _ _ c.if-carts_len-num_rot.false, eq-eqb _ _ c.if-operations-num_rot.false, o)

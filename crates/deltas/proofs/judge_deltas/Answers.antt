@@ -33,10 +33,10 @@ pub returns-then-not-all_below : goal.returns-then-not-all_below
 returns-then-not-all_below c =
     judged_is _ _ _ _ _ _ _ c.set_blocks-b.ensures c.requires.2 (sym c.if-counts_above.false ∙ c.counts_above.ensures)
     (sym c.if-lengths_wrong.false ∙ c.lengths_wrong.ensures)
-    (sym c.if-not-all_below.true ∙ not-not _ c.all_below.ensures)
+    (sym c.if-not-all_below.true-raw ∙ not-not _ c.all_below.ensures)
 
 pub returns : goal.returns
 returns c =
     judged_is _ _ _ _ _ _ _ c.set_blocks-b.ensures c.requires.2 (sym c.if-counts_above.false ∙ c.counts_above.ensures)
     (sym c.if-lengths_wrong.false ∙ c.lengths_wrong.ensures)
-    (sym c.if-not-all_below.false ∙ not-not _ c.all_below.ensures)
+    (sym c.if-not-all_below.false-raw ∙ not-not _ c.all_below.ensures)

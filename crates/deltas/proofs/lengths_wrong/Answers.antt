@@ -8,20 +8,20 @@ use borrow.Author.Rules.{rules}
 use Rattle.deltas.proofs.lengths_wrong.Goals as goal
 
 pub overflow_mul-total : goal.overflow_mul-total
-overflow_mul-total c = let a = c.args in let z = sizes a.b a.w a.num-atom a.num_site_sym a.num_disp c.requires in omega arith
+overflow_mul-total c = let a = c.args in let z = sizes a.b a.w a.num_atom a.num_site_sym a.num_disp c.requires in omega arith
 
 pub overflow_mul-b : goal.overflow_mul-b
-overflow_mul-b c = let a = c.args in let z = sizes a.b a.w a.num-atom a.num_site_sym a.num_disp c.requires in omega arith
+overflow_mul-b c = let a = c.args in let z = sizes a.b a.w a.num_atom a.num_site_sym a.num_disp c.requires in omega arith
 
 pub returns-then-res-b : goal.returns-then-res-b
 returns-then-res-b c =
     or-here _ _ (ap not (ne_eqb _ _ c.if-res-b.true))
 
 pub overflow_mul-num_disp : goal.overflow_mul-num_disp
-overflow_mul-num_disp c = let a = c.args in let z = sizes a.b a.w a.num-atom a.num_site_sym a.num_disp c.requires in omega arith
+overflow_mul-num_disp c = let a = c.args in let z = sizes a.b a.w a.num_atom a.num_site_sym a.num_disp c.requires in omega arith
 
 pub overflow_mul-num_disp-2 : goal.overflow_mul-num_disp-2
-overflow_mul-num_disp-2 c = let a = c.args in let z = sizes a.b a.w a.num-atom a.num_site_sym a.num_disp c.requires in omega arith
+overflow_mul-num_disp-2 c = let a = c.args in let z = sizes a.b a.w a.num_atom a.num_site_sym a.num_disp c.requires in omega arith
 
 pub returns-then-deltas-num_disp : goal.returns-then-deltas-num_disp
 returns-then-deltas-num_disp c =
@@ -29,7 +29,7 @@ returns-then-deltas-num_disp c =
     (or-here _ _ (ap not (ne_eqb _ _ c.if-deltas-num_disp.true)))
 
 pub overflow_mul-total-2 : goal.overflow_mul-total-2
-overflow_mul-total-2 c = let a = c.args in let z = sizes a.b a.w a.num-atom a.num_site_sym a.num_disp c.requires in omega arith
+overflow_mul-total-2 c = let a = c.args in let z = sizes a.b a.w a.num_atom a.num_site_sym a.num_disp c.requires in omega arith
 
 pub returns-then-inv_u-total : goal.returns-then-inv_u-total
 returns-then-inv_u-total c =
@@ -45,7 +45,7 @@ returns-then-site_sym_cart-num_site_sym c =
     (or-here _ _ (ap not (ne_eqb _ _ c.if-site_sym_cart-num_site_sym.true)))))
 
 pub overflow_mul-num_site_sym-2 : goal.overflow_mul-num_site_sym-2
-overflow_mul-num_site_sym-2 c = let a = c.args in let z = sizes a.b a.w a.num-atom a.num_site_sym a.num_disp c.requires in omega arith
+overflow_mul-num_site_sym-2 c = let a = c.args in let z = sizes a.b a.w a.num_atom a.num_site_sym a.num_disp c.requires in omega arith
 
 pub returns-then-rot_map_syms-num_site_sym : goal.returns-then-rot_map_syms-num_site_sym
 returns-then-rot_map_syms-num_site_sym c =
@@ -56,7 +56,7 @@ returns-then-rot_map_syms-num_site_sym c =
     (or-here _ _ (ap not (ne_eqb _ _ c.if-rot_map_syms-num_site_sym.true))))))
 
 pub overflow_mul-total-3 : goal.overflow_mul-total-3
-overflow_mul-total-3 c = let a = c.args in let z = sizes a.b a.w a.num-atom a.num_site_sym a.num_disp c.requires in omega arith
+overflow_mul-total-3 c = let a = c.args in let z = sizes a.b a.w a.num_atom a.num_site_sym a.num_disp c.requires in omega arith
 
 pub returns-then-rot_delta-total : goal.returns-then-rot_delta-total
 returns-then-rot_delta-total c =

@@ -15,19 +15,19 @@ index_of-at-requires c = omega (arith, c.requires.within c.loop-k.k c.loop-k-tes
 
 pub read9-b-requires : goal.read9-b-requires
 read9-b-requires c =
-    let l = c.loop in
-    rw l.invariant.1 (step_fits c.requires l.k c.loop-test.true c.index_of.ensures)
+    let l = c.loop-k in
+    rw l.invariant.1 (step_fits c.requires l.k c.loop-k-test.true c.index_of-at.ensures)
 
 pub write9-requires : goal.write9-requires
 write9-requires c =
-    let l = c.loop in
-    rw l.invariant.1 (step_fits c.requires l.k c.loop-test.true c.index_of.ensures)
+    let l = c.loop-k in
+    rw l.invariant.1 (step_fits c.requires l.k c.loop-k-test.true c.index_of-at.ensures)
 
 pub loop-k-preserved : goal.loop-k-preserved
 unfolding less_at
 loop-k-preserved c =
-    let l = c.loop in
-    let e = step_is c.requires l.k c.loop-test.true c.index_of.ensures in
+    let l = c.loop-k in
+    let e = step_is c.requires l.k c.loop-k-test.true c.index_of-at.ensures in
     (omega arith, c.write9.auto.fc ∙ l.invariant.1, times_more l.k _ _ l.invariant.2 (rw (c.less.ensures, c.read9-b.ensures, e) at c.write9.ensures))
 
 pub returns : goal.returns

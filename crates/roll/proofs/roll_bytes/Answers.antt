@@ -5,10 +5,10 @@ use borrow.Author.Rules.{rules}
 use Rattle.roll.proofs.roll_bytes.Goals as goal
 
 pub returns-then-lent-count : goal.returns-then-lent-count
-returns-then-lent-count c = let a = c.args in bytes_past a.lent.now a.count c.if1.true
+returns-then-lent-count c = let a = c.args in bytes_past a.lent.now a.count c.if-lent-count.true
 
 pub slice_bounds-result-end-2 : goal.slice_bounds-result-end-2
-slice_bounds-result-end-2 c = sym (length-take-le _ _ c.if1.false)
+slice_bounds-result-end-2 c = sym (length-take-le _ _ c.if-lent-count.false)
 
 pub returns : goal.returns
-returns c = let a = c.args in bytes-there a.lent.now a.count c.if1.false
+returns c = let a = c.args in bytes-there a.lent.now a.count c.if-lent-count.false

@@ -8,14 +8,14 @@ full2-b-requires c = let r = c.requires in (r.sized.small, r.first, r.second)
 
 pub read9-old-requires : goal.read9-old-requires
 read9-old-requires c =
-    rw (full_is c.args.n c.args.i c.args.j c.full2.ensures) (block_in c.requires)
+    rw (full_is c.args.n c.args.i c.args.j c.full2-b.ensures) (block_in c.requires)
 
 pub read9-s-requires : goal.read9-s-requires
 read9-s-requires c = sums_in c.requires
 
 pub write9-requires : goal.write9-requires
 write9-requires c =
-    rw (full_is c.args.n c.args.i c.args.j c.full2.ensures) (block_in c.requires)
+    rw (full_is c.args.n c.args.i c.args.j c.full2-b.ensures) (block_in c.requires)
 
 -- for atom j there would be room too
 pub write9-requires-2 : goal.write9-requires-2
@@ -28,5 +28,5 @@ write9-requires-2 c =
 pub returns : goal.returns
 returns c =
     let a = c.args in
-    replaced-by a.fc.now a.sums.now a.block a.i a.j a.n c.full2.result _ _ c.read9.result c.read9-s.result c.corrected.result
-    (full_is a.n a.i a.j c.full2.ensures) c.read9.ensures c.read9-s.ensures c.corrected.ensures c.write9.ensures c.write9-2.ensures
+    replaced-by a.fc.now a.sums.now a.block a.i a.j a.n c.full2-b.result _ _ c.read9-old.result c.read9-s.result c.corrected.result
+    (full_is a.n a.i a.j c.full2-b.ensures) c.read9-old.ensures c.read9-s.ensures c.corrected.ensures c.write9.ensures c.write9-2.ensures

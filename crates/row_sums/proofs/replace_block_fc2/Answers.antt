@@ -9,15 +9,15 @@ use Rattle.row_sums.proofs.replace_block_fc2.Goals as goal
 pub returns-then-is_refusal : goal.returns-then-is_refusal
 returns-then-is_refusal c =
     let a = c.args in
-    replace_refused a.fc.now a.sums.now a.block a.i a.j a.n-satom c.judge-a.result c.judge-a.ensures (sym c.is_refusal.ensures ∙ c.if-is_refusal.true)
+    replace_refused a.fc.now a.sums.now a.block a.i a.j a.n_satom c.judge-a.result c.judge-a.ensures (sym c.is_refusal.ensures ∙ c.if-is_refusal.true)
 
 pub replace-requires : goal.replace-requires
 replace-requires c =
     let a = c.args in
-    ready_of a.fc.now a.sums.now a.block a.i a.j a.n-satom c.judge-a.result c.judge-a.ensures (sym c.is_refusal.ensures ∙ c.if-is_refusal.false)
+    ready_of a.fc.now a.sums.now a.block a.i a.j a.n_satom c.judge-a.result c.judge-a.ensures (sym c.is_refusal.ensures ∙ c.if-is_refusal.false)
 
 pub returns : goal.returns
 returns c =
     let a = c.args in
     ap (λ (p : List Float × List Float). (Done, p.0, p.1)) c.replace.ensures
-    ∙ replace_done a.fc.now a.sums.now a.block a.i a.j a.n-satom c.judge-a.result c.judge-a.ensures (sym c.is_refusal.ensures ∙ c.if-is_refusal.false)
+    ∙ replace_done a.fc.now a.sums.now a.block a.i a.j a.n_satom c.judge-a.result c.judge-a.ensures (sym c.is_refusal.ensures ∙ c.if-is_refusal.false)

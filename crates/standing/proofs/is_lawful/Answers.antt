@@ -24,7 +24,7 @@ unfolding lawful_to
 returns-then-not-is_allowed c =
     let b = c.args.b.now in
     let l = c.loop-i in
-    one_failed c.args.n (λ k. allowed (register_after (record_of b) k) (record_of b k)) l.i c.loop-i-test.true (told-no c.is_allowed.ensures c.if-not-is_allowed.true)
+    one_failed c.args.n (λ k. allowed (register_after (record_of b) k) (record_of b k)) l.i c.loop-i-test.true (told-no c.is_allowed.ensures c.if-not-is_allowed.true-raw)
 
 pub record_end-p-requires : goal.record_end-p-requires
 record_end-p-requires c =
@@ -37,7 +37,7 @@ loop-i-preserved c =
     let l = c.loop-i in (
       omega arith,
       next_start b l.i l.p c.record_end-p.result l.invariant.1 c.record_end-p.ensures,
-      below_more (λ k. allowed (register_after (record_of b) k) (record_of b k) ≡ true) l.i l.invariant.2 (told_yes c.is_allowed.ensures c.if-not-is_allowed.false),
+      below_more (λ k. allowed (register_after (record_of b) k) (record_of b k) ≡ true) l.i l.invariant.2 (told_yes c.is_allowed.ensures c.if-not-is_allowed.false-raw),
     )
 
 pub returns : goal.returns

@@ -23,7 +23,7 @@ exchange2-requires c =
     let a = c.args in
     let R = c.requires.trading in
     let at = c.requires.atoms.0 in
-    let T = shift_tables a.p2s.now a.s2pp.now a.nsym-list.now a.perms.now a.n_satom a.n-patom a.num-trans in
+    let T = shift_tables a.p2s.now a.s2pp.now a.nsym_list.now a.perms.now a.n_satom a.n_patom a.num_trans in
     let e = other_2 T R.sound a.p.0 a.j.0 a.k.0 at 2 c.block3-o.result refl c.block3-o.ensures in
     found_in false T R 2 a.p.0 a.j.0 a.k.0 (lit< tt) at _ _ c.block3-n.ensures e
 
@@ -32,7 +32,7 @@ returns c =
     let a = c.args in
     let R = c.requires.trading in
     let at = c.requires.atoms.0 in
-    let T = shift_tables a.p2s.now a.s2pp.now a.nsym-list.now a.perms.now a.n_satom a.n-patom a.num-trans in
+    let T = shift_tables a.p2s.now a.s2pp.now a.nsym_list.now a.perms.now a.n_satom a.n_patom a.num_trans in
     let e = other_2 T R.sound a.p.0 a.j.0 a.k.0 at 2 c.block3-o.result refl c.block3-o.ensures in
     let n = a.n_satom in
     let l : c.block3-n.result ≤ c.block3-o.result = rw (c.block3-n.ensures ∙ plain3 n a.p.0 a.j.0 a.k.0, c.block3-o.ensures ∙ plain3 n a.p.0 a.k.0 a.j.0) (rising n a.p.0 a.j.0 a.k.0 c.requires.atoms.1 at.2) in

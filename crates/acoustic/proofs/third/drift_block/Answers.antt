@@ -47,6 +47,6 @@ returns c =
     let a = c.args in
     let T : ShiftTables = shift_tables a.p2s.now a.s2pp.now a.nsym_list.now a.perms.now a.n_satom a.n_patom a.num_trans in
     c.scale_all.ensures
-    ∙ ap (λ v. scaled v a.inv-n) (c.leg_sums-v.ensures
+    ∙ ap (λ v. scaled v a.inv_n) (c.leg_sums-v.ensures
     ∙ ap (λ t. block_sums 27 (leg_block (shifts_of T) 2 a.leg t) a.n_satom a.fc3.now)
     (line3_is T a.r c.row_of.ensures c.p2s_at-i.ensures c.column_of.ensures c.index_of-t.ensures))

@@ -8,7 +8,7 @@ pub drifts-requires : goal.drifts-requires
 drifts-requires c = (c.requires.0, c.requires.1)
 
 pub rows_off-requires : goal.rows_off-requires
-rows_off-requires c = (rw c.drifts.auto.1.0 c.requires.0, c.requires.1)
+rows_off-requires c = (rw c.drifts.auto.drift c.requires.0, c.requires.1)
 
 pub returns : goal.returns
 returns c =

@@ -15,35 +15,35 @@ last-leg leg h a b = omega (arith, h, a, b)
 pub stored_block2-requires : goal.stored_block2-requires
 stored_block2-requires c =
     let a = c.args in
-    let T : ShiftTables = shift_tables a.p2s.now a.s2pp.now a.nsym_list.now a.perms.now a.n_satom a.n-patom a.num-trans in
+    let T : ShiftTables = shift_tables a.p2s.now a.s2pp.now a.nsym_list.now a.perms.now a.n_satom a.n_patom a.num_trans in
     (tables limit3 T (lit≤ tt) c.requires.0, c.requires.3, c.requires.4)
 
 pub returns-then-leg-eq0 : goal.returns-then-leg-eq0
 returns-then-leg-eq0 c =
     let a = c.args in
-    let T : ShiftTables = shift_tables a.p2s.now a.s2pp.now a.nsym_list.now a.perms.now a.n_satom a.n-patom a.num-trans in
+    let T : ShiftTables = shift_tables a.p2s.now a.s2pp.now a.nsym_list.now a.perms.now a.n_satom a.n_patom a.num_trans in
     other3_0 T a.i.0 a.j.0 a.k.0 a.leg c.if-leg-eq0.true c.stored_block2.ensures
 
 pub stored_block2-requires-then-leg-eq1 : goal.stored_block2-requires-then-leg-eq1
 stored_block2-requires-then-leg-eq1 c =
     let a = c.args in
-    let T : ShiftTables = shift_tables a.p2s.now a.s2pp.now a.nsym_list.now a.perms.now a.n_satom a.n-patom a.num-trans in
+    let T : ShiftTables = shift_tables a.p2s.now a.s2pp.now a.nsym_list.now a.perms.now a.n_satom a.n_patom a.num_trans in
     (tables limit3 T (lit≤ tt) c.requires.0, c.requires.2, c.requires.4)
 
 pub returns-then-leg-eq1 : goal.returns-then-leg-eq1
 returns-then-leg-eq1 c =
     let a = c.args in
-    let T : ShiftTables = shift_tables a.p2s.now a.s2pp.now a.nsym_list.now a.perms.now a.n_satom a.n-patom a.num-trans in
+    let T : ShiftTables = shift_tables a.p2s.now a.s2pp.now a.nsym_list.now a.perms.now a.n_satom a.n_patom a.num_trans in
     other3_1 T a.i.0 a.j.0 a.k.0 a.leg c.if-leg-eq1.true c.stored_block2-then-leg-eq1.ensures
 
 pub stored_block2-requires-2 : goal.stored_block2-requires-2
 stored_block2-requires-2 c =
     let a = c.args in
-    let T : ShiftTables = shift_tables a.p2s.now a.s2pp.now a.nsym_list.now a.perms.now a.n_satom a.n-patom a.num-trans in
+    let T : ShiftTables = shift_tables a.p2s.now a.s2pp.now a.nsym_list.now a.perms.now a.n_satom a.n_patom a.num_trans in
     (tables limit3 T (lit≤ tt) c.requires.0, c.requires.2, c.requires.3)
 
 pub returns : goal.returns
 returns c =
     let a = c.args in
-    let T : ShiftTables = shift_tables a.p2s.now a.s2pp.now a.nsym_list.now a.perms.now a.n_satom a.n-patom a.num-trans in
+    let T : ShiftTables = shift_tables a.p2s.now a.s2pp.now a.nsym_list.now a.perms.now a.n_satom a.n_patom a.num_trans in
     other3_2 T a.i.0 a.j.0 a.k.0 a.leg (last-leg a.leg c.requires.1 c.if-leg-eq0.false c.if-leg-eq1.false) c.stored_block2-2.ensures

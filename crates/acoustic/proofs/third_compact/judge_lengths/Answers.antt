@@ -16,14 +16,14 @@ returns-then-number-eq1 c =
     let a = c.args in
     let T : ShiftTables = shift_tables a.p2s.now a.s2pp.now a.nsym_list.now a.perms.now a.n_satom a.n_patom a.num_trans in
     let j = c.judge_compact-a in
-    above_too 256 2 a.set_len a.done-len a.drift_len T j.result j.ensures (sym c.number.ensures ∙ c.if-number-eq1.true)
+    above_too 256 2 a.set_len a.done_len a.drift_len T j.result j.ensures (sym c.number.ensures ∙ c.if-number-eq1.true)
 
 pub set_blocks-requires : goal.set_blocks-requires
 set_blocks-requires c =
     let a = c.args in
     let T : ShiftTables = shift_tables a.p2s.now a.s2pp.now a.nsym_list.now a.perms.now a.n_satom a.n_patom a.num_trans in
     let j = c.judge_compact-a in
-    let few = few-atoms 256 2 a.set_len a.done-len 0 T j.result j.ensures (λ e. c.if-number-eq1.false (c.number.ensures ∙ e)) in
+    let few = few-atoms 256 2 a.set_len a.done_len 0 T j.result j.ensures (λ e. c.if-number-eq1.false (c.number.ensures ∙ e)) in
     (le_trans few.1 (lit≤ tt), le_trans few.0 (lit≤ tt), lit≤ tt)
 
 pub overflow_mul-set_blocks : goal.overflow_mul-set_blocks
@@ -31,7 +31,7 @@ overflow_mul-set_blocks c =
     let a = c.args in
     let T : ShiftTables = shift_tables a.p2s.now a.s2pp.now a.nsym_list.now a.perms.now a.n_satom a.n_patom a.num_trans in
     let j = c.judge_compact-a in
-    let few = few-atoms 256 2 a.set_len a.done-len 0 T j.result j.ensures (λ e. c.if-number-eq1.false (c.number.ensures ∙ e)) in
+    let few = few-atoms 256 2 a.set_len a.done_len 0 T j.result j.ensures (λ e. c.if-number-eq1.false (c.number.ensures ∙ e)) in
     let g = few27 a.n_patom a.n_satom (le_trans few.1 (lit≤ tt)) (le_trans few.0 (lit≤ tt)) in
     omega (arith, g, c.set_blocks.ensures)
 
@@ -40,12 +40,12 @@ returns-then-drift_len-set_blocks c =
     let a = c.args in
     let T : ShiftTables = shift_tables a.p2s.now a.s2pp.now a.nsym_list.now a.perms.now a.n_satom a.n_patom a.num_trans in
     let j = c.judge_compact-a in
-    right_too 256 2 a.set_len a.done-len a.drift_len T j.result j.ensures (c.if-drift_len-set_blocks.true ∙ ap (λ x. x * 27) c.set_blocks.ensures ∙ drift27 a.n_patom a.n_satom)
+    right_too 256 2 a.set_len a.done_len a.drift_len T j.result j.ensures (c.if-drift_len-set_blocks.true ∙ ap (λ x. x * 27) c.set_blocks.ensures ∙ drift27 a.n_patom a.n_satom)
 
 pub returns : goal.returns
 returns c =
     let a = c.args in
     let T : ShiftTables = shift_tables a.p2s.now a.s2pp.now a.nsym_list.now a.perms.now a.n_satom a.n_patom a.num_trans in
     let j = c.judge_compact-a in
-    wrong-more 256 2 a.set_len a.done-len a.drift_len T j.result j.ensures (λ e. c.if-number-eq1.false (c.number.ensures ∙ e))
+    wrong-more 256 2 a.set_len a.done_len a.drift_len T j.result j.ensures (λ e. c.if-number-eq1.false (c.number.ensures ∙ e))
     (λ e. c.if-drift_len-set_blocks.false (e ∙ sym (ap (λ x. x * 27) c.set_blocks.ensures ∙ drift27 a.n_patom a.n_satom)))

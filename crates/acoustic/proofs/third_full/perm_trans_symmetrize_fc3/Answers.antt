@@ -12,15 +12,15 @@ use Rattle.acoustic.proofs.third_full.perm_trans_symmetrize_fc3.Goals as goal
 pub returns-then-is_refusal : goal.returns-then-is_refusal
 returns-then-is_refusal c =
     let a = c.args in
-    full-refused limit3 2 mean6 perms3 a.fc3.now a.num-atom a.drift.now a.level c.judge-a.ensures (sym c.is_refusal.ensures ∙ c.if-is_refusal.true)
+    full-refused limit3 2 mean6 perms3 a.fc3.now a.num_atom a.drift.now a.level c.judge-a.ensures (sym c.is_refusal.ensures ∙ c.if-is_refusal.true)
 
 pub full_symmetrize-requires : goal.full_symmetrize-requires
 full_symmetrize-requires c =
     let a = c.args in
-    full-room limit3 2 mean6 perms3 a.fc3.now a.num-atom a.drift.now a.level c.judge-a.ensures (lit≤ tt) (sym c.is_refusal.ensures ∙ c.if-is_refusal.false)
+    full-room limit3 2 mean6 perms3 a.fc3.now a.num_atom a.drift.now a.level c.judge-a.ensures (lit≤ tt) (sym c.is_refusal.ensures ∙ c.if-is_refusal.false)
 
 pub returns : goal.returns
 returns c =
     let a = c.args in
-    full-done limit3 2 mean6 perms3 a.fc3.now a.num-atom a.drift.now a.level c.judge-a.ensures (sym c.is_refusal.ensures ∙ c.if-is_refusal.false)
+    full-done limit3 2 mean6 perms3 a.fc3.now a.num_atom a.drift.now a.level c.judge-a.ensures (sym c.is_refusal.ensures ∙ c.if-is_refusal.false)
     c.full_symmetrize.ensures (c.clear_floats.ensures ∙ ap (λ m. replicate m plus_zero) c.full_symmetrize.auto.drift)

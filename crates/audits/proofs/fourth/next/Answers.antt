@@ -18,7 +18,7 @@ returns-then-not-falls c = c.loop-r.invariant
 pub loop-r-preserved : goal.loop-r-preserved
 loop-r-preserved c =
     let l = c.loop-r in
-    next_more c.args.n c.args.b c.args.count l.r l.invariant c.loop-r-test.true (sym c.falls.ensures ∙ not-false c.falls.result c.if-not-falls.false)
+    next_more c.args.n c.args.b c.args.count l.r l.invariant c.loop-r-test.true (sym c.falls.ensures ∙ not-false c.falls.result c.if-not-falls.false-raw)
 
 pub returns : goal.returns
 returns c = c.loop-r.invariant

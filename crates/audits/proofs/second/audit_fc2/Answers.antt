@@ -14,20 +14,20 @@ use Rattle.audits.proofs.second.audit_fc2.Goals as goal
 pub returns-in-Refused : goal.returns-in-Refused
 returns-in-Refused c =
     let a = c.args in
-    whole-refused limit2 1 perms2 a.fc.now a.num-atom _ (sym c.judge_full-a.ensures ∙ c.in-Refused.is)
+    whole-refused limit2 1 perms2 a.fc.now a.num_atom _ (sym c.judge_full-a.ensures ∙ c.in-Refused.is)
 
 pub scan_full-requires : goal.scan_full-requires
 scan_full-requires c =
     let a = c.args in
     let e = sym c.judge_full-a.ensures ∙ c.in-Done.is in
-    let few = (done_full limit2 1 (length a.fc.now) [] a.num-atom e).0 in
-    let h : a.num-atom ≤ 1024 = omega arith in
-    (ready-whole limit2 1 (length a.fc.now) a.num-atom (lit≤ tt) e, h)
+    let few = (done_full limit2 1 (length a.fc.now) [] a.num_atom e).0 in
+    let h : a.num_atom ≤ 1024 = omega arith in
+    (ready-whole limit2 1 (length a.fc.now) a.num_atom (lit≤ tt) e, h)
 
 pub returns-in-Done : goal.returns-in-Done
 returns-in-Done c =
     let a = c.args in
-    whole-done limit2 1 perms2 a.fc.now a.num-atom (sym c.judge_full-a.ensures ∙ c.in-Done.is) c.scan_full.ensures
+    whole-done limit2 1 perms2 a.fc.now a.num_atom (sym c.judge_full-a.ensures ∙ c.in-Done.is) c.scan_full.ensures
 
 pub judge_full-a-requires : goal.judge_full-a-requires
 judge_full-a-requires c = (lit≤ tt, lit≤ tt)

@@ -5,9 +5,9 @@ use Rattle.audits.proofs.second.scan_full.Goals as goal
 pub settle-requires : goal.settle-requires
 settle-requires c =
     let n = c.args.n in
-    rw (c.counted3.ensures, c.counted2.ensures, c.counted.ensures, part-counted 1024 n c.requires.1, part-noughts 1024 n c.requires.1) c.requires.0
+    rw (c.counted-perms.ensures, c.counted-s2pp.ensures, c.counted-p2s.ensures, part-counted 1024 n c.requires.1, part-noughts 1024 n c.requires.1) c.requires.0
 
 pub returns : goal.returns
 returns c =
     let n = c.args.n in
-    rw (c.counted3.ensures, c.counted2.ensures, c.counted.ensures, part-counted 1024 n c.requires.1, part-noughts 1024 n c.requires.1) at c.settle.ensures
+    rw (c.counted-perms.ensures, c.counted-s2pp.ensures, c.counted-p2s.ensures, part-counted 1024 n c.requires.1, part-noughts 1024 n c.requires.1) at c.settle.ensures

@@ -18,21 +18,21 @@ judge_full-s-requires c = (lit≤ tt, lit≤ tt)
 pub judge-a-requires : goal.judge-a-requires
 judge-a-requires c =
     let a = c.args in
-    λ d. le_trans (whole-set-few limit4 3 (length a.fc.now) a.num-atom c.judge_full-s.ensures d) (lit≤ tt)
+    λ d. le_trans (whole-set-few limit4 3 (length a.fc.now) a.num_atom c.judge_full-s.ensures d) (lit≤ tt)
 
 pub scan_full-seen-requires : goal.scan_full-seen-requires
 scan_full-seen-requires c =
     let a = c.args in
-    let (d, o) = both-done _ _ (sym (c.judge-a.ensures ∙ ap (λ x. earlier x (judged_operations a.num-atom a.num_rot (length a.r_carts.now) a.operations.now)) c.judge_full-s.ensures) ∙ c.in-Done.is) in
-    (ready-whole limit4 3 (length a.fc.now) a.num-atom (lit≤ tt) d, le_trans (done_full limit4 3 (length a.fc.now) [] a.num-atom d).0 (lit≤ tt), operating a.num-atom a.num_rot (length a.r_carts.now) a.operations.now o)
+    let (d, o) = both-done _ _ (sym (c.judge-a.ensures ∙ ap (λ x. earlier x (judged_operations a.num_atom a.num_rot (length a.r_carts.now) a.operations.now)) c.judge_full-s.ensures) ∙ c.in-Done.is) in
+    (ready-whole limit4 3 (length a.fc.now) a.num_atom (lit≤ tt) d, le_trans (done_full limit4 3 (length a.fc.now) [] a.num_atom d).0 (lit≤ tt), operating a.num_atom a.num_rot (length a.r_carts.now) a.operations.now o)
 
 pub returns-in-Refused : goal.returns-in-Refused
 returns-in-Refused c =
     let a = c.args in
-    full-refused limit4 3 a.fc.now a.r_carts.now a.operations.now a.num_rot a.num-atom _ (sym (c.judge-a.ensures ∙ ap (λ x. earlier x (judged_operations a.num-atom a.num_rot (length a.r_carts.now) a.operations.now)) c.judge_full-s.ensures) ∙ c.in-Refused.is)
+    full-refused limit4 3 a.fc.now a.r_carts.now a.operations.now a.num_rot a.num_atom _ (sym (c.judge-a.ensures ∙ ap (λ x. earlier x (judged_operations a.num_atom a.num_rot (length a.r_carts.now) a.operations.now)) c.judge_full-s.ensures) ∙ c.in-Refused.is)
 
 pub returns-in-Done : goal.returns-in-Done
 returns-in-Done c =
     let a = c.args in
     ap Given c.conclude.ensures
-    ∙ full-given limit4 3 a.fc.now a.r_carts.now a.operations.now a.num_rot a.num-atom (sym (c.judge-a.ensures ∙ ap (λ x. earlier x (judged_operations a.num-atom a.num_rot (length a.r_carts.now) a.operations.now)) c.judge_full-s.ensures) ∙ c.in-Done.is) c.scan_full-seen.ensures
+    ∙ full-given limit4 3 a.fc.now a.r_carts.now a.operations.now a.num_rot a.num_atom (sym (c.judge-a.ensures ∙ ap (λ x. earlier x (judged_operations a.num_atom a.num_rot (length a.r_carts.now) a.operations.now)) c.judge_full-s.ensures) ∙ c.in-Done.is) c.scan_full-seen.ensures

@@ -99,7 +99,7 @@ stored_block4-requires c =
 pub returns : goal.returns
 returns c =
     let a = c.args in
-    let T : ShiftTables = shift_tables a.p2s.now a.s2pp.now a.nsym_list.now a.perms.now a.n_satom a.n-patom a.num-trans in
+    let T : ShiftTables = shift_tables a.p2s.now a.s2pp.now a.nsym_list.now a.perms.now a.n_satom a.n_patom a.num_trans in
     let er : c.row_of-pj.result ≡ a.b / a.n_satom / a.n_satom = c.row_of-pj.ensures ∙ ap (λ x. x / a.n_satom) c.row_of-pjk.ensures in
     let ep : c.row_of.result ≡ a.b / a.n_satom / a.n_satom / a.n_satom = c.row_of.ensures ∙ ap (λ x. x / a.n_satom) er in
     let ej : c.column_of-3.result ≡ a.b / a.n_satom / a.n_satom % a.n_satom = c.column_of-3.ensures ∙ ap (λ x. x % a.n_satom) er in

@@ -37,7 +37,7 @@ stored_block2-requires c =
 pub returns : goal.returns
 returns c =
     let a = c.args in
-    let T : ShiftTables = shift_tables a.p2s.now a.s2pp.now a.nsym_list.now a.perms.now a.n_satom a.n-patom a.num-trans in
+    let T : ShiftTables = shift_tables a.p2s.now a.s2pp.now a.nsym_list.now a.perms.now a.n_satom a.n_patom a.num_trans in
     images.image_is T c.requires.0 a.b c.requires.2 a.operations.now a.r
     (c.p2s_at-i.ensures ∙ ap (index_at a.p2s.now) c.row_of.ensures) c.perms_at-x.ensures
     (c.perms_at-y.ensures ∙ ap (λ j. index_at a.operations.now (a.r * a.n_satom + j)) c.column_of.ensures) c.stored_block2.ensures

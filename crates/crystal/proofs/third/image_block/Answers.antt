@@ -71,7 +71,7 @@ stored_block3-requires c =
 pub returns : goal.returns
 returns c =
     let a = c.args in
-    let T : ShiftTables = shift_tables a.p2s.now a.s2pp.now a.nsym_list.now a.perms.now a.n_satom a.n-patom a.num-trans in
+    let T : ShiftTables = shift_tables a.p2s.now a.s2pp.now a.nsym_list.now a.perms.now a.n_satom a.n_patom a.num_trans in
     let ep : c.row_of.result ≡ a.b / a.n_satom / a.n_satom = c.row_of.ensures ∙ ap (λ x. x / a.n_satom) c.row_of-pj.ensures in
     let ej : c.column_of-2.result ≡ a.b / a.n_satom % a.n_satom = c.column_of-2.ensures ∙ ap (λ x. x % a.n_satom) c.row_of-pj.ensures in
     images.image_is T c.requires.0 a.b c.requires.2 a.operations.now a.r

@@ -42,7 +42,7 @@ pub share_line27-requires : goal.share_line27-requires
 share_line27-requires c =
     let a = c.args in
     let t = pair c.requires.ready a.n c.requires.in_range.1 in
-    let D : Deltas = deltas_of a.delta_fc2s.now a.inv_u.now a.site_sym_cart.now a.rot_map_syms.now a.num_atom a.num-site-sym a.num_disp in
+    let D : Deltas = deltas_of a.delta_fc2s.now a.inv_u.now a.site_sym_cart.now a.rot_map_syms.now a.num_atom a.num_site_sym a.num_disp in
     let y = c.column_of-s.ensures in
     let f : c.index_of-from.result ≡ delta_source D a.n 1 a.i =
     c.index_of-from.ensures
@@ -57,8 +57,8 @@ pub returns : goal.returns
 unfolding add_pair
 returns c =
     let a = c.args in
-    let D : Deltas = deltas_of a.delta_fc2s.now a.inv_u.now a.site_sym_cart.now a.rot_map_syms.now a.num_atom a.num-site-sym a.num_disp in
-    let R = block 9 (a.n % a.num-site-sym) a.site_sym_cart.now in
+    let D : Deltas = deltas_of a.delta_fc2s.now a.inv_u.now a.site_sym_cart.now a.rot_map_syms.now a.num_atom a.num_site_sym a.num_disp in
+    let R = block 9 (a.n % a.num_site_sym) a.site_sym_cart.now in
     let y = c.column_of-s.ensures in
     let f : c.index_of-from.result ≡ delta_source D a.n 1 a.i =
     c.index_of-from.ensures

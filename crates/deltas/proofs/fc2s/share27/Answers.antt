@@ -14,4 +14,4 @@ returns c =
     ∙ ap (λ v. put_block 27 a.target v a.fc3.now)
     (c.with_share27.ensures
     ∙ ap₂ (λ y o. with_share 9 a.u y o)
-    (rotated_by m 2 _ e c.rotated9.ensures ∙ ap (rotated m 2) c.read9.ensures) c.read27-old.ensures)
+    (rotated_by m 2 _ e c.rotated9-x.ensures ∙ ap (rotated m 2) c.read9.ensures) c.read27-old.ensures)

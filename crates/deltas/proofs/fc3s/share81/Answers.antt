@@ -14,4 +14,4 @@ returns c =
     ∙ ap (λ v. put_block 81 a.target v a.fc4.now)
     (c.with_share81.ensures
     ∙ ap₂ (λ y o. with_share 27 a.u y o)
-    (rotated_by m 3 _ e c.rotated27.ensures ∙ ap (rotated m 3) c.read27.ensures) c.read81-old.ensures)
+    (rotated_by m 3 _ e c.rotated27-x.ensures ∙ ap (rotated m 3) c.read27.ensures) c.read81-old.ensures)

@@ -15,4 +15,4 @@ returns c =
     ∙ ap (λ v. put_block 9 a.target v a.fc2.now)
     (c.added.ensures
     ∙ ap₂ added c.read9-old.ensures
-    (rotated_by m 2 _ e c.rotated9.ensures ∙ ap (rotated m 2) c.read9.ensures))
+    (rotated_by m 2 _ e c.rotated9-a.ensures ∙ ap (rotated m 2) c.read9.ensures))

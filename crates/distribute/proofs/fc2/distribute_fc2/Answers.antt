@@ -19,16 +19,16 @@ place_atoms-requires c =
 
 pub distribute_atoms-requires : goal.distribute_atoms-requires
 distribute_atoms-requires c =
-    let j = c.judge_distribute_fc2 in
-    let d = is_done j.result (sym c.is_refusal.ensures ∙ c.if1.false) in
+    let j = c.judge_distribute_fc2-a in
+    let d = is_done j.result (sym c.is_refusal.ensures ∙ c.if-is_refusal.false) in
     let (R, l) = ready _ _ _ _ _ (sym j.ensures ∙ d) in
-    let p = c.place_atoms in record { in_range = p.auto.0 ∙ l; placed = p.ensures; ready = R }
+    let p = c.place_atoms in record { in_range = p.auto.atom_list_reverse ∙ l; placed = p.ensures; ready = R }
 
 pub returns : goal.returns
 returns c =
-    let j = c.judge_distribute_fc2 in
-    let d = is_done j.result (sym c.is_refusal.ensures ∙ c.if1.false) in
+    let j = c.judge_distribute_fc2-a in
+    let d = is_done j.result (sym c.is_refusal.ensures ∙ c.if-is_refusal.false) in
     let (R, l) = ready _ _ _ _ _ (sym j.ensures ∙ d) in
     let p = c.place_atoms in
-    done_call _ _ _ _ _ j.result j.ensures (sym c.is_refusal.ensures ∙ c.if1.false) c.distribute_atoms.ensures
-    (c.clear_ints.ensures ∙ ap (λ n. replicate n (pos 0)) (p.auto.0 ∙ l))
+    done_call _ _ _ _ _ j.result j.ensures (sym c.is_refusal.ensures ∙ c.if-is_refusal.false) c.distribute_atoms.ensures
+    (c.clear_ints.ensures ∙ ap (λ n. replicate n (pos 0)) (p.auto.atom_list_reverse ∙ l))

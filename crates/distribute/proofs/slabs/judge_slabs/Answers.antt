@@ -77,7 +77,7 @@ unfolding judged_slabs
 returns-then-not-all_below c =
     let a = c.args in
     let o : out_of_range a.num_atom a.atom_mapping.now ≡ true =
-    not-false _ (sym c.all_below.ensures ∙ not-true _ c.if-not-all_below.true) in
+    not-false _ (sym c.all_below.ensures ∙ c.if-not-all_below.true) in
     simp (
       le-ltb _ _ c.if-num_atom-limit.false,
       le-ltb _ _ c.if-num_first-limit.false,
@@ -92,7 +92,7 @@ unfolding judged_slabs
 returns-then-target-num_first c =
     let a = c.args in
     let o : out_of_range a.num_atom a.atom_mapping.now ≡ false =
-    not-true _ (sym c.all_below.ensures ∙ not-false _ c.if-not-all_below.false) in
+    not-true _ (sym c.all_below.ensures ∙ c.if-not-all_below.false) in
     simp (
       le-ltb _ _ c.if-num_atom-limit.false,
       le-ltb _ _ c.if-num_first-limit.false,
@@ -108,7 +108,7 @@ unfolding judged_slabs
 returns-then-source-num_first c =
     let a = c.args in
     let o : out_of_range a.num_atom a.atom_mapping.now ≡ false =
-    not-true _ (sym c.all_below.ensures ∙ not-false _ c.if-not-all_below.false) in
+    not-true _ (sym c.all_below.ensures ∙ c.if-not-all_below.false) in
     simp (
       le-ltb _ _ c.if-num_atom-limit.false,
       le-ltb _ _ c.if-num_first-limit.false,
@@ -124,7 +124,7 @@ pub returns-then-target-source : goal.returns-then-target-source
 returns-then-target-source c =
     let a = c.args in
     let o : out_of_range a.num_atom a.atom_mapping.now ≡ false =
-    not-true _ (sym c.all_below.ensures ∙ not-false _ c.if-not-all_below.false) in
+    not-true _ (sym c.all_below.ensures ∙ c.if-not-all_below.false) in
     same-slab a.limit a.k a.set_len a.atom_mapping.now a.num_atom a.rotation_length a.num_first a.target a.source
     c.if-num_atom-limit.false
     c.if-num_first-limit.false
@@ -141,7 +141,7 @@ unfolding judged_slabs
 returns c =
     let a = c.args in
     let o : out_of_range a.num_atom a.atom_mapping.now ≡ false =
-    not-true _ (sym c.all_below.ensures ∙ not-false _ c.if-not-all_below.false) in
+    not-true _ (sym c.all_below.ensures ∙ c.if-not-all_below.false) in
     simp (
       le-ltb _ _ c.if-num_atom-limit.false,
       le-ltb _ _ c.if-num_first-limit.false,

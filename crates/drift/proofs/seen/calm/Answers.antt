@@ -30,14 +30,14 @@ returns-then-not-within c =
     let l = c.loop-p in
     let f : ℕ → Bool = λ k. at_most c.args.worst (sum_in c.args.s k) in
     let e : c.within.result ≡ f l.p = rw (c.column_of.ensures, c.row_of.ensures) at c.within.ensures in
-    sym (refuted (every 9 f) (λ t. not-both (e ∙ every-at 9 f t l.p (omega arith)) (not-true c.within.result c.if-not-within.true)))
+    sym (refuted (every 9 f) (λ t. not-both (e ∙ every-at 9 f t l.p (omega arith)) (not-true c.within.result c.if-not-within.true-raw)))
 
 pub loop-p-preserved : goal.loop-p-preserved
 loop-p-preserved c =
     let l = c.loop-p in
     let f : ℕ → Bool = λ k. at_most c.args.worst (sum_in c.args.s k) in
     let e : c.within.result ≡ f l.p = rw (c.column_of.ensures, c.row_of.ensures) at c.within.ensures in
-    (omega arith, below_more (λ k. f k ≡ true) l.p l.invariant.1 (sym e ∙ not-false c.within.result c.if-not-within.false))
+    (omega arith, below_more (λ k. f k ≡ true) l.p l.invariant.1 (sym e ∙ not-false c.within.result c.if-not-within.false-raw))
 
 pub returns : goal.returns
 returns c = let l = c.loop-p in sym (every_of 9 _ (λ k h. l.invariant.1 k (omega arith)))

@@ -46,7 +46,7 @@ returns-then-not-same_super c =
     let e : c.perms_at-x.result.0 ≡ row S a.u (row S a.t l.a) =
     c.perms_at-x.ensures ∙ perms_is T a.u _ ∙ ap (row S a.u) (c.perms_at-b.ensures ∙ perms_is T a.t l.a) in
     let d = c.perms_at-y.ensures ∙ perms_is T a.v l.a in
-    one_failed a.n_satom _ l.a c.loop-a-test.true (ap₂ eqb (sym e) (sym d) ∙ sym c.same_super.ensures ∙ not-true _ c.if-not-same_super.true)
+    one_failed a.n_satom _ l.a c.loop-a-test.true (ap₂ eqb (sym e) (sym d) ∙ sym c.same_super.ensures ∙ c.if-not-same_super.true)
 
 pub loop-a-preserved : goal.loop-a-preserved
 loop-a-preserved c =
@@ -57,7 +57,7 @@ loop-a-preserved c =
     let e : c.perms_at-x.result.0 ≡ row S a.u (row S a.t l.a) =
     c.perms_at-x.ensures ∙ perms_is T a.u _ ∙ ap (row S a.u) (c.perms_at-b.ensures ∙ perms_is T a.t l.a) in
     let d = c.perms_at-y.ensures ∙ perms_is T a.v l.a in
-    (omega arith, below_more _ l.a l.invariant.1 (ap₂ eqb (sym e) (sym d) ∙ sym c.same_super.ensures ∙ not-false _ c.if-not-same_super.false))
+    (omega arith, below_more _ l.a l.invariant.1 (ap₂ eqb (sym e) (sym d) ∙ sym c.same_super.ensures ∙ c.if-not-same_super.false))
 
 pub returns : goal.returns
 unfolding is_after

@@ -29,7 +29,7 @@ returns-then-not-same_super c =
     let S = shifts_of T in
     let l = c.loop-a in
     let e = c.perms_at-b.ensures ∙ perms_is T a.t l.a in
-    one_failed a.n_satom _ l.a c.loop-a-test.true (ap (λ x. eqb x l.a) (sym e) ∙ sym c.same_super.ensures ∙ not-true _ c.if-not-same_super.true)
+    one_failed a.n_satom _ l.a c.loop-a-test.true (ap (λ x. eqb x l.a) (sym e) ∙ sym c.same_super.ensures ∙ c.if-not-same_super.true)
 
 pub loop-a-preserved : goal.loop-a-preserved
 loop-a-preserved c =
@@ -38,7 +38,7 @@ loop-a-preserved c =
     let S = shifts_of T in
     let l = c.loop-a in
     let e = c.perms_at-b.ensures ∙ perms_is T a.t l.a in
-    (omega arith, below_more _ l.a l.invariant.1 (ap (λ x. eqb x l.a) (sym e) ∙ sym c.same_super.ensures ∙ not-false _ c.if-not-same_super.false))
+    (omega arith, below_more _ l.a l.invariant.1 (ap (λ x. eqb x l.a) (sym e) ∙ sym c.same_super.ensures ∙ c.if-not-same_super.false))
 
 pub returns : goal.returns
 unfolding is_null

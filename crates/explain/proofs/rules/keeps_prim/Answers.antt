@@ -9,25 +9,25 @@ use Rattle.explain.proofs.rules.keeps_prim.Goals as goal
 pub perms_at-requires : goal.perms_at-requires
 perms_at-requires c =
     let a = c.args in
-    let T : ShiftTables = shift_tables a.p2s.now a.s2pp.now a.nsym-list.now a.perms.now a.n_satom a.n-patom a.num-trans in
+    let T : ShiftTables = shift_tables a.p2s.now a.s2pp.now a.nsym_list.now a.perms.now a.n_satom a.n_patom a.num_trans in
     perms-read T c.requires.0 a.t a.a c.requires.1 c.requires.2
 
 pub s2pp_at-p-requires : goal.s2pp_at-p-requires
 s2pp_at-p-requires c =
     let a = c.args in
-    let T : ShiftTables = shift_tables a.p2s.now a.s2pp.now a.nsym-list.now a.perms.now a.n_satom a.n-patom a.num-trans in
+    let T : ShiftTables = shift_tables a.p2s.now a.s2pp.now a.nsym_list.now a.perms.now a.n_satom a.n_patom a.num_trans in
     let p = c.requires in
     s2pp-read T p.0 _ (image-below T p.0 c.perms_at.ensures p.1 p.2)
 
 pub s2pp_at-q-requires : goal.s2pp_at-q-requires
 s2pp_at-q-requires c =
     let a = c.args in
-    let T : ShiftTables = shift_tables a.p2s.now a.s2pp.now a.nsym-list.now a.perms.now a.n_satom a.n-patom a.num-trans in
+    let T : ShiftTables = shift_tables a.p2s.now a.s2pp.now a.nsym_list.now a.perms.now a.n_satom a.n_patom a.num_trans in
     s2pp-read T c.requires.0 a.a c.requires.2
 
 pub returns : goal.returns
 returns c =
     let a = c.args in
-    let T : ShiftTables = shift_tables a.p2s.now a.s2pp.now a.nsym-list.now a.perms.now a.n_satom a.n-patom a.num-trans in
+    let T : ShiftTables = shift_tables a.p2s.now a.s2pp.now a.nsym_list.now a.perms.now a.n_satom a.n_patom a.num_trans in
     let S = shifts_of T in
     c.same_prim.ensures ∙ ap₂ eqb (c.s2pp_at-p.ensures ∙ s2pp_is T _ ∙ ap (s2pp_at S) (c.perms_at.ensures ∙ perms_is T a.t a.a)) (c.s2pp_at-q.ensures ∙ s2pp_is T a.a)

@@ -16,18 +16,18 @@ pub overflow_add-b : goal.overflow_add-b
 overflow_add-b c = omega (arith, c.requires)
 
 pub read9-v-requires : goal.read9-v-requires
-read9-v-requires c = omega (arith, c.requires, c.loop.invariant.1)
+read9-v-requires c = omega (arith, c.requires, c.loop-c.invariant.1)
 
 pub overflow_add-b-in-loop-c : goal.overflow_add-b-in-loop-c
 overflow_add-b-in-loop-c c = omega (arith, c.requires)
 
 pub write9-requires : goal.write9-requires
-write9-requires c = omega (arith, c.requires, c.loop.invariant.1)
+write9-requires c = omega (arith, c.requires, c.loop-c.invariant.1)
 
 pub loop-c-preserved : goal.loop-c-preserved
 unfolding less_at
 loop-c-preserved c =
-    let l = c.loop in
+    let l = c.loop-c in
     (omega arith, c.write9.auto.fc ∙ l.invariant.1, times_more l.c _ _ l.invariant.2 (rw (c.less-w.ensures, c.read9-v.ensures) at c.write9.ensures))
 
 pub returns : goal.returns

@@ -27,11 +27,11 @@ swap_blocks-requires c =
 
 pub returns-then-not-half_shifts_stay : goal.returns-then-not-half_shifts_stay
 returns-then-not-half_shifts_stay c =
-    transpose_done _ c.args.fc.now _ _ _ c.requires _ _ c.block2-b.ensures c.stored_block2-c.ensures c.args.half_shifts_stay c.if-c-b.false (inl (not-true c.args.half_shifts_stay c.if-not-half_shifts_stay.true)) c.swap_blocks.ensures
+    transpose_done _ c.args.fc.now _ _ _ c.requires _ _ c.block2-b.ensures c.stored_block2-c.ensures c.args.half_shifts_stay c.if-c-b.false (inl (not-true c.args.half_shifts_stay c.if-not-half_shifts_stay.true-raw)) c.swap_blocks.ensures
 
 pub returns-then-j-i : goal.returns-then-j-i
 returns-then-j-i c =
-    transpose_none _ c.args.fc.now _ _ _ c.requires _ _ c.block2-b.ensures c.stored_block2-c.ensures c.args.half_shifts_stay (not-false c.args.half_shifts_stay c.if-not-half_shifts_stay.false) c.if-c-b-2.true c.if-j-i.true
+    transpose_none _ c.args.fc.now _ _ _ c.requires _ _ c.block2-b.ensures c.stored_block2-c.ensures c.args.half_shifts_stay (not-false c.args.half_shifts_stay c.if-not-half_shifts_stay.false-raw) c.if-c-b-2.true c.if-j-i.true
 
 pub swap_blocks-requires-2 : goal.swap_blocks-requires-2
 swap_blocks-requires-2 c =

@@ -13,13 +13,13 @@ block2-b-requires c =
 
 pub other_sums-s-requires : goal.other_sums-s-requires
 other_sums-s-requires c =
-    own_row (own_at c.requires.0 c.requires.1 c.p2s_at.ensures) c.block2.ensures
+    own_row (own_at c.requires.0 c.requires.1 c.p2s_at-i.ensures) c.block2-b.ensures
 
 pub write9-requires : goal.write9-requires
 write9-requires c =
-    own_in (own_at c.requires.0 c.requires.1 c.p2s_at.ensures) c.block2.ensures
+    own_in (own_at c.requires.0 c.requires.1 c.p2s_at-i.ensures) c.block2-b.ensures
 
 pub returns : goal.returns
 returns c =
     let T = shift_tables c.args.p2s.now c.args.s2pp.now c.args.nsym_list.now c.args.perms.now c.args.n_satom c.args.n_patom c.args.num_trans in
-    site_row_is T c.args.p c.args.fc.now c.p2s_at.ensures c.block2.ensures c.other_sums-s.ensures c.balance.ensures c.write9.ensures
+    site_row_is T c.args.p c.args.fc.now c.p2s_at-i.ensures c.block2-b.ensures c.other_sums-s.ensures c.balance.ensures c.write9.ensures

@@ -14,13 +14,13 @@ pub returns-then-is_refusal : goal.returns-then-is_refusal
 returns-then-is_refusal c =
     let a = c.args in
     let j = c.judge_full-a in
-    refused-with 64 3 a.set-len a.work_len _ a.num-atom j.result j.ensures (sym c.is_refusal.ensures ∙ c.if-is_refusal.true)
+    refused-with 64 3 a.set_len a.work_len _ a.num_atom j.result j.ensures (sym c.is_refusal.ensures ∙ c.if-is_refusal.true)
 
 pub set_blocks-requires : goal.set_blocks-requires
 set_blocks-requires c =
     let a = c.args in
     let j = c.judge_full-a in
-    let few = le_trans (done_full 64 3 a.set-len [] a.num-atom (sym j.ensures ∙ is_done j.result (sym c.is_refusal.ensures ∙ c.if-is_refusal.false))).0 (lit≤ tt) in
+    let few = le_trans (done_full 64 3 a.set_len [] a.num_atom (sym j.ensures ∙ is_done j.result (sym c.is_refusal.ensures ∙ c.if-is_refusal.false))).0 (lit≤ tt) in
     (few, few, lit≤ tt)
 
 pub returns-then-work_len-set_blocks : goal.returns-then-work_len-set_blocks
@@ -28,11 +28,11 @@ returns-then-work_len-set_blocks c =
     let a = c.args in
     let j = c.judge_full-a in
     let h = sym c.is_refusal.ensures ∙ c.if-is_refusal.false in
-    is_done j.result h ∙ right-with 64 3 a.set-len a.work_len _ a.num-atom j.result j.ensures h (c.if-work_len-set_blocks.true ∙ c.set_blocks.ensures)
+    is_done j.result h ∙ right-with 64 3 a.set_len a.work_len _ a.num_atom j.result j.ensures h (c.if-work_len-set_blocks.true ∙ c.set_blocks.ensures)
 
 pub returns : goal.returns
 returns c =
     let a = c.args in
     let j = c.judge_full-a in
     let h = sym c.is_refusal.ensures ∙ c.if-is_refusal.false in
-    wrong-with 64 3 a.set-len a.work_len _ a.num-atom j.result j.ensures h (λ e. c.if-work_len-set_blocks.false (e ∙ sym c.set_blocks.ensures))
+    wrong-with 64 3 a.set_len a.work_len _ a.num_atom j.result j.ensures h (λ e. c.if-work_len-set_blocks.false (e ∙ sym c.set_blocks.ensures))

@@ -12,14 +12,14 @@ loop-s-init c = (omega arith, refl, times_none _ _)
 
 pub bounds-done-b : goal.bounds-done-b
 bounds-done-b c =
-    let l = c.loop in
+    let l = c.loop-s in
     let g : get_or c.args.bs.now l.s 0 < length c.args.done.now = c.requires.inside l.s (omega arith) in
     let m : length l.done ≡ length c.args.done.now = l.invariant.1 in
     omega arith
 
 pub loop-s-preserved : goal.loop-s-preserved
 loop-s-preserved c =
-    let l = c.loop in
+    let l = c.loop-s in
     (omega arith, simp length-set l.invariant.1, times_more l.s _ _ l.invariant.2 refl)
 
 pub returns : goal.returns

@@ -15,12 +15,12 @@ loop-s-init c = (omega arith, refl, below_none _)
 
 pub read81-b-requires : goal.read81-b-requires
 read81-b-requires c =
-    let l = c.loop in
+    let l = c.loop-s in
     c.requires.inside l.s (omega arith)
 
 pub loop-s-preserved : goal.loop-s-preserved
 loop-s-preserved c =
-    let l = c.loop in
+    let l = c.loop-s in
     (omega arith, simp length-set l.invariant.1, fill_more [] _ l.g l.s _ (omega arith) c.read81-b.ensures l.invariant.2)
 
 pub returns : goal.returns

@@ -15,7 +15,7 @@ loop-s-init c = (omega arith, refl, times_none _ _)
 
 pub sources-m-requires : goal.sources-m-requires
 sources-m-requires c =
-    (c.inverse_permutations.ensures, c.requires.1)
+    (c.inverse_permutations-inverse.ensures, c.requires.1)
 
 pub loop-k-init : goal.loop-k-init
 loop-k-init c = (omega arith, refl, below_none _)
@@ -49,47 +49,47 @@ loop-k-preserved c =
 
 pub offset_bounds-bs-s-in-loop-s : goal.offset_bounds-bs-s-in-loop-s
 offset_bounds-bs-s-in-loop-s c =
-    let t = c.loop-test in
+    let t = c.loop-s-test in
     search rules
 
 pub bounds-bs-s-in-loop-s : goal.bounds-bs-s-in-loop-s
 bounds-bs-s-in-loop-s c =
-    let t = c.loop-test in
+    let t = c.loop-s-test in
     search rules
 
 pub write81-requires : goal.write81-requires
 write81-requires c =
-    let l = c.loop in
-    let t = c.loop-test in
+    let l = c.loop-s in
+    let t = c.loop-s-test in
     rw l.invariant.1 (c.requires.0.inside l.s t.true)
 
 pub overflow_add-s : goal.overflow_add-s
 overflow_add-s c =
-    let t = c.loop-test in
+    let t = c.loop-s-test in
     search rules
 
 pub next_block-s-requires : goal.next_block-s-requires
 next_block-s-requires c =
-    let t = c.loop-test in
+    let t = c.loop-s-test in
     omega arith
 
 pub loop-s-smaller : goal.loop-s-smaller
 loop-s-smaller c =
-    let t = c.loop-test in
+    let t = c.loop-s-test in
     let n = c.next_block-s.ensures in
     omega arith
 
 -- the block that was made, written, and the blocks that were passed over, which it leaves as they are
 pub loop-s-preserved : goal.loop-s-preserved
 loop-s-preserved c =
-    let l = c.loop in
-    let p = c.loop2 in
-    let t = c.loop2-test in
+    let l = c.loop-s in
+    let p = c.loop-k in
+    let t = c.loop-k-test in
     let w = c.write81 in
     let n = c.next_block-s.ensures in
     let b = get_or c.args.bs.now l.s 0 in
     let made : p.block ≡ made_of c.args.bs.now c.args.v b =
-    is_made c.args.bs.now c.args.v b c.sources.result p.block c.sources.ensures p.invariant.1 (λ j h. p.invariant.2 j (omega arith)) in (
+    is_made c.args.bs.now c.args.v b c.sources-m.result p.block c.sources-m.ensures p.invariant.1 (λ j h. p.invariant.2 j (omega arith)) in (
       n.to,
       w.auto.fc ∙ l.invariant.1,
       times_more l.s _ _ l.invariant.2 (w.ensures ∙ ap (λ y. put_block 81 b y l.fc4) made)

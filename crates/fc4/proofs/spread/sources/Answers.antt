@@ -14,12 +14,12 @@ loop-s-init c = (omega arith, times_none _ _)
 
 pub later-n-requires : goal.later-n-requires
 later-n-requires c =
-    let l = c.loop in
+    let l = c.loop-s in
     (c.requires.1, rw (inverse-at c.requires.0 l.s) (inverse-below l.s (omega arith)))
 
 pub loop-s-preserved : goal.loop-s-preserved
 loop-s-preserved c =
-    let l = c.loop in
+    let l = c.loop-s in
     let e : c.if-bs-s.m ≡ later_if_shared c.args.bs.now c.args.b l.s l.m =
     ⊎_elim
     (λ w. w.3 ∙ is_shared c.args.bs.now c.args.b l.s l.m w.0.taken w.2.ensures (inverse-at c.requires.0 l.s))

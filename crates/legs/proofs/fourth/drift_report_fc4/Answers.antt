@@ -15,21 +15,21 @@ use Rattle.legs.proofs.fourth.drift_report_fc4.Goals as goal
 pub returns-in-Refused : goal.returns-in-Refused
 returns-in-Refused c =
     let a = c.args in
-    full-refused limit4 3 a.fc.now a.num-atom _ (sym c.judge_full-a.ensures ∙ c.in-Refused.is)
+    full-refused limit4 3 a.fc.now a.num_atom _ (sym c.judge_full-a.ensures ∙ c.in-Refused.is)
 
 pub scan_full-seen-requires : goal.scan_full-seen-requires
 scan_full-seen-requires c =
     let a = c.args in
     let e = sym c.judge_full-a.ensures ∙ c.in-Done.is in
-    let few = (done_full limit4 3 (length a.fc.now) [] a.num-atom e).0 in
-    let h : a.num-atom ≤ 1024 = omega arith in
-    (ready-whole limit4 3 (length a.fc.now) a.num-atom (lit≤ tt) e, h)
+    let few = (done_full limit4 3 (length a.fc.now) [] a.num_atom e).0 in
+    let h : a.num_atom ≤ 1024 = omega arith in
+    (ready-whole limit4 3 (length a.fc.now) a.num_atom (lit≤ tt) e, h)
 
 pub returns-in-Done : goal.returns-in-Done
 returns-in-Done c =
     let a = c.args in
     ap Given c.conclude.ensures
-    ∙ full-given limit4 3 a.fc.now a.num-atom (sym c.judge_full-a.ensures ∙ c.in-Done.is) c.scan_full-seen.ensures
+    ∙ full-given limit4 3 a.fc.now a.num_atom (sym c.judge_full-a.ensures ∙ c.in-Done.is) c.scan_full-seen.ensures
 
 pub judge_full-a-requires : goal.judge_full-a-requires
 judge_full-a-requires c = (lit≤ tt, lit≤ tt)

@@ -33,7 +33,7 @@ pub stored_block4-requires : goal.stored_block4-requires
 stored_block4-requires c =
     let a = c.args in
     let h = room_pos a.n_satom 2 1 a.t c.requires.2 in
-    let T : ShiftTables = shift_tables a.p2s.now a.s2pp.now a.nsym_list.now a.perms.now a.n_satom a.n-patom a.num-trans in
+    let T : ShiftTables = shift_tables a.p2s.now a.s2pp.now a.nsym_list.now a.perms.now a.n_satom a.n_patom a.num_trans in
     let ea : c.column_of-3.result ≡ a.t / a.n_satom / a.n_satom % a.n_satom = c.column_of-3.ensures ∙ ap (λ x. x % a.n_satom) (c.row_of.ensures ∙ ap (λ x. x / a.n_satom) c.row_of-ab.ensures) in
     let eb : c.column_of-2.result ≡ a.t / a.n_satom % a.n_satom = c.column_of-2.ensures ∙ ap (λ x. x % a.n_satom) c.row_of-ab.ensures in
     let ec = c.column_of.ensures in
@@ -46,7 +46,7 @@ pub returns-then-leg-eq0 : goal.returns-then-leg-eq0
 returns-then-leg-eq0 c =
     let a = c.args in
     let h = room_pos a.n_satom 2 1 a.t c.requires.2 in
-    let T : ShiftTables = shift_tables a.p2s.now a.s2pp.now a.nsym_list.now a.perms.now a.n_satom a.n-patom a.num-trans in
+    let T : ShiftTables = shift_tables a.p2s.now a.s2pp.now a.nsym_list.now a.perms.now a.n_satom a.n_patom a.num_trans in
     let ea : c.column_of-3.result ≡ a.t / a.n_satom / a.n_satom % a.n_satom = c.column_of-3.ensures ∙ ap (λ x. x % a.n_satom) (c.row_of.ensures ∙ ap (λ x. x / a.n_satom) c.row_of-ab.ensures) in
     let eb : c.column_of-2.result ≡ a.t / a.n_satom % a.n_satom = c.column_of-2.ensures ∙ ap (λ x. x % a.n_satom) c.row_of-ab.ensures in
     let ec = c.column_of.ensures in
@@ -59,7 +59,7 @@ pub stored_block4-requires-then-leg-eq1 : goal.stored_block4-requires-then-leg-e
 stored_block4-requires-then-leg-eq1 c =
     let a = c.args in
     let h = room_pos a.n_satom 2 1 a.t c.requires.2 in
-    let T : ShiftTables = shift_tables a.p2s.now a.s2pp.now a.nsym_list.now a.perms.now a.n_satom a.n-patom a.num-trans in
+    let T : ShiftTables = shift_tables a.p2s.now a.s2pp.now a.nsym_list.now a.perms.now a.n_satom a.n_patom a.num_trans in
     let ea : c.column_of-3.result ≡ a.t / a.n_satom / a.n_satom % a.n_satom = c.column_of-3.ensures ∙ ap (λ x. x % a.n_satom) (c.row_of.ensures ∙ ap (λ x. x / a.n_satom) c.row_of-ab.ensures) in
     let eb : c.column_of-2.result ≡ a.t / a.n_satom % a.n_satom = c.column_of-2.ensures ∙ ap (λ x. x % a.n_satom) c.row_of-ab.ensures in
     let ec = c.column_of.ensures in
@@ -72,7 +72,7 @@ pub returns-then-leg-eq1 : goal.returns-then-leg-eq1
 returns-then-leg-eq1 c =
     let a = c.args in
     let h = room_pos a.n_satom 2 1 a.t c.requires.2 in
-    let T : ShiftTables = shift_tables a.p2s.now a.s2pp.now a.nsym_list.now a.perms.now a.n_satom a.n-patom a.num-trans in
+    let T : ShiftTables = shift_tables a.p2s.now a.s2pp.now a.nsym_list.now a.perms.now a.n_satom a.n_patom a.num_trans in
     let ea : c.column_of-3.result ≡ a.t / a.n_satom / a.n_satom % a.n_satom = c.column_of-3.ensures ∙ ap (λ x. x % a.n_satom) (c.row_of.ensures ∙ ap (λ x. x / a.n_satom) c.row_of-ab.ensures) in
     let eb : c.column_of-2.result ≡ a.t / a.n_satom % a.n_satom = c.column_of-2.ensures ∙ ap (λ x. x % a.n_satom) c.row_of-ab.ensures in
     let ec = c.column_of.ensures in
@@ -85,7 +85,7 @@ pub stored_block4-requires-then-leg-eq2 : goal.stored_block4-requires-then-leg-e
 stored_block4-requires-then-leg-eq2 c =
     let a = c.args in
     let h = room_pos a.n_satom 2 1 a.t c.requires.2 in
-    let T : ShiftTables = shift_tables a.p2s.now a.s2pp.now a.nsym_list.now a.perms.now a.n_satom a.n-patom a.num-trans in
+    let T : ShiftTables = shift_tables a.p2s.now a.s2pp.now a.nsym_list.now a.perms.now a.n_satom a.n_patom a.num_trans in
     let ea : c.column_of-3.result ≡ a.t / a.n_satom / a.n_satom % a.n_satom = c.column_of-3.ensures ∙ ap (λ x. x % a.n_satom) (c.row_of.ensures ∙ ap (λ x. x / a.n_satom) c.row_of-ab.ensures) in
     let eb : c.column_of-2.result ≡ a.t / a.n_satom % a.n_satom = c.column_of-2.ensures ∙ ap (λ x. x % a.n_satom) c.row_of-ab.ensures in
     let ec = c.column_of.ensures in
@@ -98,7 +98,7 @@ pub returns-then-leg-eq2 : goal.returns-then-leg-eq2
 returns-then-leg-eq2 c =
     let a = c.args in
     let h = room_pos a.n_satom 2 1 a.t c.requires.2 in
-    let T : ShiftTables = shift_tables a.p2s.now a.s2pp.now a.nsym_list.now a.perms.now a.n_satom a.n-patom a.num-trans in
+    let T : ShiftTables = shift_tables a.p2s.now a.s2pp.now a.nsym_list.now a.perms.now a.n_satom a.n_patom a.num_trans in
     let ea : c.column_of-3.result ≡ a.t / a.n_satom / a.n_satom % a.n_satom = c.column_of-3.ensures ∙ ap (λ x. x % a.n_satom) (c.row_of.ensures ∙ ap (λ x. x / a.n_satom) c.row_of-ab.ensures) in
     let eb : c.column_of-2.result ≡ a.t / a.n_satom % a.n_satom = c.column_of-2.ensures ∙ ap (λ x. x % a.n_satom) c.row_of-ab.ensures in
     let ec = c.column_of.ensures in
@@ -111,7 +111,7 @@ pub stored_block4-requires-2 : goal.stored_block4-requires-2
 stored_block4-requires-2 c =
     let a = c.args in
     let h = room_pos a.n_satom 2 1 a.t c.requires.2 in
-    let T : ShiftTables = shift_tables a.p2s.now a.s2pp.now a.nsym_list.now a.perms.now a.n_satom a.n-patom a.num-trans in
+    let T : ShiftTables = shift_tables a.p2s.now a.s2pp.now a.nsym_list.now a.perms.now a.n_satom a.n_patom a.num_trans in
     let ea : c.column_of-3.result ≡ a.t / a.n_satom / a.n_satom % a.n_satom = c.column_of-3.ensures ∙ ap (λ x. x % a.n_satom) (c.row_of.ensures ∙ ap (λ x. x / a.n_satom) c.row_of-ab.ensures) in
     let eb : c.column_of-2.result ≡ a.t / a.n_satom % a.n_satom = c.column_of-2.ensures ∙ ap (λ x. x % a.n_satom) c.row_of-ab.ensures in
     let ec = c.column_of.ensures in
@@ -124,7 +124,7 @@ pub returns : goal.returns
 returns c =
     let a = c.args in
     let h = room_pos a.n_satom 2 1 a.t c.requires.2 in
-    let T : ShiftTables = shift_tables a.p2s.now a.s2pp.now a.nsym_list.now a.perms.now a.n_satom a.n-patom a.num-trans in
+    let T : ShiftTables = shift_tables a.p2s.now a.s2pp.now a.nsym_list.now a.perms.now a.n_satom a.n_patom a.num_trans in
     let ea : c.column_of-3.result ≡ a.t / a.n_satom / a.n_satom % a.n_satom = c.column_of-3.ensures ∙ ap (λ x. x % a.n_satom) (c.row_of.ensures ∙ ap (λ x. x / a.n_satom) c.row_of-ab.ensures) in
     let eb : c.column_of-2.result ≡ a.t / a.n_satom % a.n_satom = c.column_of-2.ensures ∙ ap (λ x. x % a.n_satom) c.row_of-ab.ensures in
     let ec = c.column_of.ensures in

@@ -27,7 +27,7 @@ pub stored_block3-requires : goal.stored_block3-requires
 stored_block3-requires c =
     let a = c.args in
     let h = room_pos a.n_satom 1 1 a.t c.requires.2 in
-    let T : ShiftTables = shift_tables a.p2s.now a.s2pp.now a.nsym_list.now a.perms.now a.n_satom a.n-patom a.num-trans in
+    let T : ShiftTables = shift_tables a.p2s.now a.s2pp.now a.nsym_list.now a.perms.now a.n_satom a.n_patom a.num_trans in
     let ea : c.column_of-2.result ≡ a.t / a.n_satom % a.n_satom = c.column_of-2.ensures ∙ ap (λ x. x % a.n_satom) c.row_of.ensures in
     let eb = c.column_of.ensures in
     let ha : c.column_of-2.result < a.n_satom = rw c.column_of-2.ensures (mod-lt _ h) in
@@ -38,7 +38,7 @@ pub returns-then-leg-eq0 : goal.returns-then-leg-eq0
 returns-then-leg-eq0 c =
     let a = c.args in
     let h = room_pos a.n_satom 1 1 a.t c.requires.2 in
-    let T : ShiftTables = shift_tables a.p2s.now a.s2pp.now a.nsym_list.now a.perms.now a.n_satom a.n-patom a.num-trans in
+    let T : ShiftTables = shift_tables a.p2s.now a.s2pp.now a.nsym_list.now a.perms.now a.n_satom a.n_patom a.num_trans in
     let ea : c.column_of-2.result ≡ a.t / a.n_satom % a.n_satom = c.column_of-2.ensures ∙ ap (λ x. x % a.n_satom) c.row_of.ensures in
     let eb = c.column_of.ensures in
     let ha : c.column_of-2.result < a.n_satom = rw c.column_of-2.ensures (mod-lt _ h) in
@@ -49,7 +49,7 @@ pub stored_block3-requires-then-leg-eq1 : goal.stored_block3-requires-then-leg-e
 stored_block3-requires-then-leg-eq1 c =
     let a = c.args in
     let h = room_pos a.n_satom 1 1 a.t c.requires.2 in
-    let T : ShiftTables = shift_tables a.p2s.now a.s2pp.now a.nsym_list.now a.perms.now a.n_satom a.n-patom a.num-trans in
+    let T : ShiftTables = shift_tables a.p2s.now a.s2pp.now a.nsym_list.now a.perms.now a.n_satom a.n_patom a.num_trans in
     let ea : c.column_of-2.result ≡ a.t / a.n_satom % a.n_satom = c.column_of-2.ensures ∙ ap (λ x. x % a.n_satom) c.row_of.ensures in
     let eb = c.column_of.ensures in
     let ha : c.column_of-2.result < a.n_satom = rw c.column_of-2.ensures (mod-lt _ h) in
@@ -60,7 +60,7 @@ pub returns-then-leg-eq1 : goal.returns-then-leg-eq1
 returns-then-leg-eq1 c =
     let a = c.args in
     let h = room_pos a.n_satom 1 1 a.t c.requires.2 in
-    let T : ShiftTables = shift_tables a.p2s.now a.s2pp.now a.nsym_list.now a.perms.now a.n_satom a.n-patom a.num-trans in
+    let T : ShiftTables = shift_tables a.p2s.now a.s2pp.now a.nsym_list.now a.perms.now a.n_satom a.n_patom a.num_trans in
     let ea : c.column_of-2.result ≡ a.t / a.n_satom % a.n_satom = c.column_of-2.ensures ∙ ap (λ x. x % a.n_satom) c.row_of.ensures in
     let eb = c.column_of.ensures in
     let ha : c.column_of-2.result < a.n_satom = rw c.column_of-2.ensures (mod-lt _ h) in
@@ -71,7 +71,7 @@ pub stored_block3-requires-2 : goal.stored_block3-requires-2
 stored_block3-requires-2 c =
     let a = c.args in
     let h = room_pos a.n_satom 1 1 a.t c.requires.2 in
-    let T : ShiftTables = shift_tables a.p2s.now a.s2pp.now a.nsym_list.now a.perms.now a.n_satom a.n-patom a.num-trans in
+    let T : ShiftTables = shift_tables a.p2s.now a.s2pp.now a.nsym_list.now a.perms.now a.n_satom a.n_patom a.num_trans in
     let ea : c.column_of-2.result ≡ a.t / a.n_satom % a.n_satom = c.column_of-2.ensures ∙ ap (λ x. x % a.n_satom) c.row_of.ensures in
     let eb = c.column_of.ensures in
     let ha : c.column_of-2.result < a.n_satom = rw c.column_of-2.ensures (mod-lt _ h) in
@@ -82,7 +82,7 @@ pub returns : goal.returns
 returns c =
     let a = c.args in
     let h = room_pos a.n_satom 1 1 a.t c.requires.2 in
-    let T : ShiftTables = shift_tables a.p2s.now a.s2pp.now a.nsym_list.now a.perms.now a.n_satom a.n-patom a.num-trans in
+    let T : ShiftTables = shift_tables a.p2s.now a.s2pp.now a.nsym_list.now a.perms.now a.n_satom a.n_patom a.num_trans in
     let ea : c.column_of-2.result ≡ a.t / a.n_satom % a.n_satom = c.column_of-2.ensures ∙ ap (λ x. x % a.n_satom) c.row_of.ensures in
     let eb = c.column_of.ensures in
     let ha : c.column_of-2.result < a.n_satom = rw c.column_of-2.ensures (mod-lt _ h) in

@@ -15,11 +15,11 @@ place_all-p-requires c =
 pub returns-then-all_filled : goal.returns-then-all_filled
 returns-then-all_filled c =
     let a = c.args in
-    all_found (distance a.cell a.pos.now a.rot_pos.now) (length a.rot_atom.now) _ c.clear.ensures _ _ c.place_all.ensures.0 c.place_all.ensures.1
+    all_found (distance a.cell a.pos.now a.rot_pos.now) (length a.rot_atom.now) _ c.clear.ensures _ _ c.place_all-p.ensures.0 c.place_all-p.ensures.1
     (sym c.all_filled.ensures ∙ c.if-all_filled.true)
 
 pub returns : goal.returns
 returns c =
     let a = c.args in
-    not_found (distance a.cell a.pos.now a.rot_pos.now) (length a.rot_atom.now) _ c.clear.ensures _ _ c.place_all.ensures.0 c.place_all.ensures.1
+    not_found (distance a.cell a.pos.now a.rot_pos.now) (length a.rot_atom.now) _ c.clear.ensures _ _ c.place_all-p.ensures.0 c.place_all-p.ensures.1
     _ (sym c.all_filled.ensures ∙ c.if-all_filled.false) c.failed.ensures

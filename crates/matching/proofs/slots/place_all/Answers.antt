@@ -15,16 +15,16 @@ pub loop-i-init : goal.loop-i-init
 loop-i-init c = (omega arith, refl, record { there = omega arith; filled = below_none _ }, times_none _ _, pair-none _ _)
 
 pub skip_filled-start-requires : goal.skip_filled-start-requires
-skip_filled-start-requires c = c.loop.invariant.2
+skip_filled-start-requires c = c.loop-i.invariant.2
 
 pub place-s-requires : goal.place-s-requires
 place-s-requires c =
-    let l = c.loop in
-    (record { triples = record { pos_len = omega (arith, l.invariant.1, c.requires.pos_len); rot_len = omega (arith, l.invariant.1, c.requires.rot_len) }; below = omega arith }, c.skip_filled-start.ensures.0, c.reach_of.ensures.1)
+    let l = c.loop-i in
+    (record { triples = record { pos_len = omega (arith, l.invariant.1, c.requires.pos_len); rot_len = omega (arith, l.invariant.1, c.requires.rot_len) }; below = omega arith }, c.skip_filled-start.ensures.0, c.reach_of-r.ensures.1)
 
 pub loop-i-preserved : goal.loop-i-preserved
 loop-i-preserved c =
-    let l = c.loop in
+    let l = c.loop-i in
     let a = c.args in
     let p = c.place-s.ensures.0 in
     let q = c.place-s.ensures.1 in

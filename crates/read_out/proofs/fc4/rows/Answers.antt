@@ -28,7 +28,7 @@ slab-requires c =
       perms-read R.read-tables l.i (omega arith),
       (
         inside_slab a.n_satom 81 3 l.i a.n_satom _ (omega arith) R.full-length,
-        inside_slab a.n_satom 81 3 _ R.read-tables.n_patom _ (s2pp-read R.read-tables l.i (omega arith)).1 R.set-length,
+        inside_slab a.n_satom 81 3 _ R.read-tables.n_patom _ (s2pp-read R.read-tables l.i (omega arith)).1 R.set_length,
       ),
     )
 

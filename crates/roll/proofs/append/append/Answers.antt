@@ -10,7 +10,7 @@ pub add_record-requires : goal.add_record-requires
 add_record-requires c =
     let a = c.args in
     let r = entry a.kind a.set a.earlier a.label.now in
-    let B : Bytes a.lent.now = λ k. omega (arith, c.slice_known.given k) in
+    let B : Bytes a.lent.now = λ k. omega (arith, c.type_inv.lent k) in
     let m = may_add a.lent.now a.count r _ B (sym c.judge_append-a.ensures ∙ c.in-Count.is) in
     (m.0, m.1, m.2)
 
@@ -18,7 +18,7 @@ pub returns-in-Count : goal.returns-in-Count
 returns-in-Count c =
     let a = c.args in
     let r = entry a.kind a.set a.earlier a.label.now in
-    let B : Bytes a.lent.now = λ k. omega (arith, c.slice_known.given k) in
+    let B : Bytes a.lent.now = λ k. omega (arith, c.type_inv.lent k) in
     leaves-new a.lent.now a.count r _ _ B (sym c.judge_append-a.ensures ∙ c.in-Count.is) c.add_record.ensures
 
 pub returns-in-Refused : goal.returns-in-Refused

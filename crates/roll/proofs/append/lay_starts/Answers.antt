@@ -18,16 +18,16 @@ pub lay_four-requires : goal.lay_four-requires
 lay_four-requires c = omega (arith, c.listed_at.ensures)
 
 pub record_end-at-requires : goal.record_end-at-requires
-record_end-at-requires c = let a = c.args in omega (arith, head-before a.s.now c.loop.i a.n c.loop-test.true, c.lay_four.auto.0)
+record_end-at-requires c = let a = c.args in omega (arith, head-before a.s.now c.loop-i.i a.n c.loop-i-test.true, c.lay_four.auto.s)
 
 pub loop-i-preserved : goal.loop-i-preserved
 loop-i-preserved c =
     let a = c.args in
-    let l = c.loop in
-    let h = c.loop-test.true in
+    let l = c.loop-i in
+    let h = c.loop-i-test.true in
     let q = more-starts a.s.now a.n a.t c.requires.0 c.requires.1 l.s _ l.i l.at _ h l.invariant.2 c.listed_at.ensures l.invariant.3 c.lay_four.ensures in
     let z = c.record_end-at.ensures ∙ still a.s.now a.n a.t c.requires.0 c.requires.1 _ l.i l.at h l.invariant.2 q in
-    (omega arith, c.lay_four.auto.0 ∙ l.invariant.1, next_start a.s.now l.i l.at c.record_end-at.result l.invariant.2 z, q)
+    (omega arith, c.lay_four.auto.s ∙ l.invariant.1, next_start a.s.now l.i l.at c.record_end-at.result l.invariant.2 z, q)
 
 pub returns : goal.returns
 returns c =

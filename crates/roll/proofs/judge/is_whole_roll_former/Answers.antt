@@ -5,24 +5,24 @@ use borrow.Author.Rules.{rules}
 use Rattle.roll.proofs.judge.is_whole_roll_former.Goals as goal
 
 pub returns-then-not-is_sized : goal.returns-then-not-is_sized
-returns-then-not-is_sized c = not-former c.args.b.now (told-no c.is_sized.ensures c.if-not-is_sized.true)
+returns-then-not-is_sized c = not-former c.args.b.now (told-no c.is_sized.ensures c.if-not-is_sized.true-raw)
 
 pub has_records-requires : goal.has_records-requires
 has_records-requires c =
     let b = c.args.b.now in
-    sized_for b _ _ (told_yes c.is_sized.ensures c.if-not-is_sized.false) (count_is b c.count_in.ensures.0) (trailer_is b c.trailer_in.ensures.0)
+    sized_for b _ _ (told_yes c.is_sized.ensures c.if-not-is_sized.false-raw) (count_is b c.count_in.ensures.0) (trailer_is b c.trailer_in.ensures.0)
 
 pub returns : goal.returns
 returns c =
     let b = c.args.b.now in
-    former-by b _ _ _ (told_yes c.is_sized.ensures c.if-not-is_sized.false) (count_is b c.count_in.ensures.0) (trailer_is b c.trailer_in.ensures.0) c.has_records.ensures
+    former-by b _ _ _ (told_yes c.is_sized.ensures c.if-not-is_sized.false-raw) (count_is b c.count_in.ensures.0) (trailer_is b c.trailer_in.ensures.0) c.has_records.ensures
 
 pub count_in-requires : goal.count_in-requires
 count_in-requires c =
     let b = c.args.b.now in
-    ((sized_says b (told_yes c.is_sized.ensures c.if-not-is_sized.false)).0, omega arith)
+    ((sized_says b (told_yes c.is_sized.ensures c.if-not-is_sized.false-raw)).0, omega arith)
 
 pub trailer_in-requires : goal.trailer_in-requires
 trailer_in-requires c =
     let b = c.args.b.now in
-    ((sized_says b (told_yes c.is_sized.ensures c.if-not-is_sized.false)).0, omega arith)
+    ((sized_says b (told_yes c.is_sized.ensures c.if-not-is_sized.false-raw)).0, omega arith)

@@ -21,7 +21,7 @@ returns-then-not-fits c =
     let b = a.b.now in
     let l = c.loop-i in
     no-and (follow b a.n a.t) (every a.n (λ i. eqb (listed b i) (record_start b i))) (sym (not_fitting b a.n a.t l.i c.loop-i-test.true
-    (subst (λ x. (leb (x + size_at b x) a.t && ruled_at b x) ≡ false) l.invariant.1 (told-no c.fits2.ensures c.if-not-fits.true))))
+    (subst (λ x. (leb (x + size_at b x) a.t && ruled_at b x) ≡ false) l.invariant.1 (told-no c.fits.ensures c.if-not-fits.true-raw))))
 
 pub returns-then-four-p : goal.returns-then-four-p
 returns-then-four-p c =
@@ -36,7 +36,7 @@ returns-then-four-p c =
 pub record_end-p-requires : goal.record_end-p-requires
 record_end-p-requires c =
     let a = c.args in
-    let f = fit_says a.b.now c.loop-i.p a.t (told_yes c.fits2.ensures c.if-not-fits.false) in
+    let f = fit_says a.b.now c.loop-i.p a.t (told_yes c.fits.ensures c.if-not-fits.false-raw) in
     omega (arith, f.0)
 
 pub loop-i-preserved : goal.loop-i-preserved
@@ -44,7 +44,7 @@ loop-i-preserved c =
     let a = c.args in
     let b = a.b.now in
     let l = c.loop-i in
-    let f = fit_says b l.p a.t (told_yes c.fits2.ensures c.if-not-fits.false) in
+    let f = fit_says b l.p a.t (told_yes c.fits.ensures c.if-not-fits.false-raw) in
     let z = c.record_end-p.ensures in
     let e = listed_is b a.t l.i _ _ c.requires.1 c.listed_at.ensures c.four.ensures.0 in (
       omega arith,

@@ -28,16 +28,16 @@ returns-then-t-x c =
 pub returns-then-marks-x-eq0 : goal.returns-then-marks-x-eq0
 returns-then-marks-x-eq0 c =
     let b = c.args.b.now in
-    let l = c.loop in
-    let e = listed_is b c.args.t l.i _ _ c.requires.1 c.listed_at.ensures c.four.ensures.0 in
-    one_failed c.args.n (listed_once b) l.i c.loop-test.true (is_shut b l.i l.marks l.invariant.1 (ap (λ x. get_or l.marks x 0) (sym e) ∙ c.if-marks-x-eq0.true))
+    let l = c.loop-i in
+    let e = listed_is b c.args.t l.i _ _ c.requires.1 c.listed_at.ensures c.four-x.ensures.0 in
+    one_failed c.args.n (listed_once b) l.i c.loop-i-test.true (is_shut b l.i l.marks l.invariant.1 (ap (λ x. get_or l.marks x 0) (sym e) ∙ c.if-marks-x-eq0.true))
 
 pub loop-i-preserved : goal.loop-i-preserved
 loop-i-preserved c =
     let b = c.args.b.now in
-    let l = c.loop in
-    let e = listed_is b c.args.t l.i _ _ c.requires.1 c.listed_at.ensures c.four.ensures.0 in
-    let small : c.four.result < 65536 = omega arith in (
+    let l = c.loop-i in
+    let e = listed_is b c.args.t l.i _ _ c.requires.1 c.listed_at.ensures c.four-x.ensures.0 in
+    let small : c.four-x.result < 65536 = omega arith in (
       omega arith,
       subst (λ x. Open b (l.i + 1) (set l.marks x 0)) (sym e) (one_shut b l.i l.marks (subst (λ x. x < 65536) e small) l.invariant.1),
       below_more (λ k. listed_once b k ≡ true) l.i l.invariant.2 (is_open_lem b l.i l.marks l.invariant.1 (λ z. c.if-marks-x-eq0.false (ap (λ x. get_or l.marks x 0) e ∙ z))),

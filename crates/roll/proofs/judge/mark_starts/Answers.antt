@@ -23,28 +23,28 @@ returns-then-not-fits c =
     let b = a.b.now in
     let l = c.loop-i in (
       not_fitting b a.n a.t l.i c.loop-i-test.true
-          (subst (λ x. (leb (x + size_at b x) a.t && ruled_at b x) ≡ false) l.invariant.1 (told-no c.fits2.ensures c.if-not-fits.true)),
+          (subst (λ x. (leb (x + size_at b x) a.t && ruled_at b x) ≡ false) l.invariant.1 (told-no c.fits.ensures c.if-not-fits.true-raw)),
       λ q. absurd (true≢false (sym q)),
     )
 
 pub bounds-marks-at : goal.bounds-marks-at
 bounds-marks-at c =
     let a = c.args in
-    let f = fit_says a.b.now c.loop.at a.t (told_yes c.fits2.ensures c.if1.false) in
+    let f = fit_says a.b.now c.loop-i.at a.t (told_yes c.fits.ensures c.if-not-fits.false-raw) in
     omega (arith, f.0)
 
 pub record_end-at-requires : goal.record_end-at-requires
 record_end-at-requires c =
     let a = c.args in
-    let f = fit_says a.b.now c.loop.at a.t (told_yes c.fits2.ensures c.if1.false) in
+    let f = fit_says a.b.now c.loop-i.at a.t (told_yes c.fits.ensures c.if-not-fits.false-raw) in
     omega (arith, f.0)
 
 pub loop-i-preserved : goal.loop-i-preserved
 loop-i-preserved c =
     let a = c.args in
     let b = a.b.now in
-    let l = c.loop in
-    let f = fit_says b l.at a.t (told_yes c.fits2.ensures c.if1.false) in
+    let l = c.loop-i in
+    let f = fit_says b l.at a.t (told_yes c.fits.ensures c.if-not-fits.false-raw) in
     let z = c.record_end-at.ensures in
     let s : record_start b l.i < 65536 = omega (arith, l.invariant.1) in (
       omega arith,

@@ -35,7 +35,7 @@ returns-then-not-same_super c =
     let e = c.perms_at-d.ensures ∙ ap (image c.args.perms.now c.args.n_satom c.args.g) c.shifted.ensures in
     let f = c.shifted-in-loop-a.ensures ∙ ap (λ x. get_or c.args.right.now x 0) c.perms_at-b.ensures in
     let r = c.same_super.ensures in
-    (λ q. absurd (true≢false (sym q)), λ h. absurd (not-both (r ∙ eq-eqb _ _ (e ∙ h l.a c.loop-a-test.true ∙ sym f)) (not-true _ c.if-not-same_super.true)))
+    (λ q. absurd (true≢false (sym q)), λ h. absurd (not-both (r ∙ eq-eqb _ _ (e ∙ h l.a c.loop-a-test.true ∙ sym f)) c.if-not-same_super.true))
 
 pub loop-a-preserved : goal.loop-a-preserved
 loop-a-preserved c =
@@ -43,7 +43,7 @@ loop-a-preserved c =
     let e = c.perms_at-d.ensures ∙ ap (image c.args.perms.now c.args.n_satom c.args.g) c.shifted.ensures in
     let f = c.shifted-in-loop-a.ensures ∙ ap (λ x. get_or c.args.right.now x 0) c.perms_at-b.ensures in
     let r = c.same_super.ensures in
-    (omega arith, below_more _ l.a l.invariant.1 (sym e ∙ eqb-true _ _ (sym r ∙ not-false _ c.if-not-same_super.false) ∙ f))
+    (omega arith, below_more _ l.a l.invariant.1 (sym e ∙ eqb-true _ _ (sym r ∙ c.if-not-same_super.false) ∙ f))
 
 pub returns : goal.returns
 returns c = (λ _ k h. c.loop-a.invariant.1 k (omega arith), λ _. refl)

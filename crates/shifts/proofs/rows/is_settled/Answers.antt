@@ -16,7 +16,7 @@ pub keeps_rows-requires : goal.keeps_rows-requires
 keeps_rows-requires c = (c.requires.0, c.requires.1)
 
 pub returns-then-not-keeps_rows : goal.returns-then-not-keeps_rows
-returns-then-not-keeps_rows c = (c.requires.2, (λ q. absurd (true≢false (sym q)), λ f. absurd (not-both (c.keeps_rows.ensures.1 (f c.if-gens-s-eq0.false).0) (not-true _ c.if-not-keeps_rows.true))))
+returns-then-not-keeps_rows c = (c.requires.2, (λ q. absurd (true≢false (sym q)), λ f. absurd (not-both (c.keeps_rows.ensures.1 (f c.if-gens-s-eq0.false).0) c.if-not-keeps_rows.true)))
 
 pub shift_right-requires : goal.shift_right-requires
 shift_right-requires c = c.requires
@@ -31,7 +31,7 @@ returns c =
     let e = c.shift_right.ensures.0 in (
       c.shift_right.ensures.1,
       (
-        λ q p. (c.keeps_rows.ensures.0 (not-false _ c.if2.false), λ g hg z. commutes-same R _ _ e g hg (c.all_commute.ensures.0 q g hg z)),
-        λ f. c.all_commute.ensures.1 (λ g hg z. commutes-same R _ _ (λ a ha. sym (e a ha)) g hg ((f c.if1.false).1 g hg z)),
+        λ q p. (c.keeps_rows.ensures.0 c.if-not-keeps_rows.false, λ g hg z. commutes-same R _ _ e g hg (c.all_commute.ensures.0 q g hg z)),
+        λ f. c.all_commute.ensures.1 (λ g hg z. commutes-same R _ _ (λ a ha. sym (e a ha)) g hg ((f c.if-gens-s-eq0.false).1 g hg z)),
       ),
     )

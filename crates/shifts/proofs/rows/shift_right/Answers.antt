@@ -45,18 +45,18 @@ pub offset_bounds-right-a : goal.offset_bounds-right-a
 offset_bounds-right-a c = omega (arith, c.requires.0.rows.atoms, c.loop-a-test.true)
 
 pub bounds-right-a : goal.bounds-right-a
-bounds-right-a c = omega (arith, c.requires.0.rows.atoms, c.loop-test.true)
+bounds-right-a c = omega (arith, c.requires.0.rows.atoms, c.loop-a-test.true)
 
 pub loop-a-preserved : goal.loop-a-preserved
 loop-a-preserved c =
     let a = c.args in
-    let l = c.loop in
+    let l = c.loop-a in
     let im : ℕ → ℕ → ℕ = λ t x. image a.perms.now a.n_satom t x in
-    let v = c.perms_at2.result.0 in
+    let v = c.perms_at-b.result.0 in
     let e : v ≡ right_of a.perms.now a.n_satom a.p2s.now a.s2pp.now a.sent.now a.s l.a =
-    c.perms_at2.ensures ∙ ap (λ x. im x c.perms_at.result.0) c.sender.ensures
-    ∙ ap (im (get_or a.sent.now l.a 0 - 1)) (c.perms_at.ensures ∙ ap (im a.s) (c.p2s_at.ensures ∙ ap (index_at a.p2s.now) c.s2pp_at.ensures)) in
-    let h : l.a < length l.right = omega (arith, c.requires.0.rows.atoms, c.loop-test.true, l.invariant.2) in (
+    c.perms_at-b.ensures ∙ ap (λ x. im x c.perms_at.result.0) c.sender.ensures
+    ∙ ap (im (get_or a.sent.now l.a 0 - 1)) (c.perms_at.ensures ∙ ap (im a.s) (c.p2s_at-p.ensures ∙ ap (index_at a.p2s.now) c.s2pp_at.ensures)) in
+    let h : l.a < length l.right = omega (arith, c.requires.0.rows.atoms, c.loop-a-test.true, l.invariant.2) in (
       omega arith,
       below_more (λ k. get_or (set l.right l.a v) k 0 ≡ right_of a.perms.now a.n_satom a.p2s.now a.s2pp.now a.sent.now a.s k) l.a
           (λ k b. get_or-set_other l.right l.a k v 0 (λ q. omega arith) ∙ l.invariant.1 k b)

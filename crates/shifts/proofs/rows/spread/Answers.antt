@@ -16,10 +16,10 @@ learn_after-requires c =
     ((c.requires.0.0, l.invariant.1, c.requires.0.2), (c.requires.1.0, l.invariant.2, l.invariant.3))
 
 pub returns-then-not-learn_after : goal.returns-then-not-learn_after
-returns-then-not-learn_after c = (c.learn_after.ensures.0, λ C. absurd (not-both (c.learn_after.ensures.1 C) (not-true _ c.if-not-learn_after.true)))
+returns-then-not-learn_after c = (c.learn_after.ensures.0, λ C. absurd (not-both (c.learn_after.ensures.1 C) c.if-not-learn_after.true))
 
 pub bounds-known-r : goal.bounds-known-r
-bounds-known-r c = omega (arith, c.requires.0.0.rows.shifts, c.loop.invariant.1)
+bounds-known-r c = omega (arith, c.requires.0.0.rows.shifts, c.loop-k.invariant.1)
 
 pub returns-then-x-eq0 : goal.returns-then-x-eq0
 returns-then-x-eq0 c = (c.learn_after.ensures.0, λ _. refl)
@@ -29,7 +29,7 @@ returns-then-num_trans-x c = (c.learn_after.ensures.0, λ _. refl)
 
 pub loop-k-preserved : goal.loop-k-preserved
 loop-k-preserved c =
-    let l = c.loop in
+    let l = c.loop-k in
     let K = c.learn_after.ensures.0 in
     (omega arith, omega arith, K.next l.r _ l.invariant.1 (omega arith) (omega arith), K)
 

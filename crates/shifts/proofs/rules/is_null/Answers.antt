@@ -23,14 +23,14 @@ returns-then-not-same_super c =
     let a = c.args in
     let k = c.loop-a.a in
     let e = c.perms_at-b.ensures ∙ row_is a.n_satom a.num_trans a.perms.now a.t k in
-    one_failed a.n_satom _ k c.loop-a-test.true (ap (λ x. eqb x k) (sym e) ∙ sym c.same_super.ensures ∙ not-true _ c.if-not-same_super.true)
+    one_failed a.n_satom _ k c.loop-a-test.true (ap (λ x. eqb x k) (sym e) ∙ sym c.same_super.ensures ∙ c.if-not-same_super.true)
 
 pub loop-a-preserved : goal.loop-a-preserved
 loop-a-preserved c =
     let a = c.args in
     let l = c.loop-a in
     let e = c.perms_at-b.ensures ∙ row_is a.n_satom a.num_trans a.perms.now a.t l.a in
-    (omega arith, below_more _ l.a l.invariant.1 (ap (λ x. eqb x l.a) (sym e) ∙ sym c.same_super.ensures ∙ not-false _ c.if-not-same_super.false))
+    (omega arith, below_more _ l.a l.invariant.1 (ap (λ x. eqb x l.a) (sym e) ∙ sym c.same_super.ensures ∙ c.if-not-same_super.false))
 
 pub returns : goal.returns
 unfolding is_null

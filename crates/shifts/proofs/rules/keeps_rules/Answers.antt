@@ -26,13 +26,13 @@ pub returns-then-not-has_null : goal.returns-then-not-has_null
 returns-then-not-has_null c =
     let a = c.args in
     let T : ShiftTables = shift_tables a.p2s.now a.s2pp.now a.nsym_list.now a.perms.now a.n_satom a.n_patom a.num_trans in
-    sym (refuted (ruled (shifts_of T)) (λ e. not-both (rules_of (shifts_of T) e).1.1.0 (sym (same-null T) ∙ told-no c.has_null.ensures c.if-not-has_null.true)))
+    sym (refuted (ruled (shifts_of T)) (λ e. not-both (rules_of (shifts_of T) e).1.1.0 (sym (same-null T) ∙ told-no c.has_null.ensures c.if-not-has_null.true-raw)))
 
 pub returns-then-not-nsym_lands : goal.returns-then-not-nsym_lands
 returns-then-not-nsym_lands c =
     let a = c.args in
     let T : ShiftTables = shift_tables a.p2s.now a.s2pp.now a.nsym_list.now a.perms.now a.n_satom a.n_patom a.num_trans in
-    sym (refuted (ruled (shifts_of T)) (λ e. not-both (rules_of (shifts_of T) e).1.1.1.1.1.1.1 (told-no c.nsym_lands_lem.ensures c.if-not-nsym_lands.true)))
+    sym (refuted (ruled (shifts_of T)) (λ e. not-both (rules_of (shifts_of T) e).1.1.1.1.1.1.1 (told-no c.nsym_lands_lem.ensures c.if-not-nsym_lands.true-raw)))
 
 pub place_all-requires : goal.place_all-requires
 place_all-requires c = let F = c.requires in (F.p2s-fit, F.s2pp-fit, record { atoms = F.satoms; shifts = F.shifts; table = F.perms-fit }, refl)
@@ -41,7 +41,7 @@ pub returns-then-not-place_all : goal.returns-then-not-place_all
 returns-then-not-place_all c =
     let a = c.args in
     let T : ShiftTables = shift_tables a.p2s.now a.s2pp.now a.nsym_list.now a.perms.now a.n_satom a.n_patom a.num_trans in
-    sym (refuted (ruled (shifts_of T)) (λ e. not-both (c.place_all.ensures.1 (ruled-spread T c.requires e)) (not-true _ c.if-not-place_all.true)))
+    sym (refuted (ruled (shifts_of T)) (λ e. not-both (c.place_all.ensures.1 (ruled-spread T c.requires e)) c.if-not-place_all.true))
 
 pub all_placed-requires : goal.all_placed-requires
 all_placed-requires c = omega (arith, c.requires.satoms)
@@ -51,18 +51,18 @@ returns-then-not-all_placed c =
     let a = c.args in
     let w = c.place_all in
     let T : ShiftTables = shift_tables a.p2s.now a.s2pp.now a.nsym_list.now a.perms.now a.n_satom a.n_patom a.num_trans in
-    let L = w.ensures.0 (not-false _ c.if-not-place_all.false) in
-    sym (refuted (ruled (shifts_of T)) (λ e. not-both (c.all_placed.ensures.1 (ruled-placed T c.requires _ L e)) (not-true _ c.if-not-all_placed.true)))
+    let L = w.ensures.0 c.if-not-place_all.false in
+    sym (refuted (ruled (shifts_of T)) (λ e. not-both (c.all_placed.ensures.1 (ruled-placed T c.requires _ L e)) c.if-not-all_placed.true))
 
 pub returns-then-n_satom-eq0 : goal.returns-then-n_satom-eq0
 unfolding counts_agree
 returns-then-n_satom-eq0 c =
     let a = c.args in
     let T : ShiftTables = shift_tables a.p2s.now a.s2pp.now a.nsym_list.now a.perms.now a.n_satom a.n_patom a.num_trans in
-    let L = c.place_all.ensures.0 (not-false _ c.if-not-place_all.false) in
+    let L = c.place_all.ensures.0 c.if-not-place_all.false in
     sym (all-ruled (shifts_of T) (fit-within T c.requires) (eq-eqb _ _ c.if-n_satom-n_patom.false)
-    (sym (same-null T) ∙ told_yes c.has_null.ensures c.if-not-has_null.false)
-    (told_yes c.nsym_lands_lem.ensures c.if-not-nsym_lands.false)
+    (sym (same-null T) ∙ told_yes c.has_null.ensures c.if-not-has_null.false-raw)
+    (told_yes c.nsym_lands_lem.ensures c.if-not-nsym_lands.false-raw)
     (placed-kept T c.requires _ L)
     (placed-free T c.requires _ L)
     (closed-rows T c.requires (closed_none T c.requires c.if-n_satom-eq0.true)))
@@ -71,22 +71,22 @@ pub rows_closed-requires : goal.rows_closed-requires
 rows_closed-requires c =
     let a = c.args in
     let T : ShiftTables = shift_tables a.p2s.now a.s2pp.now a.nsym_list.now a.perms.now a.n_satom a.n_patom a.num_trans in
-    let L = c.place_all.ensures.0 (not-false _ c.if-not-place_all.false) in
-    let C = c.all_placed.ensures.0 (not-false _ c.if-not-all_placed.false) in
+    let L = c.place_all.ensures.0 c.if-not-place_all.false in
+    let C = c.all_placed.ensures.0 c.if-not-all_placed.false in
     let atom : 0 < a.n_satom = omega arith in
-    sent_of T c.requires _ L (sym (same-null T) ∙ told_yes c.has_null.ensures c.if-not-has_null.false) C (omega (arith, (read c.requires.s2pp-fit 0 atom).1))
+    sent_of T c.requires _ L (sym (same-null T) ∙ told_yes c.has_null.ensures c.if-not-has_null.false-raw) C (omega (arith, (read c.requires.s2pp-fit 0 atom).1))
 
 pub returns : goal.returns
 unfolding counts_agree
 returns c =
     let a = c.args in
     let T : ShiftTables = shift_tables a.p2s.now a.s2pp.now a.nsym_list.now a.perms.now a.n_satom a.n_patom a.num_trans in
-    let L = c.place_all.ensures.0 (not-false _ c.if-not-place_all.false) in
+    let L = c.place_all.ensures.0 c.if-not-place_all.false in
     same_test _ (ruled (shifts_of T))
     (λ e.
     all-ruled (shifts_of T) (fit-within T c.requires) (eq-eqb _ _ c.if-n_satom-n_patom.false)
-    (sym (same-null T) ∙ told_yes c.has_null.ensures c.if-not-has_null.false)
-    (told_yes c.nsym_lands_lem.ensures c.if-not-nsym_lands.false)
+    (sym (same-null T) ∙ told_yes c.has_null.ensures c.if-not-has_null.false-raw)
+    (told_yes c.nsym_lands_lem.ensures c.if-not-nsym_lands.false-raw)
     (placed-kept T c.requires _ L)
     (placed-free T c.requires _ L)
     (closed-rows T c.requires (c.rows_closed.ensures.0 e)))

@@ -43,7 +43,7 @@ returns-then-not-same_super c =
     let e : c.perms_at-b.result.0 ≡ row S (nsym_at S l.a) l.a =
     c.perms_at-b.ensures ∙ perms_is T _ l.a ∙ ap (λ t. row S t l.a) (c.nsym_at.ensures ∙ nsym_is T l.a) in
     let f : c.p2s_at-d.result.0 ≡ p2s_at S (s2pp_at S l.a) = c.p2s_at-d.ensures ∙ p2s_is T _ ∙ ap (p2s_at S) (c.s2pp_at.ensures ∙ s2pp_is T l.a) in
-    one_failed _ _ l.a c.loop-a-test.true (ap₂ eqb (sym e) (sym f) ∙ sym r ∙ not-true _ c.if-not-same_super.true)
+    one_failed _ _ l.a c.loop-a-test.true (ap₂ eqb (sym e) (sym f) ∙ sym r ∙ c.if-not-same_super.true)
 
 pub loop-a-preserved : goal.loop-a-preserved
 loop-a-preserved c =
@@ -55,7 +55,7 @@ loop-a-preserved c =
     let e : c.perms_at-b.result.0 ≡ row S (nsym_at S l.a) l.a =
     c.perms_at-b.ensures ∙ perms_is T _ l.a ∙ ap (λ t. row S t l.a) (c.nsym_at.ensures ∙ nsym_is T l.a) in
     let f : c.p2s_at-d.result.0 ≡ p2s_at S (s2pp_at S l.a) = c.p2s_at-d.ensures ∙ p2s_is T _ ∙ ap (p2s_at S) (c.s2pp_at.ensures ∙ s2pp_is T l.a) in
-    (omega arith, below_more _ l.a l.invariant.1 (ap₂ eqb (sym e) (sym f) ∙ sym r ∙ not-false _ c.if-not-same_super.false))
+    (omega arith, below_more _ l.a l.invariant.1 (ap₂ eqb (sym e) (sym f) ∙ sym r ∙ c.if-not-same_super.false))
 
 pub returns : goal.returns
 unfolding nsym_lands

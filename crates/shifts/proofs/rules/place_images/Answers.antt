@@ -28,7 +28,7 @@ returns-then-not-same_prim c =
     let a = c.args in
     let l = c.loop-t in
     let e = c.s2pp_at-q.ensures ∙ ap (index_at a.s2pp.now) c.perms_at-x.ensures in
-    (λ q. absurd (true≢false (sym q)), λ f. absurd (not-both (c.same_prim.ensures ∙ eq-eqb _ _ (e ∙ f.0 l.t c.loop-t-test.true)) (not-true _ c.if-not-same_prim.true)))
+    (λ q. absurd (true≢false (sym q)), λ f. absurd (not-both (c.same_prim.ensures ∙ eq-eqb _ _ (e ∙ f.0 l.t c.loop-t-test.true)) c.if-not-same_prim.true))
 
 pub offset_bounds-sent-i : goal.offset_bounds-sent-i
 offset_bounds-sent-i c =
@@ -36,37 +36,37 @@ offset_bounds-sent-i c =
 
 pub bounds-sent-i : goal.bounds-sent-i
 bounds-sent-i c =
-    omega (arith, c.perms_at.ensures, c.requires.1.atoms, image-below c.requires.1 c.loop.t c.args.a.0 c.loop-test.true c.requires.2)
+    omega (arith, c.perms_at-x.ensures, c.requires.1.atoms, image-below c.requires.1 c.loop-t.t c.args.a.0 c.loop-t-test.true c.requires.2)
 
 pub returns-then-sent-i-ne0 : goal.returns-then-sent-i-ne0
 returns-then-sent-i-ne0 c =
     let a = c.args in
-    let l = c.loop in
-    let h = c.loop-test.true in
-    let e = c.perms_at.ensures in (
+    let l = c.loop-t in
+    let h = c.loop-t-test.true in
+    let e = c.perms_at-x.ensures in (
       λ q. absurd (true≢false (sym q)),
       λ f. absurd (placing-twice a.n_satom l.t a.a.0 a.p.0 a.perms.now a.s2pp.now a.sent.now l.sent l.invariant.1 a.num_trans h c.requires.3 f (λ z. c.if-sent-i-ne0.true (ap (λ x. get_or l.sent x 0) e ∙ z))),
     )
 
 pub offset_bounds-sent-i-in-loop-t : goal.offset_bounds-sent-i-in-loop-t
 offset_bounds-sent-i-in-loop-t c =
-    omega (arith, c.perms_at.ensures, c.requires.1.atoms, image-below c.requires.1 c.loop.t c.args.a.0 c.loop-test.true c.requires.2)
+    omega (arith, c.perms_at-x.ensures, c.requires.1.atoms, image-below c.requires.1 c.loop-t.t c.args.a.0 c.loop-t-test.true c.requires.2)
 
 pub bounds-sent-i-in-loop-t : goal.bounds-sent-i-in-loop-t
 bounds-sent-i-in-loop-t c =
-    omega (arith, c.perms_at.ensures, c.requires.1.atoms, image-below c.requires.1 c.loop.t c.args.a.0 c.loop-test.true c.requires.2)
+    omega (arith, c.perms_at-x.ensures, c.requires.1.atoms, image-below c.requires.1 c.loop-t.t c.args.a.0 c.loop-t-test.true c.requires.2)
 
 pub loop-t-preserved : goal.loop-t-preserved
 loop-t-preserved c =
     let a = c.args in
-    let l = c.loop in
-    let h = c.loop-test.true in
-    let e : c.before.before.before.before.before.perms_at.result.0 ≡ image a.perms.now a.n_satom l.t a.a.0 = c.perms_at.ensures in
-    let f = c.s2pp_at.ensures ∙ ap (index_at a.s2pp.now) e in
+    let l = c.loop-t in
+    let h = c.loop-t-test.true in
+    let e : c.before.before.before.before.before.perms_at.result.0 ≡ image a.perms.now a.n_satom l.t a.a.0 = c.perms_at-x.ensures in
+    let f = c.s2pp_at-q.ensures ∙ ap (index_at a.s2pp.now) e in
     let small : image a.perms.now a.n_satom l.t a.a.0 < 1024 = omega (arith, c.requires.1.atoms, image-below c.requires.1 l.t a.a.0 h c.requires.2) in (
       omega arith,
       subst (λ x. Placing a.n_satom (l.t + 1) a.a.0 a.p.0 a.perms.now a.s2pp.now a.sent.now (set l.sent x (l.t + 1))) (sym e)
-          (placing-more a.n_satom l.t a.a.0 a.p.0 a.perms.now a.s2pp.now a.sent.now l.sent l.invariant.1 small (sym f ∙ eqb-true _ _ (sym c.same_prim.ensures ∙ not-false _ c.if1.false)) (ap (λ x. get_or l.sent x 0) (sym e) ∙ c.if-sent-i-ne0.false)),
+          (placing-more a.n_satom l.t a.a.0 a.p.0 a.perms.now a.s2pp.now a.sent.now l.sent l.invariant.1 small (sym f ∙ eqb-true _ _ (sym c.same_prim.ensures ∙ c.if-not-same_prim.false)) (ap (λ x. get_or l.sent x 0) (sym e) ∙ c.if-sent-i-ne0.false)),
     )
 
 pub returns : goal.returns

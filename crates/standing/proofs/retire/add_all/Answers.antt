@@ -11,15 +11,15 @@ pub loop-i-init : goal.loop-i-init
 loop-i-init c = let a = c.args in (omega arith, omega arith, refl, adds-first a.lent.now a.list.now a.count a.m)
 
 pub overflow_add-long : goal.overflow_add-long
-overflow_add-long c = let l = c.loop in omega (arith, l.invariant.1, c.requires.1, c.loop-test.true)
+overflow_add-long c = let l = c.loop-i in omega (arith, l.invariant.1, c.requires.1, c.loop-i-test.true)
 
 pub loop-i-preserved : goal.loop-i-preserved
 loop-i-preserved c =
-    let l = c.loop in (
+    let l = c.loop-i in (
       omega arith,
       omega (arith, l.invariant.1),
       c.append.auto.lent ∙ l.invariant.2,
-      adds-more c.args.lent.now l.lent _ c.args.list.now c.args.count l.long c.args.m l.i c.loop-test.true c.requires.0 c.append.ensures l.invariant.3,
+      adds-more c.args.lent.now l.lent _ c.args.list.now c.args.count l.long c.args.m l.i c.loop-i-test.true c.requires.0 c.append.ensures l.invariant.3,
     )
 
 pub returns : goal.returns

@@ -9,4 +9,4 @@ use Rattle.transposes_fc3.proofs.exchanging.exchange0.Goals as goal
 pub returns : goal.returns
 returns c =
     let a = c.args in
-    exchanged 27 (permuted 2 (order 0)) a.a a.b a.fc3.now c.read27.ensures c.read27-other.ensures (permuted_0 _ 0 refl c.permute_mln.ensures) (permuted_0 _ 0 refl c.permute_mln-2.ensures) c.write27.ensures c.write27-2.ensures
+    exchanged 27 (permuted 2 (order 0)) a.a a.b a.fc3.now c.read27-one.ensures c.read27-other.ensures (permuted_0 _ 0 refl c.permute_mln.ensures) (permuted_0 _ 0 refl c.permute_mln-2.ensures) c.write27.ensures c.write27-2.ensures

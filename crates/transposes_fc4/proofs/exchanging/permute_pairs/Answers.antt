@@ -11,31 +11,31 @@ loop-n-init c = (omega arith, none-traded c.args.b c.args.fc4.now c.requires.1 c
 
 pub index_of-x-requires : goal.index_of-x-requires
 index_of-x-requires c =
-    let l = c.loop in
+    let l = c.loop-n in
     let g : get_or c.args.m.now l.n 0 < 81 = c.requires.0 l.n (omega arith) in
     omega (arith, g, c.requires.1)
 
 pub index_of-y-requires : goal.index_of-y-requires
 index_of-y-requires c =
-    let l = c.loop in
+    let l = c.loop-n in
     let g : get_or c.args.m.now (l.n + 27) 0 < 81 = c.requires.0 (l.n + 27) (omega arith) in
     omega (arith, g, c.requires.1)
 
 pub overflow_cast-m : goal.overflow_cast-m
 overflow_cast-m c =
-    let l = c.loop in
+    let l = c.loop-n in
     let g : get_or c.args.m.now l.n 0 < 81 = c.requires.0 l.n (omega arith) in
     omega (arith, g)
 
 pub overflow_cast-m-in-loop-n : goal.overflow_cast-m-in-loop-n
 overflow_cast-m-in-loop-n c =
-    let l = c.loop in
+    let l = c.loop-n in
     let g : get_or c.args.m.now (l.n + 27) 0 < 81 = c.requires.0 (l.n + 27) (omega arith) in
     omega (arith, g)
 
 pub offset_bounds-fc4-x : goal.offset_bounds-fc4-x
 offset_bounds-fc4-x c =
-    let l = c.loop in
+    let l = c.loop-n in
     let g : get_or c.args.m.now l.n 0 < 81 = c.requires.0 l.n (omega arith) in
     let e : length l.fc4 ≡ length c.args.fc4.now = l.invariant.1.long in
     let x = c.index_of-x.ensures in
@@ -43,7 +43,7 @@ offset_bounds-fc4-x c =
 
 pub bounds-fc4-x : goal.bounds-fc4-x
 bounds-fc4-x c =
-    let l = c.loop in
+    let l = c.loop-n in
     let g : get_or c.args.m.now l.n 0 < 81 = c.requires.0 l.n (omega arith) in
     let e : length l.fc4 ≡ length c.args.fc4.now = l.invariant.1.long in
     let x = c.index_of-x.ensures in
@@ -51,7 +51,7 @@ bounds-fc4-x c =
 
 pub offset_bounds-fc4-y : goal.offset_bounds-fc4-y
 offset_bounds-fc4-y c =
-    let l = c.loop in
+    let l = c.loop-n in
     let g : get_or c.args.m.now (l.n + 27) 0 < 81 = c.requires.0 (l.n + 27) (omega arith) in
     let e : length l.fc4 ≡ length c.args.fc4.now = l.invariant.1.long in
     let x = c.index_of-y.ensures in
@@ -59,7 +59,7 @@ offset_bounds-fc4-y c =
 
 pub bounds-fc4-y : goal.bounds-fc4-y
 bounds-fc4-y c =
-    let l = c.loop in
+    let l = c.loop-n in
     let g : get_or c.args.m.now (l.n + 27) 0 < 81 = c.requires.0 (l.n + 27) (omega arith) in
     let e : length l.fc4 ≡ length c.args.fc4.now = l.invariant.1.long in
     let x = c.index_of-y.ensures in
@@ -67,7 +67,7 @@ bounds-fc4-y c =
 
 pub offset_bounds-fc4-x-in-loop-n : goal.offset_bounds-fc4-x-in-loop-n
 offset_bounds-fc4-x-in-loop-n c =
-    let l = c.loop in
+    let l = c.loop-n in
     let g : get_or c.args.m.now l.n 0 < 81 = c.requires.0 l.n (omega arith) in
     let e : length l.fc4 ≡ length c.args.fc4.now = l.invariant.1.long in
     let x = c.index_of-x.ensures in
@@ -75,7 +75,7 @@ offset_bounds-fc4-x-in-loop-n c =
 
 pub bounds-fc4-x-in-loop-n : goal.bounds-fc4-x-in-loop-n
 bounds-fc4-x-in-loop-n c =
-    let l = c.loop in
+    let l = c.loop-n in
     let g : get_or c.args.m.now l.n 0 < 81 = c.requires.0 l.n (omega arith) in
     let e : length l.fc4 ≡ length c.args.fc4.now = l.invariant.1.long in
     let x = c.index_of-x.ensures in
@@ -83,7 +83,7 @@ bounds-fc4-x-in-loop-n c =
 
 pub offset_bounds-fc4-y-in-loop-n : goal.offset_bounds-fc4-y-in-loop-n
 offset_bounds-fc4-y-in-loop-n c =
-    let l = c.loop in
+    let l = c.loop-n in
     let g : get_or c.args.m.now (l.n + 27) 0 < 81 = c.requires.0 (l.n + 27) (omega arith) in
     let e : length l.fc4 ≡ length c.args.fc4.now = l.invariant.1.long in
     let x = c.index_of-y.ensures in
@@ -91,7 +91,7 @@ offset_bounds-fc4-y-in-loop-n c =
 
 pub bounds-fc4-y-in-loop-n : goal.bounds-fc4-y-in-loop-n
 bounds-fc4-y-in-loop-n c =
-    let l = c.loop in
+    let l = c.loop-n in
     let g : get_or c.args.m.now (l.n + 27) 0 < 81 = c.requires.0 (l.n + 27) (omega arith) in
     let e : length l.fc4 ≡ length c.args.fc4.now = l.invariant.1.long in
     let x = c.index_of-y.ensures in
@@ -99,7 +99,7 @@ bounds-fc4-y-in-loop-n c =
 
 pub loop-n-preserved : goal.loop-n-preserved
 loop-n-preserved c =
-    let l = c.loop in
+    let l = c.loop-n in
     (omega arith, one-traded c.args.b c.args.fc4.now c.requires.1 c.args.m.now c.requires.0 l.n (omega arith) l.fc4 l.invariant.1 c.index_of-x.ensures c.index_of-y.ensures)
 
 pub returns : goal.returns

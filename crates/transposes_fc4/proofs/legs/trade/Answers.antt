@@ -18,14 +18,14 @@ pub exchange-requires : goal.exchange-requires
 exchange-requires c =
     let W = c.requires.0.1 in
     let (hb, hc) = found_in _ _ c.args.o.now W.is_order c.args.p.0 c.args.i.0 c.args.j.0 c.args.k.0 c.args.l.0 c.requires.0.0 c.requires.1.0 c.requires.1.1 _ _
-    c.block4.ensures c.counterpart_of.ensures in
+    c.block4-b.ensures c.counterpart_of-c.ensures in
     (W.inside, in_runs _ _ W, hb, hc)
 
 pub returns-then-b-c : goal.returns-then-b-c
 returns-then-b-c c =
     let W = c.requires.0.1 in
     found-now _ _ c.args.o.now W.is_order c.args.p.0 c.args.i.0 c.args.j.0 c.args.k.0 c.args.l.0 c.requires.0.0 c.requires.1.0 c.requires.1.1 _ _
-    c.block4.ensures c.counterpart_of.ensures c.args.m.now W c.if1.true c.args.fc4.now c.exchange.ensures
+    c.block4-b.ensures c.counterpart_of-c.ensures c.args.m.now W c.if-b-c.true c.args.fc4.now c.exchange.ensures
 
 pub returns-else-b-c : goal.returns-else-b-c
 returns-else-b-c c =
