@@ -22,23 +22,28 @@ def read(path):
 
 
 def clauses_in(root):
-    """For each function its requires clauses' names, by the end of its path."""
+    """For each function the names of its requires and of its ensures, by its path and by its name."""
     out = {}
     for path in glob.glob(os.path.join(root, "crates", "*", "src", "**", "*.rt"), recursive=True):
         crate = path[len(root):].strip("/").split("/")[1]
         module = os.path.relpath(path, os.path.join(root, "crates", crate, "src"))[:-3].split("/")
         module = [m for m in module if m not in ("lib", "main")]
         text = re.sub(r"//[^\n]*", "", read(path))
-        for m in re.finditer(r"\bfn (\w+)[^{;]*?\)(?:\s*->[^{;]*?)?(?=\s*(?:requires|ensures|\{|where))", text):
-            at, names = m.end(), []
+
+        def closed(at, pair):
+            depth = 1
+            while depth:
+                depth += {pair[0]: 1, pair[1]: -1}.get(text[at], 0)
+                at += 1
+            return at
+
+        for m in re.finditer(r"\bfn (\w+)(?:<[^>]*>)?\(", text):
+            at = closed(m.end(), "()")
+            at += re.match(r"(?:\s*->\s*[^{]*?)?(?=\s*(?:requires|ensures|ghost|\{|$))", text[at:]).end()
+            names = {"requires": [], "ensures": []}
             while k := re.match(r"\s*(requires|ensures)\*? ?(\w+)? ?\{", text[at:]):
-                depth, i = 1, at + k.end()
-                while depth:
-                    depth += {"{": 1, "}": -1}.get(text[i], 0)
-                    i += 1
-                if k[1] == "requires":
-                    names.append(k[2])
-                at = i
+                at = closed(at + k.end(), "{}")
+                names[k[1]].append(k[2])
             out["::".join([crate, *module, m[1]])] = names
             out.setdefault(m[1], names)
     return out
@@ -61,6 +66,8 @@ def split_top(text):
             parts.append(text[start:i].strip())
             start = i + 1
     parts.append(text[start:-1].strip())
+    if not parts[-1]:
+        parts.pop()
     return parts if len(parts) > 1 else None
 
 
@@ -81,8 +88,8 @@ def as_record(body, names):
 
 
 class Function:
-    def __init__(self, of, own, words):
-        self.of, self.own = of, own
+    def __init__(self, of, own, calls, words):
+        self.of, self.own, self.calls = of, own, calls
         self.places = {p[0]: p for p in of["places"]}
         self.arms = {p[0]: a for p, a in zip(of["places"], of["arms"])}
         self.needs = {plain(o): (n, at) for (o, n), at in zip(of["needs"], of["asked_at"])}
@@ -103,9 +110,9 @@ class Function:
     def step(self, place, goal, head):
         """The place whose step has that name: the one that the path leads to, else the one of the goal's chain."""
         each = [place, *self.chain(place), *self.chain(goal)]
-        for name in (head, re.sub(r"\d+$", "", head)):
+        for name in (head, re.sub(r"_lem$", "", head), re.sub(r"\d+$", "", head)):
             for at in each:
-                if at in self.places and self.places[at][2] and plain(self.places[at][2][0]) == plain(name):
+                if at in self.places and self.places[at][2] and plain(self.places[at][2][0]).lower() == plain(name).lower():
                     return at
         return None
 
@@ -132,8 +139,8 @@ class Function:
             return [at[2][1], *self.product(at[3], rest)]
         if head in ("args", "ranges") and rest:
             return [head, self.args.get(rest[0], rest[0]), *rest[1:]]
-        if head == "requires" and rest and len(self.own) > 1:
-            return [head, *self.clause(self.own, rest)]
+        if head == "requires" and rest and len(self.own["requires"]) > 1:
+            return [head, *self.clause(self.own["requires"], rest)]
         return [head, *rest]
 
     def clause(self, names, rest):
@@ -151,6 +158,9 @@ class Function:
 
     def product(self, callee, rest):
         """.auto.1.0 of a call, by the parameter's name."""
+        ensures = self.calls.get(callee or "", {}).get("ensures", [])
+        if rest[:1] == ["ensures"] and len(rest) > 1 and len(ensures) > 1:
+            return [rest[0], *self.clause(ensures, rest[1:])]
         names = self.of["params"].get(callee or "", [])
         if rest and rest[0] in ("auto", "new") and len(rest) > 1 and rest[1].isdigit() and names:
             k, i = 0, 1
@@ -159,6 +169,8 @@ class Function:
             if k < len(names) - 1 and i < len(rest) and rest[i].isdigit():
                 if rest[i] != "0":
                     k = int(rest[i]) + k
+                i += 1
+            if rest[0] == "new" and i < len(rest) and rest[i] == "0":
                 i += 1
             if k < len(names):
                 return [rest[0], names[k], *rest[i:]]
@@ -197,7 +209,8 @@ class Function:
                     env[m[1]] = kind
                 else:
                     env.pop(m[1], None)
-                out.append(f"let {m[1]}{m[2] or ''} = {new}")
+                kinds = PATH.sub(lambda k: one(k[0])[0], m[2] or "")
+                out.append(f"let {m[1]}{kinds} = {new}")
             elif m[0].startswith("--"):
                 out.append(m[0])
             else:
@@ -275,7 +288,7 @@ def turn(path, of, own, calls, words, module):
         return "another shape"
     uses, decls = blocks_of(text)
     uses = [u for u in uses if not re.search(r"\.(Tie as tie|Statement\.\{statement\})$", u)]
-    f = Function(of, own, words)
+    f = Function(of, own, calls, words)
     inv, ans, left, head = [], [], [], []
     loops = {plain(o): (n, names, changed) for ((o, n), names), changed in zip(of["loops"], of["changed"])}
     for d in decls:
@@ -330,11 +343,14 @@ def turn(path, of, own, calls, words, module):
             if new.endswith("-requires") or re.search(r"-requires-", new):
                 step = re.sub(r"-requires.*", "", new)
                 callee = next((p[3] for p in of["places"] if p[2] and p[2][1] == step and p[3]), None) or step.split("-")[0]
-                names = calls.get(callee) or []
+                names = calls.get(callee, {}).get("requires", [])
                 if len(names) > 1:
                     body2 = as_record(body, names)
                     if body2:
                         body = (" " if not body.startswith("\n") else "\n    ") + body2.strip()
+            if re.match(r"returns(?!\w)", new) and len(own["ensures"]) > 1:
+                body2 = as_record(body, own["ensures"])
+                body = " " + body2.strip() if body2 else body
             body = body if body[:1] in " \n" else " " + body
             body = re.sub(r"^\n(?=\S)", "\n    ", body)
             ans.append("\n".join([*comment, f"pub {new} : goal.{new}", *unfold, f"{new} {'c' if params else ''}".rstrip() + f" ={body}"]))
@@ -371,7 +387,7 @@ def main(root, names):
             where = key[len(f"Rattle-{crate}-proofs."):].rsplit(".Lts", 1)[0]
             path = os.path.join(root, "crates", crate, "proofs", *where.split("."), "Proof.antt")
             if os.path.exists(path):
-                said = turn(path, of, calls.get("::".join([crate, *where.split(".")]), []), calls, words, f"Rattle.{crate}.proofs.{where}")
+                said = turn(path, of, calls.get("::".join([crate, *where.split(".")]), {"requires": [], "ensures": []}), calls, words, f"Rattle.{crate}.proofs.{where}")
                 if said:
                     print(f"{crate} {where}: {said}")
 

@@ -13,8 +13,7 @@ loop-q-init c = (omega arith, refl, λ k h. absurd (omega arith))
 
 pub widen_row-requires : goal.widen_row-requires
 widen_row-requires c =
-    let l = c.loop-q in
-    ((c.requires.0, omega arith, l.invariant.1 ∙ c.requires.1, c.requires.2), l.invariant.2)
+    let l = c.loop-q in record { w_bound = (c.requires.0, omega arith, l.invariant.1 ∙ c.requires.1, c.requires.2); by_index = l.invariant.2 }
 
 pub loop-q-preserved : goal.loop-q-preserved
 loop-q-preserved c =

@@ -19,7 +19,7 @@ overflow_mul-row-2 c =
     omega arith
 
 pub loop-a-init : goal.loop-a-init
-loop-a-init c = (omega arith, refl, λ k h. c.requires.1 k (omega arith))
+loop-a-init c = (omega arith, refl, λ k h. c.requires.by_index k (omega arith))
 
 pub overflow_add-b : goal.overflow_add-b
 overflow_add-b c =
@@ -103,7 +103,7 @@ pub loop-a-preserved : goal.loop-a-preserved
 loop-a-preserved c =
     let l = c.loop-a in
     let a = c.args in
-    let r = row_more a.w a.before.now a.m.now l.into a.q l.a (omega arith) (omega arith) (l.invariant.1 ∙ c.requires.0.2) l.invariant.2 in
+    let r = row_more a.w a.before.now a.m.now l.into a.q l.a (omega arith) (omega arith) (l.invariant.1 ∙ c.requires.w_bound.2) l.invariant.2 in
     (omega arith, length-row a.w a.before.now a.m.now l.into a.q l.a ∙ l.invariant.1, r)
 
 pub returns : goal.returns

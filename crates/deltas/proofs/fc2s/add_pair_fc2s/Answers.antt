@@ -48,10 +48,7 @@ share_line27-requires c =
     c.index_of-from.ensures
     ∙ ap₂ (λ x z. x * a.num_atom + z) c.row_of-d.ensures (c.perms_at-image.ensures ∙ ap (λ x. index_at a.rot_map_syms.now (x * a.num_atom + a.i)) y)
     ∙ source_of_one D a.n a.i c.requires.in_range.0 in
-    let z : 0 < a.num_atom = omega (arith, c.requires.in_range.0) in (
-      subst (λ (x : ℕ). Images a.rot_map_syms.now (x * a.num_atom) a.num_atom) (sym y) t.images,
-      (target_inside D 1 a.i _ c.requires.in_range.0 c.requires.in_range.2, source-inside D 1 a.n a.i _ c.requires.ready c.requires.in_range.1 z f),
-    )
+    let z : 0 < a.num_atom = omega (arith, c.requires.in_range.0) in record { images = subst (λ (x : ℕ). Images a.rot_map_syms.now (x * a.num_atom) a.num_atom) (sym y) t.images; blocks_in = (target_inside D 1 a.i _ c.requires.in_range.0 c.requires.in_range.2, source-inside D 1 a.n a.i _ c.requires.ready c.requires.in_range.1 z f) }
 
 pub returns : goal.returns
 unfolding add_pair

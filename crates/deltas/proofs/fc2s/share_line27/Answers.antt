@@ -16,33 +16,33 @@ pub loop-j-init : goal.loop-j-init
 loop-j-init c = (omega arith, refl, λ m e. times_none _ _)
 
 pub perms_at-image-requires : goal.perms_at-image-requires
-perms_at-image-requires c = (c.requires.0.image-at c.loop-j.j (omega arith)).0
+perms_at-image-requires c = (c.requires.images.image-at c.loop-j.j (omega arith)).0
 
 pub index_of-t-requires : goal.index_of-t-requires
 index_of-t-requires c =
     let l = c.loop-j in
     let a = c.args in
-    let k = inside-small a.num_atom 27 0 _ _ (omega arith) (omega arith) (inside-atom a.num_atom 27 0 a.target _ l.j (omega arith) c.requires.1.0) in
+    let k = inside-small a.num_atom 27 0 _ _ (omega arith) (omega arith) (inside-atom a.num_atom 27 0 a.target _ l.j (omega arith) c.requires.blocks_in.0) in
     omega arith
 
 pub index_of-f-requires : goal.index_of-f-requires
 index_of-f-requires c =
     let l = c.loop-j in
     let a = c.args in
-    let i = (c.requires.0.image-at l.j (omega arith)).1 in
+    let i = (c.requires.images.image-at l.j (omega arith)).1 in
     let g : c.perms_at-image.result.0 < a.num_atom = omega (arith, c.perms_at-image.ensures) in
-    let k = inside-small a.num_atom 9 0 _ _ (omega arith) (omega arith) (inside-atom a.num_atom 9 0 a.source _ c.perms_at-image.result.0 g c.requires.1.1) in
+    let k = inside-small a.num_atom 9 0 _ _ (omega arith) (omega arith) (inside-atom a.num_atom 9 0 a.source _ c.perms_at-image.result.0 g c.requires.blocks_in.1) in
     omega arith
 
 pub share27-requires : goal.share27-requires
 share27-requires c =
     let l = c.loop-j in
     let a = c.args in
-    let i = (c.requires.0.image-at l.j (omega arith)).1 in
+    let i = (c.requires.images.image-at l.j (omega arith)).1 in
     let g : c.perms_at-image.result.0 < a.num_atom = omega (arith, c.perms_at-image.ensures) in
     rw (c.index_of-t.ensures, c.index_of-f.ensures, l.invariant.1) (
-      inside-block a.num_atom 27 (a.target * a.num_atom + l.j) _ (inside-atom a.num_atom 27 0 a.target _ l.j (omega arith) c.requires.1.0),
-      inside-block a.num_atom 9 (a.source * a.num_atom + c.perms_at-image.result.0) _ (inside-atom a.num_atom 9 0 a.source _ c.perms_at-image.result.0 g c.requires.1.1),
+      inside-block a.num_atom 27 (a.target * a.num_atom + l.j) _ (inside-atom a.num_atom 27 0 a.target _ l.j (omega arith) c.requires.blocks_in.0),
+      inside-block a.num_atom 9 (a.source * a.num_atom + c.perms_at-image.result.0) _ (inside-atom a.num_atom 9 0 a.source _ c.perms_at-image.result.0 g c.requires.blocks_in.1),
     )
 
 pub loop-j-preserved : goal.loop-j-preserved

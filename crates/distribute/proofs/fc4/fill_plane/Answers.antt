@@ -16,32 +16,32 @@ pub loop-i-init : goal.loop-i-init
 loop-i-init c = (omega arith, refl, λ m e. times_none _ _)
 
 pub entry-image-requires : goal.entry-image-requires
-entry-image-requires c = (read c.requires.0 c.loop-i.i (omega arith)).0
+entry-image-requires c = (read c.requires.index_table c.loop-i.i (omega arith)).0
 
 pub index_of-t-requires : goal.index_of-t-requires
 index_of-t-requires c =
     let l = c.loop-i in
     let a = c.args in
-    let k = inside-small a.num_atom 81 1 _ _ (omega arith) (omega arith) (inside-atom a.num_atom 81 1 a.target _ l.i (omega arith) c.requires.1.0) in
+    let k = inside-small a.num_atom 81 1 _ _ (omega arith) (omega arith) (inside-atom a.num_atom 81 1 a.target _ l.i (omega arith) c.requires.blocks_in.0) in
     omega arith
 
 pub index_of-s-requires : goal.index_of-s-requires
 index_of-s-requires c =
     let l = c.loop-i in
     let a = c.args in
-    let i = (read c.requires.0 l.i (omega arith)).1 in
+    let i = (read c.requires.index_table l.i (omega arith)).1 in
     let g : c.entry-image.result < a.num_atom = omega (arith, c.entry-image.ensures) in
-    let k = inside-small a.num_atom 81 1 _ _ (omega arith) (omega arith) (inside-atom a.num_atom 81 1 a.source _ c.entry-image.result g c.requires.1.1) in
+    let k = inside-small a.num_atom 81 1 _ _ (omega arith) (omega arith) (inside-atom a.num_atom 81 1 a.source _ c.entry-image.result g c.requires.blocks_in.1) in
     omega arith
 
 pub fill_row-requires : goal.fill_row-requires
 fill_row-requires c =
     let l = c.loop-i in
     let a = c.args in
-    let i = (read c.requires.0 l.i (omega arith)).1 in
+    let i = (read c.requires.index_table l.i (omega arith)).1 in
     let g : c.entry-image.result < a.num_atom = omega (arith, c.entry-image.ensures) in
     rw (c.index_of-t.ensures, c.index_of-s.ensures, l.invariant.1)
-    (c.requires.0, (inside-atom a.num_atom 81 1 a.target _ l.i (omega arith) c.requires.1.0, inside-atom a.num_atom 81 1 a.source _ c.entry-image.result g c.requires.1.1))
+    (c.requires.index_table, (inside-atom a.num_atom 81 1 a.target _ l.i (omega arith) c.requires.blocks_in.0, inside-atom a.num_atom 81 1 a.source _ c.entry-image.result g c.requires.blocks_in.1))
 
 pub loop-i-preserved : goal.loop-i-preserved
 unfolding move

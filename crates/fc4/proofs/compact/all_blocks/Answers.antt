@@ -14,8 +14,7 @@ loop-b-init c = (omega arith, refl, refl, times_none _ _)
 
 pub visit-requires : goal.visit-requires
 visit-requires c =
-    let l = c.loop-b in
-    (rw (l.invariant.1, l.invariant.2) c.requires.0, (c.requires.1, omega arith))
+    let l = c.loop-b in record { ready = rw (l.invariant.1, l.invariant.2) c.requires.ready; in_range = (c.requires.in_range, omega arith) }
 
 pub loop-b-preserved : goal.loop-b-preserved
 loop-b-preserved c =

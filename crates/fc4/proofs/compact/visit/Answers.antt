@@ -5,14 +5,14 @@ use Rattle.fc4.proofs.compact.visit.Goals as goal
 
 pub group_blocks-bs-requires : goal.group_blocks-bs-requires
 group_blocks-bs-requires c =
-    (c.requires.0.fit, rw c.requires.0.work-length at c.requires.1.1)
+    (c.requires.ready.fit, rw c.requires.ready.work-length at c.requires.in_range.1)
 
 pub take-requires : goal.take-requires
 take-requires c =
     let T = shift_tables c.args.p2s.now c.args.s2pp.now c.args.nsym_list.now c.args.perms.now c.args.n_satom c.args.n_patom c.args.num_trans in
-    let R = c.requires.0 in
-    let (x, y) = takes (shifts_of T) _ _ c.args.b R.rules (sized T R) R.work-length c.requires.1.1 c.group_blocks-bs.ensures in
-    (x, y, c.requires.1.0)
+    let R = c.requires.ready in
+    let (x, y) = takes (shifts_of T) _ _ c.args.b R.rules (sized T R) R.work-length c.requires.in_range.1 c.group_blocks-bs.ensures in
+    (x, y, c.requires.in_range.0)
 
 pub returns-then-done-b-eq0 : goal.returns-then-done-b-eq0
 returns-then-done-b-eq0 c =

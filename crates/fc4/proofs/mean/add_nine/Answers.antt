@@ -18,8 +18,8 @@ loop-k-init c = (omega arith, refl, below_none _)
 pub bounds-g-q : goal.bounds-g-q
 bounds-g-q c =
     let l = c.loop-k in
-    let w : c.before.index_of.result ≡ c.args.h * 9 + l.k = c.index_of.ensures in
-    let e : c.entry.result ≡ permuted 3 (permutation_at c.args.s) c.before.index_of.result = c.entry-q.ensures in
+    let w : c.index_of.result ≡ c.args.h * 9 + l.k = c.index_of.ensures in
+    let e : c.entry-q.result ≡ permuted 3 (permutation_at c.args.s) c.index_of.result = c.entry-q.ensures in
     let p = permuted_in c.args.s c.index_of.result c.requires.2 (omega arith) in
     omega arith
 

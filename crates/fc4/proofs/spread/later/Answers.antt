@@ -16,7 +16,7 @@ loop-k-init c = (omega arith, refl, below_none _)
 pub loop-k-preserved : goal.loop-k-preserved
 loop-k-preserved c =
     let l = c.loop-k in
-    (omega arith, simp length-set l.invariant.1, fill_more 0 _ l.r l.k _ (omega arith) (c.Later-of.ensures ∙ ap (max (get_or c.args.m l.k 0)) c.entry.ensures) l.invariant.2)
+    (omega arith, simp length-set l.invariant.1, fill_more 0 _ l.r l.k _ (omega arith) (c.later_of.ensures ∙ ap (max (get_or c.args.m l.k 0)) c.entry.ensures) l.invariant.2)
 
 pub returns : goal.returns
 unfolding later_of

@@ -15,7 +15,7 @@ pub place_rest-requires : goal.place_rest-requires
 place_rest-requires c =
     let a = c.args in
     let e = greedy-left (distance a.cell a.pos.now a.rot_pos.now) (length a.rot_atom.now) _ _ c.fill-m.ensures in
-    let l = greedy-length (near a.cell a.pos.now a.rot_pos.now) (length a.rot_atom.now) _ e in record { partial = (greedy-ready (near a.cell a.pos.now a.rot_pos.now) (length a.rot_atom.now) _ e, omega (arith, l, c.requires.0), c.requires.1 ∙ sym l); triples = (record { pos_len = omega (arith, l, c.requires.2.pos_len); rot_len = omega (arith, l, c.requires.2.rot_len) }, ) }
+    let l = greedy-length (near a.cell a.pos.now a.rot_pos.now) (length a.rot_atom.now) _ e in record { partial = (greedy-ready (near a.cell a.pos.now a.rot_pos.now) (length a.rot_atom.now) _ e, omega (arith, l, c.requires.0), c.requires.1 ∙ sym l); triples = record { pos_len = omega (arith, l, c.requires.2.pos_len); rot_len = omega (arith, l, c.requires.2.rot_len) } }
 
 pub returns-then-is_matched : goal.returns-then-is_matched
 returns-then-is_matched c =
@@ -45,6 +45,6 @@ returns c =
     let n = length a.rot_atom.now in
     let e = greedy-left (distance a.cell a.pos.now a.rot_pos.now) n _ _ c.fill-m.ensures in
     let w = c.place_rest in
-    let z = c.None-found.ensures in
+    let z = c.none_found.ensures in
     found_none near-it n _ _ _ _ _ (from-greedy near-it n _ e _ _ _ w.ensures) c.if-place_rest.false z.0
     (z.1 ∙ ap (λ (k : ℕ). replicate k (negsuc 0)) (w.auto.rot_atom ∙ greedy-length near-it n _ e))

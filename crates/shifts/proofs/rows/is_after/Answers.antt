@@ -31,6 +31,6 @@ pub returns : goal.returns
 returns c =
     let a = c.args in
     let l = c.loop-a in (
-      λ q. all_of_lem (λ k. image a.perms.now a.n_satom a.u (image a.perms.now a.n_satom a.t k) ≡ image a.perms.now a.n_satom a.v k) l.a a.n_satom l.invariant.1 (c.Agrees-from.ensures.0 q),
-      λ f. c.Agrees-from.ensures.1 (λ k g h. f k h),
+      λ q. all_of_lem (λ k. image a.perms.now a.n_satom a.u (image a.perms.now a.n_satom a.t k) ≡ image a.perms.now a.n_satom a.v k) l.a a.n_satom l.invariant.1 (c.agrees_from.ensures.0 q),
+      λ f. c.agrees_from.ensures.1 (λ k g h. f k h),
     )

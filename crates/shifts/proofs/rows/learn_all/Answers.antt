@@ -26,8 +26,7 @@ loop-u-init c =
 
 pub learn-requires : goal.learn-requires
 learn-requires c =
-    let l = c.loop-u in
-    ((c.requires.0, c.requires.1, c.loop-u-test.true), (c.requires.2 l.gens, l.invariant.3, l.invariant.1))
+    let l = c.loop-u in record { rows = (c.requires.0, c.requires.1, c.loop-u-test.true); made = (c.requires.2 l.gens, l.invariant.3, l.invariant.1) }
 
 pub loop-u-preserved : goal.loop-u-preserved
 loop-u-preserved c =

@@ -31,7 +31,7 @@ pub returns-then-learn_all : goal.returns-then-learn_all
 returns-then-learn_all c =
     let a = c.args in (
       λ q. all_closed a.n_satom a.num_trans a.n_patom a.perms.now a.p2s.now a.s2pp.now a.sent.now _ c.requires (c.learn_all.ensures.0 c.if-learn_all.true) (c.all_settled.ensures.0 q),
-      λ C. c.all_settled.ensures.1 (λ g hg z. closed-settled a.n_satom a.num_trans a.n_patom a.perms.now a.p2s.now a.s2pp.now a.sent.now c.requires C c.learn_all.new.gens.0 g hg),
+      λ C. c.all_settled.ensures.1 (λ g hg z. closed-settled a.n_satom a.num_trans a.n_patom a.perms.now a.p2s.now a.s2pp.now a.sent.now c.requires C c.learn_all.new.gens g hg),
     )
 
 pub returns : goal.returns

@@ -8,18 +8,17 @@ use Rattle.shifts.specs.Loops.{Made, Known}
 use Rattle.shifts.proofs.rows.spread.Goals as goal
 
 pub loop-k-init : goal.loop-k-init
-loop-k-init c = (omega arith, c.requires.0.1, c.requires.1.1, c.requires.1.2)
+loop-k-init c = (omega arith, c.requires.rows.1, c.requires.made.1, c.requires.made.2)
 
 pub learn_after-requires : goal.learn_after-requires
 learn_after-requires c =
-    let l = c.loop-k in
-    ((c.requires.0.0, l.invariant.1, c.requires.0.2), (c.requires.1.0, l.invariant.2, l.invariant.3))
+    let l = c.loop-k in record { rows = (c.requires.rows.0, l.invariant.1, c.requires.rows.2); made = (c.requires.made.0, l.invariant.2, l.invariant.3) }
 
 pub returns-then-not-learn_after : goal.returns-then-not-learn_after
 returns-then-not-learn_after c = (c.learn_after.ensures.0, λ C. absurd (not-both (c.learn_after.ensures.1 C) c.if-not-learn_after.true))
 
 pub bounds-known-r : goal.bounds-known-r
-bounds-known-r c = omega (arith, c.requires.0.0.rows.shifts, c.loop-k.invariant.1)
+bounds-known-r c = omega (arith, c.requires.rows.0.rows.shifts, c.loop-k.invariant.1)
 
 pub returns-then-x-eq0 : goal.returns-then-x-eq0
 returns-then-x-eq0 c = (c.learn_after.ensures.0, λ _. refl)

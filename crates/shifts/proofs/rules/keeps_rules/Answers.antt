@@ -32,7 +32,7 @@ pub returns-then-not-nsym_lands : goal.returns-then-not-nsym_lands
 returns-then-not-nsym_lands c =
     let a = c.args in
     let T : ShiftTables = shift_tables a.p2s.now a.s2pp.now a.nsym_list.now a.perms.now a.n_satom a.n_patom a.num_trans in
-    sym (refuted (ruled (shifts_of T)) (λ e. not-both (rules_of (shifts_of T) e).1.1.1.1.1.1.1 (told-no c.nsym_lands_lem.ensures c.if-not-nsym_lands.true-raw)))
+    sym (refuted (ruled (shifts_of T)) (λ e. not-both (rules_of (shifts_of T) e).1.1.1.1.1.1.1 (told-no c.nsym_lands.ensures c.if-not-nsym_lands.true-raw)))
 
 pub place_all-requires : goal.place_all-requires
 place_all-requires c = let F = c.requires in (F.p2s-fit, F.s2pp-fit, record { atoms = F.satoms; shifts = F.shifts; table = F.perms-fit }, refl)
@@ -62,7 +62,7 @@ returns-then-n_satom-eq0 c =
     let L = c.place_all.ensures.0 c.if-not-place_all.false in
     sym (all-ruled (shifts_of T) (fit-within T c.requires) (eq-eqb _ _ c.if-n_satom-n_patom.false)
     (sym (same-null T) ∙ told_yes c.has_null.ensures c.if-not-has_null.false-raw)
-    (told_yes c.nsym_lands_lem.ensures c.if-not-nsym_lands.false-raw)
+    (told_yes c.nsym_lands.ensures c.if-not-nsym_lands.false-raw)
     (placed-kept T c.requires _ L)
     (placed-free T c.requires _ L)
     (closed-rows T c.requires (closed_none T c.requires c.if-n_satom-eq0.true)))
@@ -86,7 +86,7 @@ returns c =
     (λ e.
     all-ruled (shifts_of T) (fit-within T c.requires) (eq-eqb _ _ c.if-n_satom-n_patom.false)
     (sym (same-null T) ∙ told_yes c.has_null.ensures c.if-not-has_null.false-raw)
-    (told_yes c.nsym_lands_lem.ensures c.if-not-nsym_lands.false-raw)
+    (told_yes c.nsym_lands.ensures c.if-not-nsym_lands.false-raw)
     (placed-kept T c.requires _ L)
     (placed-free T c.requires _ L)
     (closed-rows T c.requires (c.rows_closed.ensures.0 e)))

@@ -61,7 +61,7 @@ loop-t-preserved c =
     let a = c.args in
     let l = c.loop-t in
     let h = c.loop-t-test.true in
-    let e : c.before.before.before.before.before.perms_at.result.0 ≡ image a.perms.now a.n_satom l.t a.a.0 = c.perms_at-x.ensures in
+    let e : c.perms_at-x.result.0 ≡ image a.perms.now a.n_satom l.t a.a.0 = c.perms_at-x.ensures in
     let f = c.s2pp_at-q.ensures ∙ ap (index_at a.s2pp.now) e in
     let small : image a.perms.now a.n_satom l.t a.a.0 < 1024 = omega (arith, c.requires.1.atoms, image-below c.requires.1 l.t a.a.0 h c.requires.2) in (
       omega arith,

@@ -45,7 +45,7 @@ pub returns-then-n-m-gt1000 : goal.returns-then-n-m-gt1000
 returns-then-n-m-gt1000 c =
     let a = c.args in (
       not_8 a.lent.now _ a.count a.x c.count_in-n.result c.roll_bytes-b.ensures (told_yes c.is_whole_roll.ensures c.if-not-is_whole_roll.false-raw) (count_is _ c.count_in-n.ensures.0)
-          (told_yes c.is_lawful.ensures c.if-not-is_lawful.false-raw) c.look_up-f.ensures (not-false _ c.if-not-f.false) c.end_of_lem.ensures.0 c.gather-m.ensures.2
+          (told_yes c.is_lawful.ensures c.if-not-is_lawful.false-raw) c.look_up-f.ensures (not-false _ c.if-not-f.false) c.end_of.ensures.0 c.gather-m.ensures.2
           (inl c.if-n-m-gt1000.true),
       λ k q. no_add q,
     )
@@ -54,7 +54,7 @@ pub returns-then-long-gt65536 : goal.returns-then-long-gt65536
 returns-then-long-gt65536 c =
     let a = c.args in (
       not_8 a.lent.now _ a.count a.x c.count_in-n.result c.roll_bytes-b.ensures (told_yes c.is_whole_roll.ensures c.if-not-is_whole_roll.false-raw) (count_is _ c.count_in-n.ensures.0)
-          (told_yes c.is_lawful.ensures c.if-not-is_lawful.false-raw) c.look_up-f.ensures (not-false _ c.if-not-f.false) c.end_of_lem.ensures.0 c.gather-m.ensures.2
+          (told_yes c.is_lawful.ensures c.if-not-is_lawful.false-raw) c.look_up-f.ensures (not-false _ c.if-not-f.false) c.end_of.ensures.0 c.gather-m.ensures.2
           (inr (inl c.if-long-gt65536.true)),
       λ k q. no_add q,
     )
@@ -63,7 +63,7 @@ pub returns-then-lent-long : goal.returns-then-lent-long
 returns-then-lent-long c =
     let a = c.args in (
       not_8 a.lent.now _ a.count a.x c.count_in-n.result c.roll_bytes-b.ensures (told_yes c.is_whole_roll.ensures c.if-not-is_whole_roll.false-raw) (count_is _ c.count_in-n.ensures.0)
-          (told_yes c.is_lawful.ensures c.if-not-is_lawful.false-raw) c.look_up-f.ensures (not-false _ c.if-not-f.false) c.end_of_lem.ensures.0 c.gather-m.ensures.2
+          (told_yes c.is_lawful.ensures c.if-not-is_lawful.false-raw) c.look_up-f.ensures (not-false _ c.if-not-f.false) c.end_of.ensures.0 c.gather-m.ensures.2
           (inr (inr c.if-lent-long.true)),
       λ k q. no_add q,
     )
@@ -72,11 +72,11 @@ pub returns : goal.returns
 returns c =
     let a = c.args in (
       may_add a.lent.now _ a.count a.x c.count_in-n.result c.roll_bytes-b.ensures (told_yes c.is_whole_roll.ensures c.if-not-is_whole_roll.false-raw) (count_is _ c.count_in-n.ensures.0)
-          (told_yes c.is_lawful.ensures c.if-not-is_lawful.false-raw) c.look_up-f.ensures (not-false _ c.if-not-f.false) c.end_of_lem.ensures.0 c.gather-m.ensures.2
+          (told_yes c.is_lawful.ensures c.if-not-is_lawful.false-raw) c.look_up-f.ensures (not-false _ c.if-not-f.false) c.end_of.ensures.0 c.gather-m.ensures.2
           (omega arith) (omega arith) (omega arith),
       λ k q. let z : c.gather-m.result ≡ k = ap many q in rw (← z)
           (the_list a.lent.now _ a.count a.x c.count_in-n.result c.roll_bytes-b.ensures (told_yes c.is_whole_roll.ensures c.if-not-is_whole_roll.false-raw) (count_is _ c.count_in-n.ensures.0)
-          (told_yes c.is_lawful.ensures c.if-not-is_lawful.false-raw) c.look_up-f.ensures (not-false _ c.if-not-f.false) c.end_of_lem.ensures.0 c.gather-m.ensures.1),
+          (told_yes c.is_lawful.ensures c.if-not-is_lawful.false-raw) c.look_up-f.ensures (not-false _ c.if-not-f.false) c.end_of.ensures.0 c.gather-m.ensures.1),
     )
 
 pub overflow_mul-long : goal.overflow_mul-long

@@ -18,9 +18,9 @@ returns-then-wide-eq3 c =
 pub returns-then-end_of-last : goal.returns-then-end_of-last
 returns-then-end_of-last c =
     let a = c.args in
-    waits-elsewhere a.b.now a.n a.last a.at (λ e. c.if-wide-eq3.false (c.wide.ensures.0 ∙ e)) c.set_at-set.ensures.0 c.end_of_lem.ensures.0 c.if-end_of-last.true
+    waits-elsewhere a.b.now a.n a.last a.at (λ e. c.if-wide-eq3.false (c.wide.ensures.0 ∙ e)) c.set_at-set.ensures.0 c.end_of.ensures.0 c.if-end_of-last.true
 
 pub returns : goal.returns
 returns c =
     let a = c.args in
-    waits_open a.b.now a.n a.last a.at (λ e. c.if-wide-eq3.false (c.wide.ensures.0 ∙ e)) c.set_at-set.ensures.0 c.end_of_lem.ensures.0 c.if-end_of-last.false c.look_up-f.ensures.retires
+    waits_open a.b.now a.n a.last a.at (λ e. c.if-wide-eq3.false (c.wide.ensures.0 ∙ e)) c.set_at-set.ensures.0 c.end_of.ensures.0 c.if-end_of-last.false c.look_up-f.ensures.retires

@@ -14,7 +14,7 @@ loop-l-init c = (omega arith, refl, times_none _ _)
 
 pub trade-requires : goal.trade-requires
 trade-requires c =
-    ((rw c.loop-l.invariant.1 c.requires.0.0, c.requires.0.1), (c.requires.1, omega arith))
+    record { pair_at = (rw c.loop-l.invariant.1 c.requires.pair_at.0, c.requires.pair_at.1); in_range = (c.requires.in_range, omega arith) }
 
 pub loop-l-preserved : goal.loop-l-preserved
 loop-l-preserved c =

@@ -14,7 +14,7 @@ loop-k-init c = (omega arith, refl, times_none _ _)
 
 pub line-requires : goal.line-requires
 line-requires c =
-    ((rw c.loop-k.invariant.1 c.requires.0, c.requires.1), omega arith)
+    record { pair_at = (rw c.loop-k.invariant.1 c.requires.0, c.requires.1); in_range = omega arith }
 
 pub loop-k-preserved : goal.loop-k-preserved
 loop-k-preserved c =
