@@ -74,7 +74,18 @@ def split_top(text):
 def as_record(body, names):
     """A body that ends in a tuple, as a record of the clauses' names."""
     lets, rest = re.match(r"(?s)((?:\s*let .*? in(?=\s))*)(.*)$", body).groups()
-    parts = split_top(rest)
+    parts, before = split_top(rest), ""
+    if not parts and rest.lstrip().startswith("rw "):
+        # the tuple after a rewriting
+        depth, start = 0, None
+        text = rest.rstrip()
+        for i in range(len(text) - 1, -1, -1):
+            depth += {")": 1, "]": 1, "}": 1, "(": -1, "[": -1, "{": -1}.get(text[i], 0)
+            if depth == 0:
+                start = i
+                break
+        parts = split_top(text[start:]) if start is not None else None
+        before = text[:start] if parts else ""
     if not parts:
         return None
     while len(parts) < len(names):
@@ -84,7 +95,8 @@ def as_record(body, names):
         parts[-1:] = more
     if len(parts) > len(names):
         parts[len(names) - 1:] = ["(" + ", ".join(parts[len(names) - 1:]) + ")"]
-    return (lets + " " if lets else "") + "record { " + "; ".join(f"{n} = {p}" for n, p in zip(names, parts)) + " }"
+    record = "record { " + "; ".join(f"{n} = {p}" for n, p in zip(names, parts)) + " }"
+    return (lets + " " if lets else "") + (f"{before.strip()} ({record})" if before else record)
 
 
 class Function:
@@ -126,6 +138,9 @@ class Function:
             for new, step, prefix in arm[2] if arm else []:
                 if plain(step) == plain(head) and prefix and rest[:len(prefix)] == prefix:
                     return [arm[0], new, *rest[len(prefix):]]
+            for new, step, prefix in arm[2] if arm else []:
+                if plain(step) == plain(head) and not prefix and rest:
+                    return [arm[0], new, *rest]
         if rest[:1] == ["given"]:
             for at in self.chain(goal):
                 for var, step in self.typed.get(at, []):
@@ -139,6 +154,7 @@ class Function:
             return [at[2][1], *self.product(at[3], rest)]
         if head in ("args", "ranges") and rest:
             return [head, self.args.get(rest[0], rest[0]), *rest[1:]]
+        head = "requires" if head == "pre" else head
         if head == "requires" and rest and len(self.own["requires"]) > 1:
             return [head, *self.clause(self.own["requires"], rest)]
         return [head, *rest]
@@ -170,7 +186,7 @@ class Function:
                 if rest[i] != "0":
                     k = int(rest[i]) + k
                 i += 1
-            if rest[0] == "new" and i < len(rest) and rest[i] == "0":
+            if (rest[0] == "new" or len(names) == 1) and i < len(rest) and rest[i] == "0":
                 i += 1
             if k < len(names):
                 return [rest[0], names[k], *rest[i:]]

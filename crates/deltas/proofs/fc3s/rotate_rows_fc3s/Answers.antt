@@ -14,7 +14,7 @@ loop-i-init c = (omega arith, refl, times_none _ _)
 
 pub rotate_row_fc3s-requires : goal.rotate_row_fc3s-requires
 rotate_row_fc3s-requires c =
-    let l = c.loop-i in record { ready = c.requires.ready; in_range = (omega arith, l.invariant.1 ∙ c.clear_floats.auto.w.0 ∙ c.requires.in_range) }
+    let l = c.loop-i in record { ready = c.requires.ready; in_range = (omega arith, l.invariant.1 ∙ c.clear_floats.auto.w ∙ c.requires.in_range) }
 
 pub loop-i-preserved : goal.loop-i-preserved
 loop-i-preserved c =

@@ -39,9 +39,7 @@ share_line81-requires c =
     let l = c.loop-j in
     let a = c.args in
     let i = (c.requires.images.image-at l.j (omega arith)).1 in
-    let g : c.perms_at-image.result.0 < a.num_atom = omega (arith, c.perms_at-image.ensures) in
-    rw (c.index_of-t.ensures, c.index_of-f.ensures, l.invariant.1)
-    (c.requires.images, (inside-atom a.num_atom 81 1 a.target _ l.j (omega arith) c.requires.blocks_in.0, inside-atom a.num_atom 27 1 a.source _ c.perms_at-image.result.0 g c.requires.blocks_in.1))
+    let g : c.perms_at-image.result.0 < a.num_atom = omega (arith, c.perms_at-image.ensures) in rw (c.index_of-t.ensures, c.index_of-f.ensures, l.invariant.1) (record { images = c.requires.images; blocks_in = (inside-atom a.num_atom 81 1 a.target _ l.j (omega arith) c.requires.blocks_in.0, inside-atom a.num_atom 27 1 a.source _ c.perms_at-image.result.0 g c.requires.blocks_in.1) })
 
 pub loop-j-preserved : goal.loop-j-preserved
 unfolding spread

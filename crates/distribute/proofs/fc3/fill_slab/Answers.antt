@@ -39,9 +39,7 @@ fill_row-requires c =
     let l = c.loop-i in
     let a = c.args in
     let i = (read c.requires.index_table l.i (omega arith)).1 in
-    let g : c.entry-image.result < a.num_atom = omega (arith, c.entry-image.ensures) in
-    rw (c.index_of-t.ensures, c.index_of-s.ensures, l.invariant.1)
-    (c.requires.index_table, (inside-atom a.num_atom 27 1 a.target _ l.i (omega arith) c.requires.blocks_in.0, inside-atom a.num_atom 27 1 a.source _ c.entry-image.result g c.requires.blocks_in.1))
+    let g : c.entry-image.result < a.num_atom = omega (arith, c.entry-image.ensures) in rw (c.index_of-t.ensures, c.index_of-s.ensures, l.invariant.1) (record { index_table = c.requires.index_table; blocks_in = (inside-atom a.num_atom 27 1 a.target _ l.i (omega arith) c.requires.blocks_in.0, inside-atom a.num_atom 27 1 a.source _ c.entry-image.result g c.requires.blocks_in.1) })
 
 pub loop-i-preserved : goal.loop-i-preserved
 unfolding move

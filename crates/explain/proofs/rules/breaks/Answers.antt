@@ -11,7 +11,7 @@ use Rattle.explain.proofs.rules.breaks.Goals as goal
 
 pub overflow_mul-result : goal.overflow_mul-result
 overflow_mul-result c =
-    let F = c.pre.0 in
+    let F = c.requires.0 in
     omega (arith, product_small c.args.n_patom c.args.num_trans F.patoms F.shifts)
 
 pub meet-requires : goal.meet-requires
@@ -19,19 +19,19 @@ unfolding rules
 meet-requires c =
     let a = c.args in
     let T : ShiftTables = shift_tables a.p2s.now a.s2pp.now a.nsym_list.now a.perms.now a.n_satom a.n_patom a.num_trans in
-    let p = c.pre in
+    let p = c.requires in
     let h = at-rule (shifts_of T) a.i a.j a.k c.in-1.is (p.2, p.3, p.4) in
     (p.0, h.0, h.1, h.0, h.2)
 
 pub has_null-requires : goal.has_null-requires
-has_null-requires c = c.pre.0
+has_null-requires c = c.requires.0
 
 pub has_after-requires : goal.has_after-requires
 unfolding rules
 has_after-requires c =
     let a = c.args in
     let T : ShiftTables = shift_tables a.p2s.now a.s2pp.now a.nsym_list.now a.perms.now a.n_satom a.n_patom a.num_trans in
-    let p = c.pre in
+    let p = c.requires in
     let h = at-rule (shifts_of T) a.i a.j a.k c.in-3.is (p.2, p.3, p.4) in
     (p.0, h.0, h.1)
 
@@ -40,7 +40,7 @@ unfolding rules
 meet-requires-in-4 c =
     let a = c.args in
     let T : ShiftTables = shift_tables a.p2s.now a.s2pp.now a.nsym_list.now a.perms.now a.n_satom a.n_patom a.num_trans in
-    let p = c.pre in
+    let p = c.requires in
     let h = at-rule (shifts_of T) a.i a.j a.k c.in-4.is (p.2, p.3, p.4) in
     (p.0, h.0, h.2, h.1, h.2)
 
@@ -49,7 +49,7 @@ unfolding rules
 comes_back-requires c =
     let a = c.args in
     let T : ShiftTables = shift_tables a.p2s.now a.s2pp.now a.nsym_list.now a.perms.now a.n_satom a.n_patom a.num_trans in
-    let p = c.pre in
+    let p = c.requires in
     let h = at-rule (shifts_of T) a.i a.j a.k c.in-5.is (p.2, p.3, p.4) in
     (p.0, h.0)
 
@@ -58,7 +58,7 @@ unfolding rules
 keeps_prim-requires c =
     let a = c.args in
     let T : ShiftTables = shift_tables a.p2s.now a.s2pp.now a.nsym_list.now a.perms.now a.n_satom a.n_patom a.num_trans in
-    let p = c.pre in
+    let p = c.requires in
     let h = at-rule (shifts_of T) a.i a.j a.k c.in-6.is (p.2, p.3, p.4) in
     (p.0, h.0, h.1)
 
@@ -67,8 +67,8 @@ unfolding rules
 lands-requires c =
     let a = c.args in
     let T : ShiftTables = shift_tables a.p2s.now a.s2pp.now a.nsym_list.now a.perms.now a.n_satom a.n_patom a.num_trans in
-    let p = c.pre in
-    let h = at-rule (shifts_of T) a.i a.j a.k (last-rule a.rule p.1 c.in_default.rest.0.0.0.0.0.0.1 c.in_default.rest.0.0.0.0.0.1 c.in_default.rest.0.0.0.0.1 c.in_default.rest.0.0.0.1 c.in_default.rest.0.0.1 c.in_default.rest.0.1 c.in_default.rest.1) (p.2, p.3, p.4) in
+    let p = c.requires in
+    let h = at-rule (shifts_of T) a.i a.j a.k (last-rule a.rule p.1 c.in_default.in_default-own.rest.0.0.0.0.0.0.1 c.in_default.in_default-own.rest.0.0.0.0.0.1 c.in_default.in_default-own.rest.0.0.0.0.1 c.in_default.in_default-own.rest.0.0.0.1 c.in_default.in_default-own.rest.0.0.1 c.in_default.in_default-own.rest.0.1 c.in_default.in_default-own.rest.1) (p.2, p.3, p.4) in
     (p.0, h.0)
 
 pub returns-in-0 : goal.returns-in-0
@@ -125,5 +125,5 @@ unfolding rules
 returns-in_default c =
     let a = c.args in
     let T : ShiftTables = shift_tables a.p2s.now a.s2pp.now a.nsym_list.now a.perms.now a.n_satom a.n_patom a.num_trans in
-    let p = c.pre in
-    ap not c.lands.ensures ∙ ap (λ r. (rule_at (shifts_of T) r).breaks a.i a.j a.k) (sym (last-rule a.rule p.1 c.in_default.rest.0.0.0.0.0.0.1 c.in_default.rest.0.0.0.0.0.1 c.in_default.rest.0.0.0.0.1 c.in_default.rest.0.0.0.1 c.in_default.rest.0.0.1 c.in_default.rest.0.1 c.in_default.rest.1))
+    let p = c.requires in
+    ap not c.lands.ensures ∙ ap (λ r. (rule_at (shifts_of T) r).breaks a.i a.j a.k) (sym (last-rule a.rule p.1 c.in_default.in_default-own.rest.0.0.0.0.0.0.1 c.in_default.in_default-own.rest.0.0.0.0.0.1 c.in_default.in_default-own.rest.0.0.0.0.1 c.in_default.in_default-own.rest.0.0.0.1 c.in_default.in_default-own.rest.0.0.1 c.in_default.in_default-own.rest.0.1 c.in_default.in_default-own.rest.1))

@@ -3,7 +3,7 @@ use Rattle.fc3.specs.Loops.{worked_clear}
 use Rattle.fc3.proofs.compact.symmetrize.Goals as goal
 
 pub slabs-requires : goal.slabs-requires
-slabs-requires c = rw c.clear_bytes.auto.w.0 c.requires
+slabs-requires c = rw c.clear_bytes.auto.w c.requires
 
 pub returns : goal.returns
 returns c =

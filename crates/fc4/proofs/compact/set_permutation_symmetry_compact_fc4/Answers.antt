@@ -9,7 +9,7 @@ returns-then-is_refusal c =
 
 pub all_blocks-requires : goal.all_blocks-requires
 all_blocks-requires c =
-    record { ready = rw c.clear_bytes.auto.w.0 (symmetrize_ready c.args.fc4.now _ c.args.done.now c.judge_compact-a.result c.judge_compact-a.ensures (sym c.is_refusal.ensures ∙ c.if-is_refusal.false)); in_range = c.addresses-t.ensures }
+    record { ready = rw c.clear_bytes.auto.w (symmetrize_ready c.args.fc4.now _ c.args.done.now c.judge_compact-a.result c.judge_compact-a.ensures (sym c.is_refusal.ensures ∙ c.if-is_refusal.false)); in_range = c.addresses-t.ensures }
 
 pub returns : goal.returns
 returns c =

@@ -9,7 +9,7 @@ returns-then-is_refusal c =
 
 pub full_blocks-requires : goal.full_blocks-requires
 full_blocks-requires c =
-    (rw c.clear_bytes.auto.w.0 (full-ready c.args.fc4.now c.args.done.now c.args.num_atom c.judge-a.result c.judge-a.ensures (sym c.is_refusal.ensures ∙ c.if-is_refusal.false)), c.addresses-t.ensures)
+    (rw c.clear_bytes.auto.w (full-ready c.args.fc4.now c.args.done.now c.args.num_atom c.judge-a.result c.judge-a.ensures (sym c.is_refusal.ensures ∙ c.if-is_refusal.false)), c.addresses-t.ensures)
 
 pub returns : goal.returns
 returns c =

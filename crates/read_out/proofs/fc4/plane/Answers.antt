@@ -38,9 +38,7 @@ line-requires c =
     let l = c.loop-k in
     let p = c.perms_at-image in
     let i = (c.requires.along l.k (omega arith)).1 in
-    let g : p.result.0 < a.n_satom = omega (arith, p.ensures) in
-    rw (c.index_of-b.ensures, c.index_of-f.ensures, l.invariant.1)
-    (c.requires.along, (inside-atom a.n_satom 81 1 a.to _ l.k (omega arith) c.requires.blocks_in.0, inside-atom a.n_satom 81 1 a.from _ p.result.0 g c.requires.blocks_in.1))
+    let g : p.result.0 < a.n_satom = omega (arith, p.ensures) in rw (c.index_of-b.ensures, c.index_of-f.ensures, l.invariant.1) (record { along = c.requires.along; blocks_in = (inside-atom a.n_satom 81 1 a.to _ l.k (omega arith) c.requires.blocks_in.0, inside-atom a.n_satom 81 1 a.from _ p.result.0 g c.requires.blocks_in.1) })
 
 pub loop-k-preserved : goal.loop-k-preserved
 unfolding copy_legs
