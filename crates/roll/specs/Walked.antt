@@ -2,13 +2,13 @@
 -- records of the roll with their labels and then the end; and of an appended roll the records of before, then the new one. Assumes nothing.
 use Rattle.std.specs.Prelude.{◌≡◌, Bool, true, take}
 use Rattle.std.proofs.Math.Path.{refl, ap, ap₂}
-use Rattle.std.proofs.Common.{sym, ◌∙◌, subst}
+use Rattle.std.proofs.Common.{◌∙◌}
 use mathlib.Core.List.{List, [], ◌∷◌, ◌++◌, map, append_assoc}
 use Prim.Native.Nat.{ℕ, zero, suc, ◌+◌, ◌<◌}
 use native.Mathlib.Omega.{arith}
 use Rattle.lists.specs.Tab.{tab, tab_from}
 use Rattle.roll.specs.Format.{Entry}
-use Rattle.roll.specs.Reading.{count_of, record_start, entry_at, is_start, framed, is_roll, is_former_roll, entries_of}
+use Rattle.roll.specs.Reading.{count_of, record_start, entry_at, framed, is_roll, is_former_roll, entries_of}
 use Rattle.roll.specs.NumberLaws.{Bytes}
 use Rattle.roll.specs.Rendering.{Fits}
 use Rattle.roll.specs.StartLaws.{no_start}

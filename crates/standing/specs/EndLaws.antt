@@ -1,5 +1,5 @@
 -- The answer for a set by the end of its chain, which one walk over the records finds. Assumes nothing.
-use Rattle.std.specs.Prelude.{◌≡◌, Bool, true, false, cond, ◌⊎◌, List, ℕ, zero, suc, ◌+◌, ◌<◌}
+use Rattle.std.specs.Prelude.{◌≡◌, Bool, true, false, cond, List, ℕ, zero, suc, ◌+◌, ◌<◌}
 use Rattle.std.proofs.Math.Path.{refl, ap, ap₂}
 use Rattle.std.proofs.Common.{sym, ◌∙◌, subst, ⊎_elim, add-one, eq-eqb, ne_eqb}
 use Rattle.lists.specs.Cases.{eq_or_ne}

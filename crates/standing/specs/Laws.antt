@@ -1,6 +1,6 @@
 -- Document 02, A.8, as laws: in a lawful roll no chain of replacements goes on without end, and what the roll answers is what the rules give
 -- over the plain register of its records, and nothing else is. Assumes nothing.
-use Rattle.std.specs.Prelude.{◌≡◌, refl, true, not, ◌&&◌, ◌⊎◌, List, eqb, leb, get_or}
+use Rattle.std.specs.Prelude.{◌≡◌, refl, true, not, ◌&&◌, List, eqb, leb, get_or}
 use Rattle.std.proofs.Common.{sym, ap, ◌∙◌, subst, add-one, arith}
 use Rattle.std.proofs.Math.Bool.{cond}
 use Rattle.std.proofs.Math.Logic.{⊎_elim}

@@ -1,5 +1,5 @@
 -- Linked by replacements, earlier or later: just those sets whose chains end in one set. Assumes nothing.
-use Rattle.std.specs.Prelude.{◌≡◌, refl, ◌⊎◌, ◌↔◌, ℕ, zero, suc}
+use Rattle.std.specs.Prelude.{◌≡◌, refl, ◌↔◌, ℕ, zero, suc}
 use Rattle.std.proofs.Common.{sym, ap, ◌∙◌, subst, ⊎_elim}
 use Rattle.lists.specs.Cases.{eq_or_ne}
 use Rattle.standing.specs.Register.{Register}

@@ -1,6 +1,6 @@
 -- Small rolls and what they answer (document 02, A.8, A.12 and A.14), by values; and the laws used on them. Assumes nothing.
-use Rattle.std.specs.Prelude.{◌≡◌, refl, true, false, List, [], ◌∷◌, ◌++◌, ℕ, replicate, take}
-use Rattle.std.proofs.Common.{sym, ap, ◌∙◌, inl, inr, arith}
+use Rattle.std.specs.Prelude.{◌≡◌, refl, List, [], ◌∷◌, ◌++◌, ℕ, replicate, take}
+use Rattle.std.proofs.Common.{inl, arith}
 use Rattle.lists.specs.Tests.{every}
 use Rattle.lists.specs.Tab.{tab, tab_from}
 use Rattle.lists.specs.Members.{In, all_of}
@@ -12,10 +12,10 @@ use Rattle.roll.specs.AppendCalls.{with_entry, passes, judged_append, appended}
 use Rattle.roll.specs.declared.append.Appended.TheVariants.{Count, Refused as NotAppended}
 use Rattle.standing.specs.Register.{blank, noted, noted_all, allowed, all_allowed, rule, answer, register_of, stands_now}
 use Rattle.standing.specs.Chains.{chain_end}
-use Rattle.standing.specs.Former.{former_rule, former_answer, former_stands_now, held_back, changes_just, was-retired}
+use Rattle.standing.specs.Former.{former_stands_now, held_back, changes_just, was-retired}
 use Rattle.standing.specs.RetireAll.{waits, inserted, numbers_passing, to_retire, add_all, judged_retire, retire_all}
 use Rattle.standing.specs.MemberLaws.{Rising}
-use Rattle.standing.specs.Linked.{Linked, itself, later, earlier}
+use Rattle.standing.specs.Linked.{Linked, itself, earlier}
 use Rattle.standing.specs.RetireLaws.{just_linked, by-rising-number, answers-after}
 use Rattle.standing.specs.declared.Standing.TheVariants.{Unknown, Retired, Current, Refused}
 use Rattle.standing.specs.declared.retire.Judged.TheVariants.{Add}

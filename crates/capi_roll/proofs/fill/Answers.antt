@@ -1,7 +1,6 @@
 use native.Mathlib.Omega.{arith}
 use lib.ListN.{length-set}
 use Rattle.capi_roll.specs.Told.{six_slots}
-use borrow.Author.Rules.{rules}
 use Rattle.capi_roll.proofs.fill.Goals as goal
 
 pub bounds-slots-4 : goal.bounds-slots-4

@@ -1,6 +1,5 @@
 use Rattle.roll.specs.Format.{entry}
 use Rattle.capi_roll.specs.Told.{append-told, append-slot}
-use borrow.Author.Rules.{rules}
 use Rattle.capi_roll.proofs.gf_append_roll.Goals as goal
 
 pub returns-then-new_count-eq1 : goal.returns-then-new_count-eq1

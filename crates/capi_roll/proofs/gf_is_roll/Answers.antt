@@ -1,4 +1,3 @@
-use borrow.Author.Rules.{rules}
 use Rattle.capi_roll.proofs.gf_is_roll.Goals as goal
 
 pub returns : goal.returns

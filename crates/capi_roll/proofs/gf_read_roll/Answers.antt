@@ -1,6 +1,5 @@
 use Rattle.roll.specs.HoldingLaws.{is_framed}
 use Rattle.capi_roll.specs.Told.{read-within, read_told}
-use borrow.Author.Rules.{rules}
 use Rattle.capi_roll.proofs.gf_read_roll.Goals as goal
 
 pub tell_in-requires : goal.tell_in-requires

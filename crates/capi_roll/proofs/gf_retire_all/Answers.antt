@@ -1,5 +1,4 @@
 use Rattle.capi_roll.specs.Told.{retire_told, retire_slot, retire_seven}
-use borrow.Author.Rules.{rules}
 use Rattle.capi_roll.proofs.gf_retire_all.Goals as goal
 
 pub returns-then-new_count-eq1 : goal.returns-then-new_count-eq1

@@ -1,5 +1,4 @@
 use Rattle.capi_roll.specs.Told.{set_told, set-slot}
-use borrow.Author.Rules.{rules}
 use Rattle.capi_roll.proofs.gf_stands_now.Goals as goal
 
 pub returns-then-slot-eq1 : goal.returns-then-slot-eq1

@@ -1,5 +1,4 @@
 use Rattle.capi_roll.specs.Told.{named_current, named-unknown, named-retired, named-refused}
-use borrow.Author.Rules.{rules}
 use Rattle.capi_roll.proofs.name_set.Goals as goal
 
 pub returns-in-Unknown : goal.returns-in-Unknown

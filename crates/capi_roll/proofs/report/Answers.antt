@@ -1,5 +1,4 @@
 use Rattle.capi_roll.specs.Told.{reported-count, reported-refused}
-use borrow.Author.Rules.{rules}
 use Rattle.capi_roll.proofs.report.Goals as goal
 
 pub returns-in-Count : goal.returns-in-Count

@@ -1,6 +1,5 @@
 use native.Mathlib.Omega.{arith}
 use Rattle.capi_roll.specs.Told.{told_record, told_end, told-refused}
-use borrow.Author.Rules.{rules}
 use Rattle.capi_roll.proofs.tell.Goals as goal
 
 pub overflow_add-at-in-Record : goal.overflow_add-at-in-Record

@@ -1,5 +1,4 @@
 use Rattle.capi_roll.specs.Told.{told-six, told_slots}
-use borrow.Author.Rules.{rules}
 use Rattle.capi_roll.proofs.tell_in.Goals as goal
 
 pub tell-requires : goal.tell-requires

@@ -1,7 +1,6 @@
 use mathlib.Core.Path.{sym}
 use lib.Seq.{length-take-le}
 use Rattle.roll.specs.HoldingLaws.{bytes_past, bytes-there}
-use borrow.Author.Rules.{rules}
 use Rattle.roll.proofs.roll_bytes.Goals as goal
 
 pub returns-then-lent-count : goal.returns-then-lent-count

@@ -1,12 +1,10 @@
 use mathlib.Core.Path.{◌≡◌, ap, ◌∙◌}
-use Prim.Native.Nat.{ℕ, ◌-◌, ◌≤◌, ◌<◌}
+use Prim.Native.Nat.{ℕ}
 use native.Mathlib.Omega.{arith}
-use Rattle.roll.specs.Reading.{record_start}
 use Rattle.roll.specs.StartLaws.{start_first, next_start}
 use Rattle.standing.specs.Walk.{record_of, inside}
 use Rattle.standing.specs.Chains.{carried}
 use Rattle.standing.specs.EndLaws.{carried_none, carried-more}
-use borrow.Author.Rules.{rules}
 use Rattle.standing.proofs.end_of.Goals as goal
 
 pub loop-i-init : goal.loop-i-init

@@ -1,7 +1,6 @@
 use native.Mathlib.Omega.{arith}
 use borrow.Author.Tests.{not-true, not-false}
 use Rattle.standing.specs.Walk.{inside, retires-known, delivered-twice, delivers-new, replaces-unknown, replaces-known}
-use borrow.Author.Rules.{rules}
 use Rattle.standing.proofs.is_allowed.Goals as goal
 
 pub bounds-b-at : goal.bounds-b-at

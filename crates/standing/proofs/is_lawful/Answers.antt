@@ -1,13 +1,10 @@
 use mathlib.Core.Path.{◌≡◌}
 use mathlib.Core.Bool.{true}
-use Prim.Native.Nat.{ℕ, ◌-◌, ◌≤◌, ◌<◌}
 use native.Mathlib.Omega.{arith}
 use borrow.Author.Count.{below_none, below_more}
-use Rattle.roll.specs.Reading.{record_start}
 use Rattle.roll.specs.StartLaws.{start_first, next_start, one_failed, all-passed, told-no, told_yes}
 use Rattle.standing.specs.Register.{allowed}
 use Rattle.standing.specs.Walk.{record_of, register_after, lawful_to, inside}
-use borrow.Author.Rules.{rules}
 use Rattle.standing.proofs.is_lawful.Goals as goal
 
 pub loop-i-init : goal.loop-i-init

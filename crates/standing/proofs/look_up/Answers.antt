@@ -1,11 +1,9 @@
 use mathlib.Core.Path.{◌≡◌, ap, ◌∙◌, subst}
 use mathlib.Core.Bool.{Bool, ◌||◌}
-use Prim.Native.Nat.{ℕ, ◌-◌, ◌≤◌}
+use Prim.Native.Nat.{ℕ}
 use native.Mathlib.Omega.{arith}
-use Rattle.roll.specs.Reading.{record_start}
 use Rattle.roll.specs.StartLaws.{start_first, next_start}
 use Rattle.standing.specs.Walk.{Notes, record_of, register_after, notes_none, notes_more, inside}
-use borrow.Author.Rules.{rules}
 use Rattle.standing.proofs.look_up.Goals as goal
 
 pub loop-i-init : goal.loop-i-init

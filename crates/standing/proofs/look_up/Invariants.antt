@@ -1,11 +1,7 @@
-use mathlib.Core.Path.{◌≡◌, ap, ◌∙◌, subst}
-use mathlib.Core.Bool.{Bool, ◌||◌}
-use Prim.Native.Nat.{ℕ, ◌-◌, ◌≤◌}
-use native.Mathlib.Omega.{arith}
+use mathlib.Core.Path.{◌≡◌}
+use Prim.Native.Nat.{◌-◌, ◌≤◌}
 use Rattle.roll.specs.Reading.{record_start}
-use Rattle.roll.specs.StartLaws.{start_first, next_start}
-use Rattle.standing.specs.Walk.{Notes, record_of, register_after, notes_none, notes_more, inside}
-use borrow.Author.Rules.{rules}
+use Rattle.standing.specs.Walk.{Notes, record_of, register_after}
 use Rattle.standing.proofs.look_up.Given as goal
 
 abbrev pub invariant-loop-i : goal.invariant-loop-i

@@ -1,5 +1,4 @@
 use Rattle.standing.specs.Walk.{replaced-here, replaced-before}
-use borrow.Author.Rules.{rules}
 use Rattle.standing.proofs.replacer.Goals as goal
 
 pub returns-then-replaces_at : goal.returns-then-replaces_at

@@ -3,7 +3,6 @@ use native.Mathlib.Omega.{arith}
 use lib.ListN.{get_or}
 use borrow.Author.Tests.{eq-eqb, ne_eqb}
 use Rattle.roll.specs.Reading.{entry_at}
-use borrow.Author.Rules.{rules}
 use Rattle.standing.proofs.retires_at.Goals as goal
 
 pub returns-then-wide-ne3 : goal.returns-then-wide-ne3

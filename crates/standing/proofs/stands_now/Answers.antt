@@ -6,7 +6,6 @@ use Rattle.roll.specs.StartLaws.{told-no, told_yes}
 use Rattle.roll.specs.HoldingLaws.{at-least-eight, count_is}
 use Rattle.standing.specs.Register.{stands_now}
 use Rattle.standing.specs.Walk.{no-roll, no-law, by_rules}
-use borrow.Author.Rules.{rules}
 use Rattle.standing.proofs.stands_now.Goals as goal
 
 pub returns-then-not-is_whole_roll : goal.returns-then-not-is_whole_roll

@@ -19,7 +19,7 @@ lay_trailer-requires c =
     let a = c.args in
     let H = c.requires.0 in
     let r = entry a.kind a.set a.earlier a.label.now in
-    let B : Bytes a.lent.now = λ k. omega (arith, c.type_inv.lent k) in
+    let B : Bytes a.lent.now = λ k. search rules in
     let n = c.count_in-n.ensures.0 ∙ count-read a.lent.now a.count H in
     let t = c.trailer_in-t.ensures.0 ∙ trailer_read a.lent.now a.count H in
     let L = within-limits a.lent.now a.count H in
@@ -30,7 +30,7 @@ returns c =
     let a = c.args in
     let H = c.requires.0 in
     let r = entry a.kind a.set a.earlier a.label.now in
-    let B : Bytes a.lent.now = λ k. omega (arith, c.type_inv.lent k) in
+    let B : Bytes a.lent.now = λ k. search rules in
     let n = c.count_in-n.ensures.0 ∙ count-read a.lent.now a.count H in
     let t = c.trailer_in-t.ensures.0 ∙ trailer_read a.lent.now a.count H in
     new-roll a.lent.now a.count r H B c.requires.2 _ _ _ n t c.lay_record.ensures _ c.lay_trailer.ensures

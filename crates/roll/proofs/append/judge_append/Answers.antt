@@ -10,7 +10,6 @@ use Rattle.roll.specs.NumberLaws.{Bytes}
 use Rattle.roll.specs.StartLaws.{told-no, told_yes}
 use Rattle.roll.specs.HoldingLaws.{is_there, at_least, within-limits, count-read}
 use Rattle.roll.specs.AppendingLaws.{answer-not, answer-long, answer-done}
-use borrow.Author.Rules.{rules}
 use Rattle.roll.proofs.append.judge_append.Goals as goal
 
 pub returns-then-not-is_roll : goal.returns-then-not-is_roll

@@ -1,6 +1,5 @@
 use native.Mathlib.Omega.{arith}
 use Rattle.roll.specs.StoringLaws.{record_stored}
-use borrow.Author.Rules.{rules}
 use Rattle.roll.proofs.append.lay_record.Goals as goal
 
 pub returns : goal.returns

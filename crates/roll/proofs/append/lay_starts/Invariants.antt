@@ -1,14 +1,10 @@
-use mathlib.Core.Path.{◌≡◌, refl, ap, ◌∙◌}
+use mathlib.Core.Path.{◌≡◌}
 use Prim.Native.Nat.{◌-◌, ◌≤◌}
-use native.Mathlib.Omega.{arith}
 use lib.ListN.{length}
 use Rattle.lists.specs.Tab.{tab}
 use Rattle.roll.specs.Format.{in_fours}
 use Rattle.roll.specs.Reading.{record_start}
 use Rattle.roll.specs.Laid.{laid}
-use Rattle.roll.specs.StartLaws.{start_first, next_start, head-before}
-use Rattle.roll.specs.StoringLaws.{no-starts, more-starts, still}
-use borrow.Author.Rules.{rules}
 use Rattle.roll.proofs.append.lay_starts.Given as goal
 
 abbrev pub invariant-loop-i : goal.invariant-loop-i

@@ -1,5 +1,4 @@
 use Rattle.roll.specs.StoringLaws.{trailer_stored}
-use borrow.Author.Rules.{rules}
 use Rattle.roll.proofs.append.lay_trailer.Goals as goal
 
 pub returns : goal.returns

@@ -1,6 +1,5 @@
 use native.Mathlib.Omega.{arith}
 use Rattle.roll.specs.StartLaws.{head_cut, label_cut, not_cut}
-use borrow.Author.Rules.{rules}
 use Rattle.roll.proofs.judge.fits.Goals as goal
 
 pub returns-then-t-at : goal.returns-then-t-at

@@ -1,6 +1,5 @@
 use mathlib.Core.Path.{refl}
 use native.Mathlib.Omega.{arith}
-use borrow.Author.Tests.{not-false}
 use Rattle.lists.specs.Tests.{every}
 use Rattle.roll.specs.Reading.{follow, listed_once}
 use Rattle.roll.specs.StartLaws.{told-no, told_yes, follow-ends}

@@ -2,7 +2,6 @@ use mathlib.Core.Path.{sym}
 use native.Mathlib.Omega.{arith}
 use lib.Seq.{length-take-le}
 use Rattle.roll.specs.HoldingLaws.{held-past, held_by}
-use borrow.Author.Rules.{rules}
 use Rattle.roll.proofs.judge.is_roll.Goals as goal
 
 pub returns-then-lent-count : goal.returns-then-lent-count

@@ -2,7 +2,6 @@ use mathlib.Core.Path.{sym}
 use native.Mathlib.Omega.{arith}
 use lib.Seq.{length-take-le}
 use Rattle.roll.specs.HoldingLaws.{former-past, former-held}
-use borrow.Author.Rules.{rules}
 use Rattle.roll.proofs.judge.is_roll_former.Goals as goal
 
 pub returns-then-count-lent : goal.returns-then-count-lent

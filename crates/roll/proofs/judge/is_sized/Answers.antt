@@ -1,6 +1,5 @@
 use native.Mathlib.Omega.{arith}
 use Rattle.roll.specs.HoldingLaws.{sized_says, not-sized, sized-by, count_is, trailer_is}
-use borrow.Author.Rules.{rules}
 use Rattle.roll.proofs.judge.is_sized.Goals as goal
 
 pub returns-then-len-lt8 : goal.returns-then-len-lt8

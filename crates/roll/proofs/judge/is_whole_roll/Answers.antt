@@ -1,7 +1,6 @@
 use native.Mathlib.Omega.{arith}
 use Rattle.roll.specs.StartLaws.{told-no, told_yes}
 use Rattle.roll.specs.HoldingLaws.{sized_says, sized_for, not-roll, roll-by, count_is, trailer_is}
-use borrow.Author.Rules.{rules}
 use Rattle.roll.proofs.judge.is_whole_roll.Goals as goal
 
 pub returns-then-not-is_sized : goal.returns-then-not-is_sized

@@ -1,6 +1,6 @@
 use mathlib.Core.Path.{◌≡◌, sym, ap, ◌∙◌, subst}
 use mathlib.Core.Bool.{true, false, ◌&&◌}
-use Prim.Native.Nat.{ℕ, ◌+◌, ◌-◌, ◌≤◌, ◌<◌}
+use Prim.Native.Nat.{◌+◌}
 use native.Mathlib.Omega.{arith}
 use borrow.Author.Count.{below_none, below_more}
 use borrow.Author.Tests.{eq-eqb, ne_eqb}
@@ -9,7 +9,6 @@ use Rattle.lists.specs.Tests.{every, every_of}
 use Rattle.roll.specs.Reading.{record_start, size_at, ruled_at, follow, listed}
 use Rattle.roll.specs.StartLaws.{told-no, told_yes, start_first, next_start, fit_says, not_fitting, following, listed_is, one_failed}
 use Rattle.roll.specs.HoldingLaws.{no-and, and_no, and_yes}
-use borrow.Author.Rules.{rules}
 use Rattle.roll.proofs.judge.lists_in_order.Goals as goal
 
 pub loop-i-init : goal.loop-i-init

@@ -1,15 +1,8 @@
-use mathlib.Core.Path.{◌≡◌, sym, ap, ◌∙◌, subst}
-use mathlib.Core.Bool.{true, false, ◌&&◌}
-use Prim.Native.Nat.{ℕ, ◌+◌, ◌-◌, ◌≤◌, ◌<◌}
-use native.Mathlib.Omega.{arith}
-use borrow.Author.Count.{below_none, below_more}
-use borrow.Author.Tests.{eq-eqb, ne_eqb}
-use lib.Dec.{eqb, leb}
-use Rattle.lists.specs.Tests.{every, every_of}
-use Rattle.roll.specs.Reading.{record_start, size_at, ruled_at, follow, listed}
-use Rattle.roll.specs.StartLaws.{told-no, told_yes, start_first, next_start, fit_says, not_fitting, following, listed_is, one_failed}
-use Rattle.roll.specs.HoldingLaws.{no-and, and_no, and_yes}
-use borrow.Author.Rules.{rules}
+use mathlib.Core.Path.{◌≡◌}
+use mathlib.Core.Bool.{true}
+use Prim.Native.Nat.{ℕ, ◌-◌, ◌≤◌, ◌<◌}
+use lib.Dec.{eqb}
+use Rattle.roll.specs.Reading.{record_start, ruled_at, listed}
 use Rattle.roll.proofs.judge.lists_in_order.Given as goal
 
 abbrev pub invariant-loop-i : goal.invariant-loop-i

@@ -1,13 +1,12 @@
 use mathlib.Core.Path.{◌≡◌, sym, ap, ◌∙◌, subst}
 use mathlib.Core.Bool.{true}
-use Prim.Native.Nat.{ℕ, ◌+◌, ◌-◌, ◌≤◌, ◌<◌}
+use Prim.Native.Nat.{◌+◌, ◌≤◌, ◌<◌}
 use native.Mathlib.Omega.{arith}
 use borrow.Author.Count.{below_none, below_more}
 use lib.ListN.{get_or, set}
 use Rattle.roll.specs.Reading.{record_start, listed_once}
 use Rattle.roll.specs.Roll.{Marked}
 use Rattle.roll.specs.StartLaws.{Open, all_open, one_shut, is_shut, is_open_lem, listed_is, not_listed, all-passed, one_failed}
-use borrow.Author.Rules.{rules}
 use Rattle.roll.proofs.judge.lists_once.Goals as goal
 
 pub loop-i-init : goal.loop-i-init

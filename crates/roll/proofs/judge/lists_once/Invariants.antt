@@ -1,13 +1,8 @@
-use mathlib.Core.Path.{◌≡◌, sym, ap, ◌∙◌, subst}
+use mathlib.Core.Path.{◌≡◌}
 use mathlib.Core.Bool.{true}
-use Prim.Native.Nat.{ℕ, ◌+◌, ◌-◌, ◌≤◌, ◌<◌}
-use native.Mathlib.Omega.{arith}
-use borrow.Author.Count.{below_none, below_more}
-use lib.ListN.{get_or, set}
-use Rattle.roll.specs.Reading.{record_start, listed_once}
-use Rattle.roll.specs.Roll.{Marked}
-use Rattle.roll.specs.StartLaws.{Open, all_open, one_shut, is_shut, is_open_lem, listed_is, not_listed, all-passed, one_failed}
-use borrow.Author.Rules.{rules}
+use Prim.Native.Nat.{ℕ, ◌-◌, ◌≤◌, ◌<◌}
+use Rattle.roll.specs.Reading.{listed_once}
+use Rattle.roll.specs.StartLaws.{Open}
 use Rattle.roll.proofs.judge.lists_once.Given as goal
 
 abbrev pub invariant-loop-i : goal.invariant-loop-i

@@ -1,6 +1,6 @@
 use mathlib.Core.Path.{◌≡◌, sym, ap, ◌∙◌, subst}
 use mathlib.Core.Bool.{true, false, ◌&&◌, true≢false}
-use Prim.Native.Nat.{ℕ, ◌+◌, ◌-◌, ◌≤◌, ◌<◌}
+use Prim.Native.Nat.{◌+◌, ◌<◌}
 use native.Mathlib.Omega.{arith}
 use borrow.Author.Count.{below_none, below_more}
 use lib.Dec.{eqb, leb}
@@ -8,7 +8,6 @@ use lib.ListN.{set}
 use Rattle.roll.specs.Reading.{record_start, size_at, ruled_at}
 use Rattle.roll.specs.Roll.{Marked}
 use Rattle.roll.specs.StartLaws.{told-no, told_yes, start_first, next_start, fit_says, not_fitting, following, none-marked, one-marked}
-use borrow.Author.Rules.{rules}
 use Rattle.roll.proofs.judge.mark_starts.Goals as goal
 
 pub loop-i-init : goal.loop-i-init

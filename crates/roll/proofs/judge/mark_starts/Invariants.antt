@@ -1,14 +1,8 @@
-use mathlib.Core.Path.{◌≡◌, sym, ap, ◌∙◌, subst}
-use mathlib.Core.Bool.{true, false, ◌&&◌, true≢false}
-use Prim.Native.Nat.{ℕ, ◌+◌, ◌-◌, ◌≤◌, ◌<◌}
-use native.Mathlib.Omega.{arith}
-use borrow.Author.Count.{below_none, below_more}
-use lib.Dec.{eqb, leb}
-use lib.ListN.{set}
-use Rattle.roll.specs.Reading.{record_start, size_at, ruled_at}
+use mathlib.Core.Path.{◌≡◌}
+use mathlib.Core.Bool.{true}
+use Prim.Native.Nat.{ℕ, ◌-◌, ◌≤◌, ◌<◌}
+use Rattle.roll.specs.Reading.{record_start, ruled_at}
 use Rattle.roll.specs.Roll.{Marked}
-use Rattle.roll.specs.StartLaws.{told-no, told_yes, start_first, next_start, fit_says, not_fitting, following, none-marked, one-marked}
-use borrow.Author.Rules.{rules}
 use Rattle.roll.proofs.judge.mark_starts.Given as goal
 
 abbrev pub invariant-loop-i : goal.invariant-loop-i

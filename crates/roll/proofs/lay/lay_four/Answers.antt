@@ -1,5 +1,4 @@
 use Rattle.roll.specs.StoringLaws.{four-laid}
-use borrow.Author.Rules.{rules}
 use Rattle.roll.proofs.lay.lay_four.Goals as goal
 
 pub returns : goal.returns

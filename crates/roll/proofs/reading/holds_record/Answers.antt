@@ -1,4 +1,3 @@
-use borrow.Author.Tests.{not-true, not-false}
 use Rattle.roll.specs.StepLaws.{not-held, held_by}
 use Rattle.roll.proofs.reading.holds_record.Goals as goal
 

@@ -1,7 +1,6 @@
 use mathlib.Core.Path.{sym, ap, ◌∙◌}
 use Rattle.roll.specs.HoldingLaws.{former-framed}
 use Rattle.roll.specs.ReadCalls.{label_by}
-use borrow.Author.Rules.{rules}
 use Rattle.roll.proofs.reading.label_at_former.Goals as goal
 
 pub label_by-requires : goal.label_by-requires

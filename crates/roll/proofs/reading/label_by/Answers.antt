@@ -4,7 +4,6 @@ use native.Mathlib.Omega.{arith}
 use lib.ListN.{take, drop, get_or}
 use Rattle.roll.specs.StartLaws.{told-no, told_yes}
 use Rattle.roll.specs.StepLaws.{no_label, record_label, its_end, record_room}
-use borrow.Author.Rules.{rules}
 use Rattle.roll.proofs.reading.label_by.Goals as goal
 
 pub returns-then-not-holds_record : goal.returns-then-not-holds_record

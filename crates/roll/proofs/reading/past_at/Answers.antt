@@ -1,7 +1,6 @@
 use mathlib.Core.Path.{sym, ap, ◌∙◌}
 use Rattle.roll.specs.HoldingLaws.{is_framed}
 use Rattle.roll.specs.ReadCalls.{past_by}
-use borrow.Author.Rules.{rules}
 use Rattle.roll.proofs.reading.past_at.Goals as goal
 
 pub past_by-requires : goal.past_by-requires

@@ -1,7 +1,6 @@
 use mathlib.Core.Path.{sym, ap, ◌∙◌}
 use Rattle.roll.specs.HoldingLaws.{former-framed}
 use Rattle.roll.specs.ReadCalls.{read_by}
-use borrow.Author.Rules.{rules}
 use Rattle.roll.proofs.reading.read_at_former.Goals as goal
 
 pub read_by-requires : goal.read_by-requires

@@ -1,6 +1,5 @@
 use mathlib.Core.Path.{sym, ◌∙◌}
 use native.Mathlib.Omega.{arith}
-use borrow.Author.Tests.{not-true, not-false}
 use Rattle.roll.specs.HoldingLaws.{framed-sized}
 use Rattle.roll.specs.StepLaws.{ends_in, read-not, read_record, read_end, read_none, its_trailer}
 use Rattle.roll.proofs.reading.read_by.Goals as goal

@@ -1,5 +1,4 @@
 use Rattle.roll.specs.StepLaws.{record_is}
-use borrow.Author.Rules.{rules}
 use Rattle.roll.proofs.reading.record_at.Goals as goal
 
 pub returns : goal.returns

@@ -1,6 +1,6 @@
 use mathlib.Core.Path.{◌≡◌, ◌∙◌, subst}
 use mathlib.Core.Bool.{false}
-use Prim.Native.Nat.{ℕ, ◌-◌, ◌≤◌, ◌<◌}
+use Prim.Native.Nat.{◌<◌}
 use native.Mathlib.Omega.{arith}
 use lib.Dec.{eqb}
 use borrow.Author.Tests.{eq-eqb, ne_eqb}
@@ -9,7 +9,6 @@ use Rattle.roll.specs.Reading.{record_start, is_start, count_of}
 use Rattle.roll.specs.StartLaws.{start_first, next_start, one-passed, all_failed}
 use Rattle.roll.specs.HoldingLaws.{count_is, framed-eight}
 use Rattle.roll.specs.StepLaws.{inside}
-use borrow.Author.Rules.{rules}
 use Rattle.roll.proofs.reading.starts_at.Goals as goal
 
 pub loop-i-init : goal.loop-i-init

@@ -1,10 +1,9 @@
 use mathlib.Core.Path.{◌≡◌, refl, ap, ◌∙◌}
-use Prim.Native.Nat.{ℕ, ◌+◌, ◌*◌, ◌-◌, ◌≤◌}
+use Prim.Native.Nat.{ℕ}
 use native.Mathlib.Omega.{arith}
-use lib.ListN.{length, take, drop}
+use lib.ListN.{take, drop}
 use Rattle.standing.specs.RetireAll.{add_all}
 use Rattle.standing.specs.Steps.{adds-first, adds-more, adds-last}
-use borrow.Author.Rules.{rules}
 use Rattle.standing.proofs.retire.add_all.Goals as goal
 
 pub loop-i-init : goal.loop-i-init

@@ -1,10 +1,7 @@
-use mathlib.Core.Path.{◌≡◌, refl, ap, ◌∙◌}
-use Prim.Native.Nat.{ℕ, ◌+◌, ◌*◌, ◌-◌, ◌≤◌}
-use native.Mathlib.Omega.{arith}
+use mathlib.Core.Path.{◌≡◌}
+use Prim.Native.Nat.{◌+◌, ◌*◌, ◌-◌, ◌≤◌}
 use lib.ListN.{length, take, drop}
 use Rattle.standing.specs.RetireAll.{add_all}
-use Rattle.standing.specs.Steps.{adds-first, adds-more, adds-last}
-use borrow.Author.Rules.{rules}
 use Rattle.standing.proofs.retire.add_all.Given as goal
 
 abbrev pub invariant-loop-i : goal.invariant-loop-i

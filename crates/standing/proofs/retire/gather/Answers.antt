@@ -1,14 +1,11 @@
 use mathlib.Core.Path.{◌≡◌, refl, sym, ap, ◌∙◌}
-use Prim.Native.Nat.{◌-◌, ◌≤◌}
 use native.Mathlib.Omega.{arith}
-use lib.ListN.{length, take}
+use lib.ListN.{length}
 use lib.Seq.{length-take-le}
-use Rattle.roll.specs.Reading.{record_start}
 use Rattle.roll.specs.StartLaws.{start_first, next_start}
 use Rattle.roll.specs.HoldingLaws.{is_sized}
 use Rattle.standing.specs.Walk.{record_of, inside}
 use Rattle.standing.specs.Steps.{waits_at, gathered_to, gathered-no, gathered-one}
-use borrow.Author.Rules.{rules}
 use Rattle.standing.proofs.retire.gather.Goals as goal
 
 pub loop-i-init : goal.loop-i-init

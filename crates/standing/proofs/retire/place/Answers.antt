@@ -1,10 +1,8 @@
 use mathlib.Core.Path.{◌≡◌, refl, sym, ap, ◌∙◌}
-use Prim.Native.Nat.{ℕ, ◌-◌, ◌≤◌}
+use Prim.Native.Nat.{ℕ}
 use native.Mathlib.Omega.{arith}
-use lib.ListN.{length, take, length-set}
-use Rattle.standing.specs.RetireAll.{inserted}
+use lib.ListN.{length-set}
 use Rattle.standing.specs.PlacingLaws.{under_way, begun, goes_on, ended}
-use borrow.Author.Rules.{rules}
 use Rattle.standing.proofs.retire.place.Goals as goal
 
 pub loop-i-init : goal.loop-i-init

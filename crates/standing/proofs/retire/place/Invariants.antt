@@ -1,10 +1,8 @@
-use mathlib.Core.Path.{◌≡◌, refl, sym, ap, ◌∙◌}
-use Prim.Native.Nat.{ℕ, ◌-◌, ◌≤◌}
-use native.Mathlib.Omega.{arith}
-use lib.ListN.{length, take, length-set}
+use mathlib.Core.Path.{◌≡◌}
+use Prim.Native.Nat.{◌-◌, ◌≤◌}
+use lib.ListN.{length, take}
 use Rattle.standing.specs.RetireAll.{inserted}
-use Rattle.standing.specs.PlacingLaws.{under_way, begun, goes_on, ended}
-use borrow.Author.Rules.{rules}
+use Rattle.standing.specs.PlacingLaws.{under_way}
 use Rattle.standing.proofs.retire.place.Given as goal
 
 abbrev pub invariant-loop-i : goal.invariant-loop-i
