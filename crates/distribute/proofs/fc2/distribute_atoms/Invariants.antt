@@ -18,10 +18,10 @@ invariant-loop-i l =
       atom_list = l.atom_list;
       fc_indices = l.fc_indices_of_atom_list;
       r_carts = l.r_carts;
-      l.permutations = l.permutations;
+      permutations = l.permutations;
       map_atoms = l.map_atoms;
       map_syms = l.map_syms;
-      l.num_pos = l.num_pos;
+      num_pos = l.num_pos;
     }))
     l.initial.fc2)
 

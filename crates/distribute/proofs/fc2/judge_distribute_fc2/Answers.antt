@@ -47,8 +47,10 @@ bad_representative-requires c =
       map_syms = a.map_syms.now;
       num_pos = a.num_pos;
     } in
+    let t =
     tables-fit D a.num_first a.num_rot (length a.fc2.now) (length a.atom_list_reverse.now)
-    (sym c.lengths_wrong.ensures ∙ c.if-lengths_wrong.false) (sym c.entries_out.ensures ∙ c.if-entries_out.false)
+    (sym c.lengths_wrong.ensures ∙ c.if-lengths_wrong.false) (sym c.entries_out.ensures ∙ c.if-entries_out.false) in
+    record { index_table = t.0; index_table_2 = t.1 }
 
 pub returns-then-bad_representative : goal.returns-then-bad_representative
 returns-then-bad_representative c =

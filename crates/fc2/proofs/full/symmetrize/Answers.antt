@@ -26,9 +26,8 @@ loop-t-preserved c =
     let l = c.loop-t in
     (omega arith, c.one_level.auto.fc ∙ l.invariant.1, times_more l.t _ _ l.invariant.2 c.one_level.ensures)
 
-set-translational-symmetry-fc-requires :
-    tie.Need-set_translational_symmetry_fc-requires invariant-loop decreases-loop
-set-translational-symmetry-fc-requires c κs = rw c.before.before.loop.invariant.1 c.before.before.before.before.before.requires
+pub set_translational_symmetry_fc-requires : goal.set_translational_symmetry_fc-requires
+set_translational_symmetry_fc-requires c = rw c.loop-t.invariant.1 c.requires
 
 pub returns : goal.returns
 unfolding inverse worked

@@ -1,11 +1,9 @@
 use mathlib.Core.Path.{sym, ◌∙◌}
 use Rattle.fc2_compact.specs.CompactCallLaws.{ready_when, index_refused, index_done}
 use borrow.Author.Rules.{rules}
-use Rattle.fc2_compact.proofs.compact.set_index_permutation_symmetry_compact_fc.Statement.{
 use Rattle.fc2_compact.proofs.compact.set_index_permutation_symmetry_compact_fc.Goals as goal
 
-  statement,
-}
+
 
 pub returns-then-is_refusal : goal.returns-then-is_refusal
 returns-then-is_refusal c =

@@ -2,6 +2,7 @@ use mathlib.Core.Logic.{inl, inr, ⊎_elim}
 use borrow.Author.Tests.{not-true, not-false}
 use Rattle.fc2_compact.specs.Code.{s2pp-read, facts, visit_in, transpose_earlier, transpose_late, transpose_none, transpose_done}
 use borrow.Author.Rules.{rules}
+use Rattle.fc2_compact.proofs.pairs.transpose_visit.Goals.{then-c-b-2+else-j-i, else-c-b-2}
 use Rattle.fc2_compact.proofs.pairs.transpose_visit.Goals as goal
 
 pub s2pp_at-requires : goal.s2pp_at-requires
@@ -40,5 +41,5 @@ swap_blocks-requires-2 c =
 pub returns : goal.returns
 returns c =
     transpose_done _ c.args.fc.now _ _ _ c.requires _ _ c.block2-b.ensures c.stored_block2-c.ensures c.args.half_shifts_stay c.if-c-b.false
-    (inr (⊎_elim (λ w. inr w.3.left) (λ w. inl w.left) c.if-c-b-2.branch))
+    (inr (elim c.if-c-b-2.branch [ then-c-b-2+else-j-i w ↦ inr w.if-j-i.false | else-c-b-2 w ↦ inl w.if-c-b-2.false ]))
     c.swap_blocks-2.ensures
