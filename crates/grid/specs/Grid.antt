@@ -1,6 +1,6 @@
 -- The grid of document 02, A.10: the multiples of 2^-20 from -2^20 to 2^20. -0.0 is the multiple 0, so it is on the grid.
 -- A number on the grid is a count of steps of 2^-20, up or down. Assumes nothing.
-use Rattle.std.specs.Prelude.{◌≡◌, refl, ◌⊎◌, Bool, true, false, not, ◌&&◌, ℕ, ◌+◌, ◌-◌, ◌*◌, ◌/◌, ◌%◌, ◌^◌, ◌≤◌, ◌<◌, eqb, leb, Float, get_or, List}
+use Rattle.std.specs.Prelude.{◌≡◌, refl, ◌⊎◌, Bool, true, false, not, ◌&&◌, ℕ, ◌+◌, ◌*◌, ◌/◌, ◌%◌, ◌^◌, ◌≤◌, ◌<◌, eqb, leb, Float, get_or, List}
 use Rattle.std.proofs.Common.{sym, ap, ◌∙◌, inl, inr, div-add-mod', le_of_mul-le-mul_right, add-zero, arith, eqb-true, leb-true}
 use Rattle.std.proofs.lemmas.Bool.{false≢true}
 use Rattle.std.specs.Float.{nan, inf, fin}

@@ -2,7 +2,6 @@ use Rattle.distances.proofs.Numbers.{squares-far, root-far, root_none, told-near
 use lib.Dec.{T}
 use lib.Ieee.{Float, lt}
 use mathlib.Core.Path.{sym, ap, subst, ◌∙◌}
-use borrow.Author.Rules.{rules}
 use Rattle.distances.proofs.below.Goals as goal
 
 pub returns-then-d2-reach : goal.returns-then-d2-reach

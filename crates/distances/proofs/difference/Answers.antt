@@ -1,4 +1,3 @@
-use borrow.Author.Rules.{rules}
 use Rattle.distances.proofs.difference.Goals as goal
 
 pub returns-then-repeats : goal.returns-then-repeats

@@ -1,7 +1,6 @@
 use native.Mathlib.Omega.{arith}
 use Rattle.distances.specs.Near.{distance2, distance}
 use Rattle.distances.proofs.Numbers.{rests_of}
-use borrow.Author.Rules.{rules}
 use Rattle.distances.proofs.distance_of.Goals as goal
 
 pub index_of-requires : goal.index_of-requires

@@ -1,5 +1,4 @@
 use Rattle.distances.proofs.Numbers.{never_early, never_only, if_so, if_not}
-use borrow.Author.Rules.{rules}
 use Rattle.distances.proofs.early_in.Goals as goal
 
 pub returns-then-repeats : goal.returns-then-repeats

@@ -1,4 +1,3 @@
-use borrow.Author.Rules.{rules}
 use Rattle.distances.proofs.everywhere.Goals as goal
 
 pub returns-then-periodic-2 : goal.returns-then-periodic-2

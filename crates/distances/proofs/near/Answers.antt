@@ -1,5 +1,4 @@
 use native.Mathlib.Omega.{arith}
-use borrow.Author.Rules.{rules}
 use Rattle.distances.specs.Near.{distance2, distance}
 use Rattle.distances.specs.ToldLaws.{near-told}
 use Rattle.distances.proofs.near.Goals as goal

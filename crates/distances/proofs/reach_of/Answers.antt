@@ -4,7 +4,6 @@ use lib.Ieee.{Float, binary64, mul}
 use Rattle.distances.specs.declared.Reach.{Reach}
 use Rattle.distances.specs.Reach.{early_in, sure_of}
 use Rattle.distances.proofs.Numbers.{early_moved, only_moved}
-use borrow.Author.Rules.{rules}
 use Rattle.distances.proofs.reach_of.Goals as goal
 
 pub returns : goal.returns

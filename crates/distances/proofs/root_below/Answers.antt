@@ -1,7 +1,6 @@
 use mathlib.Core.Path.{sym, ap, subst}
 use lib.Dec.{T}
 use lib.Ieee.{Float, lt}
-use borrow.Author.Rules.{rules}
 use Rattle.distances.proofs.Squares.{too_long}
 use Rattle.distances.proofs.root_below.Goals as goal
 

@@ -3,7 +3,6 @@ use Rattle.distances.proofs.Numbers.{first-far}
 use Rattle.distances.specs.Near.{squares}
 use lib.Dec.{T}
 use mathlib.Core.Path.{sym, subst}
-use borrow.Author.Rules.{rules}
 use Rattle.distances.proofs.short.Goals as goal
 
 pub returns-then-first-reach : goal.returns-then-first-reach

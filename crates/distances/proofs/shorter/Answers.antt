@@ -1,4 +1,3 @@
-use borrow.Author.Rules.{rules}
 use Rattle.distances.specs.Near.{squares}
 use Rattle.distances.proofs.Squares.{sum-plus}
 use Rattle.distances.proofs.shorter.Goals as goal

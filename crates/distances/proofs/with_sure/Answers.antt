@@ -6,7 +6,6 @@ use Rattle.common.specs.Root.{sqrt}
 use lib.Ieee.{Float, binary64, of_bits, lt, mul, div}
 use mathlib.Core.Path.{◌≡◌, refl, sym, ap, ◌∙◌, subst}
 use mathlib.Core.Bool.{true, false}
-use borrow.Author.Rules.{rules}
 use Rattle.distances.proofs.with_sure.Goals as goal
 
 with-sure : {x y : Float} (square early : Float) → x ≡ y → ◌≡◌ {A = Reach} (record { square = square; sure = x; early = early }) (record { square = square; sure = y; early = early })

@@ -1,7 +1,6 @@
 use Rattle.distances.proofs.Wraps.{fast_wrap}
 use lib.Ieee.Fits.{sub-fits}
 use lib.Ieee.{binary64, sub}
-use borrow.Author.Rules.{rules}
 use Rattle.distances.proofs.wrapped.Goals as goal
 
 pub returns-then-x-2 : goal.returns-then-x-2

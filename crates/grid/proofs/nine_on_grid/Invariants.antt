@@ -1,13 +1,9 @@
-use mathlib.Core.Path.{◌≡◌, sym, ◌∙◌}
+use mathlib.Core.Path.{◌≡◌}
 use mathlib.Core.Bool.{true}
 use Prim.Native.Nat.{ℕ, ◌≤◌, ◌<◌, ◌-◌}
-use native.Mathlib.Omega.{arith}
 use lib.ListN.{get_or}
 use lib.Ieee.{nan}
-use borrow.Author.Count.{below_none, below_more}
-use borrow.Author.Rules.{rules}
-use Rattle.lists.specs.Tests.{every, every-at, every_of, refuted, not-both}
-use Rattle.grid.specs.Grid.{on_grid, nine_on_grid}
+use Rattle.grid.specs.Grid.{on_grid}
 use Rattle.grid.proofs.nine_on_grid.Given as goal
 
 abbrev pub invariant-loop-k : goal.invariant-loop-k

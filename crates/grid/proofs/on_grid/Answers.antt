@@ -1,7 +1,6 @@
 use mathlib.Core.Path.{sym, ap, ◌∙◌, subst}
 use lib.Dec.{T}
 use lib.Ieee.{eq, binary64, mul, of_bits, neg}
-use borrow.Author.Rules.{rules}
 use Rattle.grid.specs.GridTestLaws.{top, not-below, not_above, between}
 use Rattle.grid.proofs.on_grid.Goals as goal
 

@@ -1,6 +1,5 @@
 use mathlib.Core.Path.{sym, ◌∙◌}
 use lib.ListN.{length}
-use borrow.Author.Rules.{rules}
 use Rattle.row_sums.specs.RowSums.{judged_block, judged_replace}
 use Rattle.row_sums.specs.Calls.{lengths_refuse, lengths_pass, lengths_known}
 use Rattle.row_sums.proofs.judge.Goals as goal

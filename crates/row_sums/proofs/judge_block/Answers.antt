@@ -3,7 +3,6 @@ use mathlib.Core.Bool.{true, false}
 use Prim.Native.Nat.{◌+◌, ◌*◌}
 use native.Mathlib.Omega.{arith}
 use borrow.Author.Tests.{le-leb, lt-leb}
-use borrow.Author.Rules.{rules}
 use Rattle.blocks.specs.Block.{block}
 use Rattle.lines.specs.Lines.{block_fits}
 use Rattle.grid.specs.Grid.{nine_on_grid}

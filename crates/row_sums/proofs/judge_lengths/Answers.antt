@@ -3,7 +3,6 @@ use mathlib.Core.Path.{sym, ◌∙◌}
 use Prim.Native.Nat.{◌≤◌}
 use native.Mathlib.Omega.{arith}
 use lib.Dec.{lit≤}
-use borrow.Author.Rules.{rules}
 use Rattle.tables.specs.Answers.{is_done}
 use Rattle.tables.specs.Full.{done_full, refused-with, wrong-with, right-with}
 use Rattle.row_sums.proofs.judge_lengths.Goals as goal

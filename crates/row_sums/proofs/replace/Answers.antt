@@ -1,5 +1,4 @@
 use native.Mathlib.Omega.{arith}
-use borrow.Author.Rules.{rules}
 use Rattle.row_sums.specs.Calls.{full_is, block_in, sums_in, replaced-by}
 use Rattle.row_sums.proofs.replace.Goals as goal
 

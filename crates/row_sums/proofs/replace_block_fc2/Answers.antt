@@ -1,7 +1,6 @@
 use mathlib.Core.Path.{sym, ap, ◌∙◌}
 use mathlib.Core.List.{List}
 use lib.Ieee.{Float}
-use borrow.Author.Rules.{rules}
 use Rattle.tables.specs.declared.Answer.TheVariants.{Done}
 use Rattle.row_sums.specs.Calls.{replace_refused, replace_done, ready_of}
 use Rattle.row_sums.proofs.replace_block_fc2.Goals as goal

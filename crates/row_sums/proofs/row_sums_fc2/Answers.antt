@@ -1,6 +1,5 @@
 use mathlib.Core.Path.{sym, ap, ◌∙◌}
 use lib.ListN.{length}
-use borrow.Author.Rules.{rules}
 use Rattle.row_sums.specs.Calls.{lengths_known, sums-refused, sums-done}
 use Rattle.row_sums.proofs.row_sums_fc2.Goals as goal
 

@@ -1,14 +1,8 @@
-use Prim.Native.Nat.{◌*◌, ◌-◌, ◌≤◌}
-use native.Mathlib.Omega.{arith}
-use mathlib.Core.Path.{◌≡◌, refl, ap, ◌∙◌}
+use Prim.Native.Nat.{◌-◌, ◌≤◌}
+use mathlib.Core.Path.{◌≡◌}
 use lib.ListN.{length}
-use borrow.Author.Rules.{rules}
-use Rattle.lists.specs.Tab.{times, times_none, times_more}
-use Rattle.blocks.specs.Block.{put_block}
-use Rattle.lines.specs.Sums3x3.{zeros}
-use Rattle.lines.specs.Lines.{line_sums, row-start, run_line}
-use Rattle.row_sums.specs.RowSums.{flat_sums}
-use Rattle.row_sums.specs.RowLaws.{row_at, rows_make}
+use Rattle.lists.specs.Tab.{times}
+use Rattle.row_sums.specs.RowLaws.{row_at}
 use Rattle.row_sums.proofs.sum_rows.Given as goal
 
 abbrev pub invariant-loop-i : goal.invariant-loop-i

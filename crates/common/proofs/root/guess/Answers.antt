@@ -1,5 +1,4 @@
 use native.Mathlib.Omega.{arith}
-use borrow.Author.Rules.{rules}
 use Rattle.common.specs.Laws.Fields.{no_nan_bits}
 use Rattle.common.specs.Laws.Wholes.{no_nan}
 use Rattle.common.proofs.root.guess.Goals as goal

@@ -1,4 +1,3 @@
-use Prim.Native.Nat.{◌^◌, ◌<◌}
 use native.Mathlib.Omega.{arith}
 use Rattle.common.specs.Laws.Squares.{square-bound, square_pos}
 use Rattle.common.proofs.root.lowered.Goals as goal

@@ -1,4 +1,3 @@
-use Prim.Native.Nat.{◌-◌, ◌*◌, ◌≤◌}
 use native.Mathlib.Omega.{arith}
 use Rattle.common.specs.Laws.Squares.{self_le_square}
 use Rattle.common.proofs.root.raised.Goals as goal

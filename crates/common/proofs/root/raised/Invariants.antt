@@ -1,6 +1,4 @@
 use Prim.Native.Nat.{◌-◌, ◌*◌, ◌≤◌}
-use native.Mathlib.Omega.{arith}
-use Rattle.common.specs.Laws.Squares.{self_le_square}
 use Rattle.common.proofs.root.raised.Given as goal
 
 abbrev pub invariant-loop-s : goal.invariant-loop-s
