@@ -15,7 +15,8 @@ place_atoms-requires c =
     let j = c.judge_distribute_fc2-a in
     let d = is_done j.result (sym c.is_refusal.ensures ∙ c.if-is_refusal.false) in
     let (R, l) = ready _ _ _ _ _ (sym j.ensures ∙ d) in
-    placing l R
+    let t = placing l R in
+    record { index_table = t.0; atom_list_len_bound = t.1 }
 
 pub distribute_atoms-requires : goal.distribute_atoms-requires
 distribute_atoms-requires c =
