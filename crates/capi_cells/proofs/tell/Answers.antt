@@ -1,4 +1,3 @@
-use borrow.Author.Rules.{rules}
 use Rattle.capi_cells.specs.Cells.{of_matched, of_not, of_none, of_refused}
 use Rattle.capi_cells.proofs.tell.Goals as goal
 

@@ -1,7 +1,5 @@
 use native.Mathlib.Omega.{arith}
-use lib.ListN.{length-set}
 use Rattle.capi_deviations.specs.Slots.{few, put-given, put_refused}
-use borrow.Author.Rules.{rules}
 use Rattle.capi_deviations.proofs.put.Goals as goal
 
 pub row_of-requires : goal.row_of-requires

@@ -1,4 +1,3 @@
-use borrow.Author.Rules.{rules}
 use Rattle.capi_reports.specs.Told.{put-alike, put_unlike, put_refused}
 use Rattle.capi_reports.proofs.auditing.told.Goals as goal
 

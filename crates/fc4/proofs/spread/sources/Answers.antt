@@ -1,9 +1,6 @@
-use Prim.Native.Nat.{◌≤◌, ◌-◌}
 use native.Mathlib.Omega.{arith}
 use mathlib.Core.Path.{◌≡◌, ◌∙◌}
-use lib.ListN.{replicate}
-use borrow.Author.Rules.{rules}
-use Rattle.lists.specs.Tab.{times, times_none, times_more}
+use Rattle.lists.specs.Tab.{times_none, times_more}
 use Rattle.positions.specs.Inverses.{inverse-at, inverse-below}
 use Rattle.fc4.specs.Spread.{later_if_shared, sources_of, not-shared, is_shared}
 use Rattle.fc4.proofs.spread.sources.Goals.{then-bs-s, else-bs-s}
@@ -22,7 +19,7 @@ loop-s-preserved c =
     let l = c.loop-s in
     let e : c.if-bs-s.m ≡ later_if_shared c.args.bs.now c.args.b l.s l.m =
     elim c.if-bs-s.branch [
-      then-bs-s w ↦ w.m-is ∙ is_shared c.args.bs.now c.args.b l.s l.m w.if-bs-s.true w.later-n.ensures (inverse-at c.requires.0 l.s)
+      | then-bs-s w ↦ w.m-is ∙ is_shared c.args.bs.now c.args.b l.s l.m w.if-bs-s.true w.later-n.ensures (inverse-at c.requires.0 l.s)
       | else-bs-s w ↦ w.m-is ∙ not-shared c.args.bs.now c.args.b l.s l.m w.if-bs-s.false
     ] in
     (omega arith, times_more l.s _ _ l.invariant.1 e)
