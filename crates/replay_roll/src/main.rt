@@ -9,6 +9,9 @@ mod rolls;
 
 use replays::Tally;
 use replays::steps::first;
+use std::alloc::Global;
+use std::io;
+use std::io::Read;
 
 // What the records of a page are.
 const ROLLS: u64 = 1;
@@ -39,25 +42,30 @@ fn replay(part: u64, s: &[u8], so_far: Tally) -> Tally {
     t
 }
 
-fn read_page(part: u64, so_far: Tally) -> Tally {
-    let mut page = io::large_buffer();
-    let n = io::read_full(0, &mut page);
-    replay(part, &page[..n], so_far)
+fn read_page<R: Read>(part: u64, so_far: Tally, alloc: Global, input: &mut R) -> io::Result<Tally> {
+    let page = replays::pages::read_page(alloc, input)?;
+    Ok(replay(part, &page, so_far))
 }
 
 // The records of the next n pages.
-fn pages(part: u64, n: usize) -> Tally {
+fn pages<R: Read>(part: u64, n: usize, alloc: Global, input: &mut R) -> io::Result<Tally> {
     let mut t = replays::none();
     let mut i = 0;
     while i < n {
-        let more = read_page(part, t);
+        let more = read_page(part, t, alloc, input)?;
         t = more;
         i += 1;
     }
-    t
+    Ok(t)
 }
 
-fn main() {
-    rolls::report(pages(ROLLS, 6));
-    replays::report(b"sets retired everywhere", pages(RETIRED, 3));
+fn main(rt: HostRuntime) -> io::Result<()> {
+    let mut input = rt.reader();
+    let mut out = io::writer(&rt);
+    rolls::report(&mut out, pages(ROLLS, 6, rt.alloc(), &mut input)?)?;
+    replays::report(
+        &mut out,
+        b"sets retired everywhere",
+        pages(RETIRED, 3, rt.alloc(), &mut input)?,
+    )
 }
