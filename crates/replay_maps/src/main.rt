@@ -77,11 +77,8 @@ fn pages<R: Read>(
     input: &mut R,
 ) -> io::Result<Tally> {
     let mut t = replays::none();
-    let mut i = 0;
-    while i < n {
-        let more = read_page(part, t, set, other, alloc, input)?;
-        t = more;
-        i += 1;
+    for _ in 0..n {
+        t = read_page(part, t, set, other, alloc, input)?;
     }
     Ok(t)
 }

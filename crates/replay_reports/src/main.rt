@@ -39,11 +39,8 @@ fn read_page<R: Read>(so_far: Tally, alloc: Global, input: &mut R) -> io::Result
 // The records of the next n pages.
 fn pages<R: Read>(n: usize, alloc: Global, input: &mut R) -> io::Result<Tally> {
     let mut t = replays::none();
-    let mut i = 0;
-    while i < n {
-        let more = read_page(t, alloc, input)?;
-        t = more;
-        i += 1;
+    for _ in 0..n {
+        t = read_page(t, alloc, input)?;
     }
     Ok(t)
 }

@@ -50,11 +50,8 @@ fn read_page<R: Read>(part: u64, so_far: Tally, alloc: Global, input: &mut R) ->
 // The records of the next n pages.
 fn pages<R: Read>(part: u64, n: usize, alloc: Global, input: &mut R) -> io::Result<Tally> {
     let mut t = replays::none();
-    let mut i = 0;
-    while i < n {
-        let more = read_page(part, t, alloc, input)?;
-        t = more;
-        i += 1;
+    for _ in 0..n {
+        t = read_page(part, t, alloc, input)?;
     }
     Ok(t)
 }
