@@ -11,7 +11,6 @@ mod shift_tables;
 
 use replays::Tally;
 use replays::steps::first;
-use std::alloc::Global;
 use std::io;
 use std::io::Read;
 
@@ -49,16 +48,17 @@ fn replay(part: u64, s: &[u8], so_far: Tally) -> Tally {
     t
 }
 
-fn read_page<R: Read>(part: u64, so_far: Tally, alloc: Global, input: &mut R) -> io::Result<Tally> {
-    let page = replays::pages::read_page(alloc, input)?;
-    Ok(replay(part, &page, so_far))
+fn read_page<R: Read>(part: u64, so_far: Tally, input: &mut R) -> io::Result<Tally> {
+    let mut page = replays::pages::empty_page();
+    let n = replays::pages::read_page(input, &mut page)?;
+    Ok(replay(part, &page[..n], so_far))
 }
 
 // The records of the next n pages.
-fn pages<R: Read>(part: u64, n: usize, alloc: Global, input: &mut R) -> io::Result<Tally> {
+fn pages<R: Read>(part: u64, n: usize, input: &mut R) -> io::Result<Tally> {
     let mut t = replays::none();
     for _ in 0..n {
-        t = read_page(part, t, alloc, input)?;
+        t = read_page(part, t, input)?;
     }
     Ok(t)
 }
@@ -66,12 +66,12 @@ fn pages<R: Read>(part: u64, n: usize, alloc: Global, input: &mut R) -> io::Resu
 fn main(rt: HostRuntime) -> io::Result<()> {
     let mut input = rt.reader();
     let mut out = io::writer(&rt);
-    rounding::run(&mut out, rt.alloc(), &mut input)?;
+    rounding::run(&mut out, &mut input)?;
     replays::report(
         &mut out,
         b"shift tables",
-        pages(SHIFT_TABLES, 3, rt.alloc(), &mut input)?,
+        pages(SHIFT_TABLES, 3, &mut input)?,
     )?;
-    cells::report(&mut out, pages(CELLS, 4, rt.alloc(), &mut input)?)?;
-    finding::report(&mut out, pages(FINDING, 4, rt.alloc(), &mut input)?)
+    cells::report(&mut out, pages(CELLS, 4, &mut input)?)?;
+    finding::report(&mut out, pages(FINDING, 4, &mut input)?)
 }

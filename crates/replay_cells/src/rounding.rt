@@ -5,7 +5,6 @@ ghost use Rattle.std.specs.Prelude.{◌+◌, ◌*◌, ◌-◌, ◌≤◌, length
 
 use capi_cells::{gf_nint, gf_round, gf_sqrt};
 use replays::steps::plus;
-use std::alloc::Global;
 use std::io;
 use std::io::{Read, Write};
 
@@ -116,7 +115,8 @@ fn report<W: Write>(out: &mut W, t: Tally) -> io::Result<()> {
     replays::line(out, b"checksum ", t.sum)
 }
 
-pub fn run<W: Write, R: Read>(out: &mut W, alloc: Global, input: &mut R) -> io::Result<()> {
-    let page = replays::pages::read_page(alloc, input)?;
-    report(out, replay(&page))
+pub fn run<W: Write, R: Read>(out: &mut W, input: &mut R) -> io::Result<()> {
+    let mut page = replays::pages::empty_page();
+    let n = replays::pages::read_page(input, &mut page)?;
+    report(out, replay(&page[..n]))
 }

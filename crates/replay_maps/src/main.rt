@@ -12,7 +12,6 @@ mod rotated;
 
 use replays::Tally;
 use replays::steps::first;
-use std::alloc::Global;
 use std::io;
 use std::io::Read;
 
@@ -60,11 +59,11 @@ fn read_page<R: Read>(
     so_far: Tally,
     set: &mut [f64],
     other: &mut [f64],
-    alloc: Global,
     input: &mut R,
 ) -> io::Result<Tally> {
-    let page = replays::pages::read_page(alloc, input)?;
-    Ok(replay(part, &page, so_far, set, other))
+    let mut page = replays::pages::empty_page();
+    let n = replays::pages::read_page(input, &mut page)?;
+    Ok(replay(part, &page[..n], so_far, set, other))
 }
 
 // The records of the next n pages.
@@ -73,12 +72,11 @@ fn pages<R: Read>(
     n: usize,
     set: &mut [f64],
     other: &mut [f64],
-    alloc: Global,
     input: &mut R,
 ) -> io::Result<Tally> {
     let mut t = replays::none();
     for _ in 0..n {
-        t = read_page(part, t, set, other, alloc, input)?;
+        t = read_page(part, t, set, other, input)?;
     }
     Ok(t)
 }
@@ -91,21 +89,21 @@ fn main(rt: HostRuntime) -> io::Result<()> {
     replays::report(
         &mut out,
         b"distributed, second order",
-        pages(SECOND, 2, &mut set, &mut other, rt.alloc(), &mut input)?,
+        pages(SECOND, 2, &mut set, &mut other, &mut input)?,
     )?;
     replays::report(
         &mut out,
         b"distributed",
-        pages(DISTRIBUTED, 1, &mut set, &mut other, rt.alloc(), &mut input)?,
+        pages(DISTRIBUTED, 1, &mut set, &mut other, &mut input)?,
     )?;
     replays::report(
         &mut out,
         b"rotated",
-        pages(ROTATED, 1, &mut set, &mut other, rt.alloc(), &mut input)?,
+        pages(ROTATED, 1, &mut set, &mut other, &mut input)?,
     )?;
     replays::report(
         &mut out,
         b"full sets",
-        pages(FULL_SETS, 4, &mut set, &mut other, rt.alloc(), &mut input)?,
+        pages(FULL_SETS, 4, &mut set, &mut other, &mut input)?,
     )
 }

@@ -11,7 +11,6 @@ mod reported;
 
 use replays::Tally;
 use replays::steps::first;
-use std::alloc::Global;
 use std::io;
 use std::io::Read;
 
@@ -31,16 +30,17 @@ fn replay(s: &[u8], so_far: Tally) -> Tally {
     t
 }
 
-fn read_page<R: Read>(so_far: Tally, alloc: Global, input: &mut R) -> io::Result<Tally> {
-    let page = replays::pages::read_page(alloc, input)?;
-    Ok(replay(&page, so_far))
+fn read_page<R: Read>(so_far: Tally, input: &mut R) -> io::Result<Tally> {
+    let mut page = replays::pages::empty_page();
+    let n = replays::pages::read_page(input, &mut page)?;
+    Ok(replay(&page[..n], so_far))
 }
 
 // The records of the next n pages.
-fn pages<R: Read>(n: usize, alloc: Global, input: &mut R) -> io::Result<Tally> {
+fn pages<R: Read>(n: usize, input: &mut R) -> io::Result<Tally> {
     let mut t = replays::none();
     for _ in 0..n {
-        t = read_page(t, alloc, input)?;
+        t = read_page(t, input)?;
     }
     Ok(t)
 }
@@ -48,6 +48,6 @@ fn pages<R: Read>(n: usize, alloc: Global, input: &mut R) -> io::Result<Tally> {
 fn main(rt: HostRuntime) -> io::Result<()> {
     let mut input = rt.reader();
     let mut out = io::writer(&rt);
-    reported::report_audits(&mut out, pages(3, rt.alloc(), &mut input)?)?;
-    reported::report(&mut out, pages(10, rt.alloc(), &mut input)?)
+    reported::report_audits(&mut out, pages(3, &mut input)?)?;
+    reported::report(&mut out, pages(10, &mut input)?)
 }

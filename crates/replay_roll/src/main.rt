@@ -9,7 +9,6 @@ mod rolls;
 
 use replays::Tally;
 use replays::steps::first;
-use std::alloc::Global;
 use std::io;
 use std::io::Read;
 
@@ -42,16 +41,17 @@ fn replay(part: u64, s: &[u8], so_far: Tally) -> Tally {
     t
 }
 
-fn read_page<R: Read>(part: u64, so_far: Tally, alloc: Global, input: &mut R) -> io::Result<Tally> {
-    let page = replays::pages::read_page(alloc, input)?;
-    Ok(replay(part, &page, so_far))
+fn read_page<R: Read>(part: u64, so_far: Tally, input: &mut R) -> io::Result<Tally> {
+    let mut page = replays::pages::empty_page();
+    let n = replays::pages::read_page(input, &mut page)?;
+    Ok(replay(part, &page[..n], so_far))
 }
 
 // The records of the next n pages.
-fn pages<R: Read>(part: u64, n: usize, alloc: Global, input: &mut R) -> io::Result<Tally> {
+fn pages<R: Read>(part: u64, n: usize, input: &mut R) -> io::Result<Tally> {
     let mut t = replays::none();
     for _ in 0..n {
-        t = read_page(part, t, alloc, input)?;
+        t = read_page(part, t, input)?;
     }
     Ok(t)
 }
@@ -59,10 +59,10 @@ fn pages<R: Read>(part: u64, n: usize, alloc: Global, input: &mut R) -> io::Resu
 fn main(rt: HostRuntime) -> io::Result<()> {
     let mut input = rt.reader();
     let mut out = io::writer(&rt);
-    rolls::report(&mut out, pages(ROLLS, 6, rt.alloc(), &mut input)?)?;
+    rolls::report(&mut out, pages(ROLLS, 6, &mut input)?)?;
     replays::report(
         &mut out,
         b"sets retired everywhere",
-        pages(RETIRED, 3, rt.alloc(), &mut input)?,
+        pages(RETIRED, 3, &mut input)?,
     )
 }

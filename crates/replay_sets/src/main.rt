@@ -13,7 +13,6 @@ mod transposes;
 use replays::Tally;
 use replays::sets::{outcome, prepare};
 use replays::steps::{first, size};
-use std::alloc::Global;
 use std::io;
 use std::io::Read;
 
@@ -76,11 +75,11 @@ fn read_page<R: Read>(
     so_far: Tally,
     set: &mut [f64],
     work: &mut [u8],
-    alloc: Global,
     input: &mut R,
 ) -> io::Result<Tally> {
-    let page = replays::pages::read_page(alloc, input)?;
-    Ok(replay(part, &page, so_far, set, work))
+    let mut page = replays::pages::empty_page();
+    let n = replays::pages::read_page(input, &mut page)?;
+    Ok(replay(part, &page[..n], so_far, set, work))
 }
 
 // The records of the next n pages.
@@ -89,12 +88,11 @@ fn pages<R: Read>(
     n: usize,
     set: &mut [f64],
     work: &mut [u8],
-    alloc: Global,
     input: &mut R,
 ) -> io::Result<Tally> {
     let mut t = replays::none();
     for _ in 0..n {
-        t = read_page(part, t, set, work, alloc, input)?;
+        t = read_page(part, t, set, work, input)?;
     }
     Ok(t)
 }
@@ -107,21 +105,21 @@ fn main(rt: HostRuntime) -> io::Result<()> {
     replays::report(
         &mut out,
         b"second order",
-        pages(SECOND, 3, &mut set, &mut work, rt.alloc(), &mut input)?,
+        pages(SECOND, 3, &mut set, &mut work, &mut input)?,
     )?;
     replays::report(
         &mut out,
         b"third order",
-        pages(THIRD, 3, &mut set, &mut work, rt.alloc(), &mut input)?,
+        pages(THIRD, 3, &mut set, &mut work, &mut input)?,
     )?;
     replays::report(
         &mut out,
         b"fourth order",
-        pages(FOURTH, 2, &mut set, &mut work, rt.alloc(), &mut input)?,
+        pages(FOURTH, 2, &mut set, &mut work, &mut input)?,
     )?;
     replays::report(
         &mut out,
         b"true transposes",
-        pages(TRANSPOSES, 3, &mut set, &mut work, rt.alloc(), &mut input)?,
+        pages(TRANSPOSES, 3, &mut set, &mut work, &mut input)?,
     )
 }

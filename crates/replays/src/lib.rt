@@ -1,7 +1,9 @@
 // What the replay programs count and write: a tally of the records that were compared, and the lines of the report.
 #![tactic(auto)]
 
-ghost use Rattle.std.specs.Prelude.{◌≡◌};
+ghost use Rattle.std.specs.Prelude.{◌≡◌, OnOk, slice_index};
+ghost use Rattle.std.specs.Io.KnownBytes.{Appends};
+ghost use Rattle.replays.specs.Report.{line_text, first_line_text, report_text};
 ghost use Rattle.replays.specs.Tally.{no_record, counted_at, tally, differences, mixed_numbers, compare};
 
 use crate::steps::{plus, some};
@@ -107,19 +109,25 @@ pub fn compared(t: Tally, r: &[u8], answer: u64, got: &[u64]) -> Tally
 }
 
 // A line of the report.
-pub fn line<W: Write>(out: &mut W, name: &[u8], n: u64) -> io::Result<()> {
+pub fn line<W: Write>(out: &mut W, name: &[u8], n: u64) -> io::Result<()>
+    ensures { OnOk result (Appends (W.contents out.old) (W.contents out.new) (line_text name.now n)) }
+{
     out.write_all(name)?;
     writeln!(out, "{n}")
 }
 
 // The first line of a report.
-pub fn first_line<W: Write>(out: &mut W, title: &[u8], seen: u64, differ: u64) -> io::Result<()> {
+pub fn first_line<W: Write>(out: &mut W, title: &[u8], seen: u64, differ: u64) -> io::Result<()>
+    ensures { OnOk result (Appends (W.contents out.old) (W.contents out.new) (first_line_text title.now seen differ)) }
+{
     out.write_all(title)?;
     writeln!(out, ": {seen} compared, {differ} differ")
 }
 
 // The report, with the same lines for every call; `well` calls ended well.
-pub fn report_with<W: Write>(out: &mut W, title: &[u8], t: Tally, well: u64) -> io::Result<()> {
+pub fn report_with<W: Write>(out: &mut W, title: &[u8], t: Tally, well: u64) -> io::Result<()>
+    ensures { OnOk result (Appends (W.contents out.old) (W.contents out.new) (report_text title.now t well)) }
+{
     let a = t.answers;
     first_line(out, title, t.seen, t.differ)?;
     line(out, b"ended well: ", well)?;
@@ -133,7 +141,9 @@ pub fn report_with<W: Write>(out: &mut W, title: &[u8], t: Tally, well: u64) -> 
 }
 
 // The report where 0 alone is the number of a call that ended well.
-pub fn report<W: Write>(out: &mut W, title: &[u8], t: Tally) -> io::Result<()> {
+pub fn report<W: Write>(out: &mut W, title: &[u8], t: Tally) -> io::Result<()>
+    ensures { OnOk result (Appends (W.contents out.old) (W.contents out.new) (report_text title.now t (slice_index t.answers 0))) }
+{
     let a = t.answers;
     let well = a[0];
     report_with(out, title, t, well)
