@@ -1,4 +1,4 @@
-use Rattle.std.proofs.Common.{ap, ◌∙◌, w64, to_z, rules}
+use Rattle.std.proofs.Common.{ap, ◌∙◌, w64, to_z}
 use mir.ValLaws.{to_z-of_z}
 use Rattle.replays.specs.Words.{word_of}
 use Rattle.replays.proofs.values.entry.Goals as goal

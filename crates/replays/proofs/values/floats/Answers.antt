@@ -1,8 +1,8 @@
-use Rattle.std.proofs.Common.{◌+◌, ◌-◌, ◌%◌, ◌^◌, length, ap, ◌∙◌, arith, rules}
+use Rattle.std.proofs.Common.{ap, ◌∙◌, arith}
 use lib.Ieee.{nan, binary64, of_bits}
 use Rattle.replays.specs.Words.{word_of}
 use Rattle.replays.specs.Values.{float_at}
-use Rattle.replays.specs.FilledLaws.{Filled, filled_none, filled_more, filled-all}
+use Rattle.replays.specs.FilledLaws.{filled_none, filled_more, filled-all}
 use Rattle.replays.proofs.values.floats.Goals as goal
 
 pub loop-i-init : goal.loop-i-init

@@ -1,4 +1,4 @@
-use Rattle.std.proofs.Common.{◌≡◌, ℕ, ◌-◌, ◌≤◌, length, get_or, pos, ap, ◌∙◌, arith, w64, of_z, rules}
+use Rattle.std.proofs.Common.{◌≡◌, ℕ, length, get_or, pos, ap, ◌∙◌, arith, w64, of_z, rules}
 use mir.ValLaws.{to_z-of_z}
 use Rattle.lists.specs.Tab.{times, times_none, times_more}
 use Rattle.replays.specs.Words.{mixed}
