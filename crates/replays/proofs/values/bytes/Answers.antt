@@ -12,7 +12,7 @@ pub loop-i-preserved : goal.loop-i-preserved
 loop-i-preserved c =
     let l = c.loop-i in
     let a = c.args in
-    filled_more 0 _ _ l.i l.out _ (omega arith) (c.byte_of-x.ensures ∙ ap (byte_of a.r.now) c.wrapping_add_usize.ensures) l.invariant
+    filled_more 0 _ _ l.i l.out _ (omega arith) (c.byte_of-x.ensures ∙ ap (byte_of a.r.now) c.wrapping_add_usize.ensures.value) l.invariant
 
 pub returns : goal.returns
 returns c =

@@ -16,7 +16,7 @@ loop-i-preserved c =
     let a = c.args in
     filled_more nan _ _ l.i l.out _ (omega arith)
     (c.float-x.ensures
-    ∙ ap (of_bits binary64) (c.word_of.ensures ∙ ap (word_of a.r.now) c.wrapping_add_usize.ensures))
+    ∙ ap (of_bits binary64) (c.word_of.ensures ∙ ap (word_of a.r.now) c.wrapping_add_usize.ensures.value))
     l.invariant
 
 pub returns : goal.returns
