@@ -9,7 +9,7 @@ MAJOR := $(firstword $(subst ., ,$(VERSION)))
 shared = target/lib/libgullyfork.so.$(MAJOR)
 static = target/staticlib/libcapi.a
 headers := $(wildcard include/*.h)
-sources := crates.txt $(headers) bindings/library $(wildcard bindings/c/*) $(shell find crates -type d -name must-fail -prune -o -type f -print)
+sources := crates.txt $(headers) bindings/library $(wildcard bindings/c/*) $(shell find crates -type d \( -name must-fail -o -name out \) -prune -o -type f -print)
 edited = $(sort $(patsubst crates/%/must-fail/,%,$(wildcard crates/*/must-fail/)) $(patsubst edits/%/,%,$(wildcard edits/*/)))
 # what a desk runs; the library is linked into them, so that they need neither it nor the kit nor a compiler
 programs = target/bin/roll target/bin/verify
@@ -41,7 +41,7 @@ gate: ## runs the gate, which proves everything from nothing and tries every wro
 
 fmt: ## formats the crates and, if there is a cargo, the Rust binding
 	bindings/kit
-	rt fmt
+	for crate in crates/*/; do (cd "$$crate" && rt fmt) || exit 1; done
 	if command -v cargo >/dev/null; then cd bindings/rust && cargo fmt; fi
 
 edits: ## tries every wrong edit beside the gate too, which takes hours; CRATE=NAME tries those of one crate
