@@ -36,7 +36,7 @@ check: $(shared) ## runs the tests beside the gate: C, installation, deliveries,
 	bindings/python/test
 	tests/documents/run
 
-gate: ## runs the gate, which proves everything from nothing and tries every wrong edit, and writes target/gate.log
+gate: ## runs the gate, which wants every crate proved and every wrong edit of crates/ refused, and writes target/gate.log
 	tests/gate
 
 fmt: ## formats the crates and, if there is a cargo, the Rust binding
@@ -74,7 +74,7 @@ uninstall: ## takes away what install put there
 wheel: $(shared) ## writes the Python package, target/wheel/gullyfork-*.whl
 	bindings/python/build
 
-clean: ## removes target/, everything that was proved and built
-	rm -rf target
+clean: ## removes target/ and the crates' out/, everything that was proved and built here
+	rm -rf target crates/*/out
 
 .PHONY: all help check gate fmt edits docs dist install uninstall wheel clean
