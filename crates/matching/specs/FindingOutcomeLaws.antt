@@ -1,5 +1,5 @@
 -- What greedy leaves is where the search starts, and the ways in which the call ends. Assumes nothing.
-use Rattle.std.specs.Prelude.{◌≡◌, Bool, true, false, cond, ℕ, ◌≤◌, ◌<◌, ltb, ℤ, negsuc, length, replicate, Float}
+use Rattle.std.specs.Prelude.{◌≡◌, Bool, true, false, ℕ, ◌≤◌, ◌<◌, ltb, ℤ, negsuc, length, replicate, Float}
 use Rattle.std.proofs.Math.Path.{refl, ap}
 use Rattle.std.proofs.Common.{sym, ◌∙◌, subst, true≢false, eq-eqb, ne_eqb}
 use Rattle.std.proofs.lemmas.Bool.{false≢true}
@@ -15,9 +15,7 @@ use Rattle.tables.specs.Conditions.{any_wrong, not-wrong}
 use Rattle.distances.specs.declared.Cell.{Cell}
 use Rattle.distances.specs.declared.Distance.{Distance}
 use Rattle.distances.specs.Near.{near, near_by}
-use Rattle.matching.specs.declared.cells.Pair.{Pair}
 use Rattle.matching.specs.declared.cells.Matching.{Matching}
-use Rattle.matching.specs.declared.cells.Matching.TheVariants.{Matched, NotMatched, NoNumber, Refused as RefusedMatch}
 use Rattle.matching.specs.Matching.{is_matched, matched_up_to, all_filled, first_none, judged_matching, searched}
 use Rattle.matching.specs.CellsOutcomeLaws as cells
 use Rattle.matching.specs.Slots.{Triples}

@@ -1,5 +1,5 @@
 -- What the functions that fill the slots note of distances that are no number, as their loops run, and that it is the first pair. Assumes nothing.
-use Rattle.std.specs.Prelude.{◌≡◌, refl, Bool, true, false, not, ◌&&◌, ◌⊎◌, List, ℤ, pos, negsuc, length, replicate}
+use Rattle.std.specs.Prelude.{◌≡◌, refl, Bool, true, false, not, ◌&&◌, List, ℤ, pos, negsuc, length, replicate}
 use Rattle.std.proofs.Math.Path.{sym, ap}
 use Rattle.std.proofs.Common.{ap₂, ◌∙◌, subst, not-suc-le-zero, arith}
 use Rattle.std.proofs.Math.Bool.{cond}

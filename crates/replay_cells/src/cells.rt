@@ -5,6 +5,8 @@ use replays::Tally;
 use replays::records::{wide, word_of};
 use replays::steps::{after, count_of, ends, size};
 use replays::values::{floats, mix_integers, mix_slots};
+use std::io;
+use std::io::Write;
 
 // The number of the call's answer. The flags of the axes are the first bytes of word 11.
 fn answer(
@@ -74,9 +76,9 @@ pub fn step(t: Tally, r: &[u8]) -> Tally {
 }
 
 // True is 0, false 64, or 69 where it names a pair.
-pub fn report(t: Tally) {
+pub fn report<W: Write>(out: &mut W, t: Tally) -> io::Result<()> {
     let a = t.answers;
-    replays::report(b"matching", t);
-    replays::line(b"false: ", a[64]);
-    replays::line(b"false, with a pair: ", a[69]);
+    replays::report(out, b"matching", t)?;
+    replays::line(out, b"false: ", a[64])?;
+    replays::line(out, b"false, with a pair: ", a[69])
 }

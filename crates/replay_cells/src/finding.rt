@@ -5,6 +5,8 @@ use replays::Tally;
 use replays::records::{differs, integer_word, wide, word_of};
 use replays::steps::{after, count_of, ends, is, plus, size, some};
 use replays::values::{floats, mix_bytes, mix_integers};
+use std::io;
+use std::io::Write;
 
 // No answer's number: matches that greedy has none for are counted under it.
 const BY_CHAINS: u64 = 127;
@@ -205,9 +207,9 @@ pub fn step(t: Tally, r: &[u8]) -> Tally {
 }
 
 // A call that finds no match is 72.
-pub fn report(t: Tally) {
+pub fn report<W: Write>(out: &mut W, t: Tally) -> io::Result<()> {
     let a = t.answers;
-    replays::report_with(b"finding", t, plus(a[0], a[127]));
-    replays::line(b"by chains: ", a[127]);
-    replays::line(b"no match: ", a[72]);
+    replays::report_with(out, b"finding", t, plus(a[0], a[127]))?;
+    replays::line(out, b"by chains: ", a[127])?;
+    replays::line(out, b"no match: ", a[72])
 }

@@ -5,6 +5,8 @@ ghost use Rattle.std.specs.Prelude.{◌+◌, ◌*◌, ◌-◌, ◌≤◌, length
 
 use capi_cells::{gf_nint, gf_round, gf_sqrt};
 use replays::steps::plus;
+use std::io;
+use std::io::{Read, Write};
 
 // What was compared so far: records, those whose rounding or root is NaN, differences, checksum.
 #[derive(Clone, Copy)]
@@ -92,27 +94,29 @@ fn replay(s: &[u8]) -> Tally {
 }
 
 // A line of the report.
-fn line(name: &[u8], seen: u64, nan: u64, differences: u64) {
-    io::write_all(1, name);
-    io::print_decimal(1, seen);
-    io::write_all(1, b" compared, ");
-    io::print_decimal(1, nan);
-    io::write_all(1, b" of them NaN, ");
-    io::print_decimal(1, differences);
-    io::write_all(1, b" differ\n");
+fn line<W: Write>(
+    out: &mut W,
+    name: &[u8],
+    seen: u64,
+    nan: u64,
+    differences: u64,
+) -> io::Result<()> {
+    out.write_all(name)?;
+    writeln!(
+        out,
+        "{seen} compared, {nan} of them NaN, {differences} differ"
+    )
 }
 
-fn report(t: Tally) {
-    line(b"nint: ", t.seen, 0, t.nint);
-    line(b"round: ", t.seen, t.round_nan, t.round);
-    line(b"sqrt: ", t.seen, t.sqrt_nan, t.sqrt);
-    io::write_all(1, b"checksum ");
-    io::print_decimal(1, t.sum);
-    io::write_all(1, b"\n");
+fn report<W: Write>(out: &mut W, t: Tally) -> io::Result<()> {
+    line(out, b"nint: ", t.seen, 0, t.nint)?;
+    line(out, b"round: ", t.seen, t.round_nan, t.round)?;
+    line(out, b"sqrt: ", t.seen, t.sqrt_nan, t.sqrt)?;
+    replays::line(out, b"checksum ", t.sum)
 }
 
-pub fn run() {
-    let mut page = io::large_buffer();
-    let n = io::read_full(0, &mut page);
-    report(replay(&page[..n]));
+pub fn run<W: Write, R: Read>(out: &mut W, input: &mut R) -> io::Result<()> {
+    let mut page = replays::pages::empty_page();
+    let n = replays::pages::read_page(input, &mut page)?;
+    report(out, replay(&page[..n]))
 }

@@ -12,6 +12,8 @@ mod rotated;
 
 use replays::Tally;
 use replays::steps::first;
+use std::io;
+use std::io::Read;
 
 // What the records of a page are.
 const SECOND: u64 = 1;
@@ -52,32 +54,56 @@ fn replay(part: u64, s: &[u8], so_far: Tally, set: &mut [f64], other: &mut [f64]
     t
 }
 
-fn read_page(part: u64, so_far: Tally, set: &mut [f64], other: &mut [f64]) -> Tally {
-    let mut page = io::large_buffer();
-    let n = io::read_full(0, &mut page);
-    replay(part, &page[..n], so_far, set, other)
+fn read_page<R: Read>(
+    part: u64,
+    so_far: Tally,
+    set: &mut [f64],
+    other: &mut [f64],
+    input: &mut R,
+) -> io::Result<Tally> {
+    let mut page = replays::pages::empty_page();
+    let n = replays::pages::read_page(input, &mut page)?;
+    Ok(replay(part, &page[..n], so_far, set, other))
 }
 
 // The records of the next n pages.
-fn pages(part: u64, n: usize, set: &mut [f64], other: &mut [f64]) -> Tally {
+fn pages<R: Read>(
+    part: u64,
+    n: usize,
+    set: &mut [f64],
+    other: &mut [f64],
+    input: &mut R,
+) -> io::Result<Tally> {
     let mut t = replays::none();
-    let mut i = 0;
-    while i < n {
-        let more = read_page(part, t, set, other);
-        t = more;
-        i += 1;
+    for _ in 0..n {
+        t = read_page(part, t, set, other, input)?;
     }
-    t
+    Ok(t)
 }
 
-fn main() {
+fn main(rt: HostRuntime) -> io::Result<()> {
+    let mut input = rt.reader();
+    let mut out = io::writer(&rt);
     let mut set = [0.0f64; 32768];
     let mut other = [0.0f64; 10400];
     replays::report(
+        &mut out,
         b"distributed, second order",
-        pages(SECOND, 2, &mut set, &mut other),
-    );
-    replays::report(b"distributed", pages(DISTRIBUTED, 1, &mut set, &mut other));
-    replays::report(b"rotated", pages(ROTATED, 1, &mut set, &mut other));
-    replays::report(b"full sets", pages(FULL_SETS, 4, &mut set, &mut other));
+        pages(SECOND, 2, &mut set, &mut other, &mut input)?,
+    )?;
+    replays::report(
+        &mut out,
+        b"distributed",
+        pages(DISTRIBUTED, 1, &mut set, &mut other, &mut input)?,
+    )?;
+    replays::report(
+        &mut out,
+        b"rotated",
+        pages(ROTATED, 1, &mut set, &mut other, &mut input)?,
+    )?;
+    replays::report(
+        &mut out,
+        b"full sets",
+        pages(FULL_SETS, 4, &mut set, &mut other, &mut input)?,
+    )
 }

@@ -11,6 +11,8 @@ mod reported;
 
 use replays::Tally;
 use replays::steps::first;
+use std::io;
+use std::io::Read;
 
 // The records of a page, after those of the pages before.
 fn replay(s: &[u8], so_far: Tally) -> Tally {
@@ -28,25 +30,24 @@ fn replay(s: &[u8], so_far: Tally) -> Tally {
     t
 }
 
-fn read_page(so_far: Tally) -> Tally {
-    let mut page = io::large_buffer();
-    let n = io::read_full(0, &mut page);
-    replay(&page[..n], so_far)
+fn read_page<R: Read>(so_far: Tally, input: &mut R) -> io::Result<Tally> {
+    let mut page = replays::pages::empty_page();
+    let n = replays::pages::read_page(input, &mut page)?;
+    Ok(replay(&page[..n], so_far))
 }
 
 // The records of the next n pages.
-fn pages(n: usize) -> Tally {
+fn pages<R: Read>(n: usize, input: &mut R) -> io::Result<Tally> {
     let mut t = replays::none();
-    let mut i = 0;
-    while i < n {
-        let more = read_page(t);
-        t = more;
-        i += 1;
+    for _ in 0..n {
+        t = read_page(t, input)?;
     }
-    t
+    Ok(t)
 }
 
-fn main() {
-    reported::report_audits(pages(3));
-    reported::report(pages(10));
+fn main(rt: HostRuntime) -> io::Result<()> {
+    let mut input = rt.reader();
+    let mut out = io::writer(&rt);
+    reported::report_audits(&mut out, pages(3, &mut input)?)?;
+    reported::report(&mut out, pages(10, &mut input)?)
 }

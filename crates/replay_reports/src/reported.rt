@@ -3,6 +3,8 @@ use replays::Tally;
 use replays::records::word_of;
 use replays::steps::{after, count_of, size, tables_end};
 use replays::values::{fill, floats, integers, mix_floats, mix_slots};
+use std::io;
+use std::io::Write;
 
 // One number of a set put in its place; a place past the end is left out.
 fn put(r: &[u8], k: usize, set: &mut [f64]) {
@@ -99,18 +101,18 @@ pub fn step(t: Tally, r: &[u8]) -> Tally {
 }
 
 // A set that is alike is 73, one that is not 74.
-pub fn report_audits(t: Tally) {
+pub fn report_audits<W: Write>(out: &mut W, t: Tally) -> io::Result<()> {
     let a = t.answers;
-    replays::report(b"audits", t);
-    replays::line(b"alike: ", a[73]);
-    replays::line(b"unlike: ", a[74]);
+    replays::report(out, b"audits", t)?;
+    replays::line(out, b"alike: ", a[73])?;
+    replays::line(out, b"unlike: ", a[74])
 }
 
 // Still is 65, worst 66, no number 67.
-pub fn report(t: Tally) {
+pub fn report<W: Write>(out: &mut W, t: Tally) -> io::Result<()> {
     let a = t.answers;
-    replays::report(b"reports", t);
-    replays::line(b"still: ", a[65]);
-    replays::line(b"worst: ", a[66]);
-    replays::line(b"no number: ", a[67]);
+    replays::report(out, b"reports", t)?;
+    replays::line(out, b"still: ", a[65])?;
+    replays::line(out, b"worst: ", a[66])?;
+    replays::line(out, b"no number: ", a[67])
 }

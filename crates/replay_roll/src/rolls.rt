@@ -6,6 +6,8 @@ use replays::Tally;
 use replays::records::wide;
 use replays::steps::{after, count_of, plus, size};
 use replays::values::{bytes, fill_bytes, mix_bytes, mix_slots};
+use std::io;
+use std::io::Write;
 
 // A recorded set number.
 fn set_number(w: u64) -> u32 {
@@ -118,16 +120,16 @@ pub fn step(t: Tally, r: &[u8]) -> Tally {
 }
 
 // The end of a roll is 68; of a set 70 is unknown and 71 retired.
-pub fn report(t: Tally) {
+pub fn report<W: Write>(out: &mut W, t: Tally) -> io::Result<()> {
     let a = t.answers;
-    replays::first_line(b"delivery rolls", t.seen, t.differ);
-    replays::line(b"ended well: ", a[0]);
-    replays::line(b"refused, 2: ", a[2]);
-    replays::line(b"refused, 7: ", a[7]);
-    replays::line(b"refused, 8: ", a[8]);
-    replays::line(b"refused, 9: ", a[9]);
-    replays::line(b"end: ", a[68]);
-    replays::line(b"unknown: ", a[70]);
-    replays::line(b"retired: ", a[71]);
-    replays::line(b"checksum ", t.sum);
+    replays::first_line(out, b"delivery rolls", t.seen, t.differ)?;
+    replays::line(out, b"ended well: ", a[0])?;
+    replays::line(out, b"refused, 2: ", a[2])?;
+    replays::line(out, b"refused, 7: ", a[7])?;
+    replays::line(out, b"refused, 8: ", a[8])?;
+    replays::line(out, b"refused, 9: ", a[9])?;
+    replays::line(out, b"end: ", a[68])?;
+    replays::line(out, b"unknown: ", a[70])?;
+    replays::line(out, b"retired: ", a[71])?;
+    replays::line(out, b"checksum ", t.sum)
 }

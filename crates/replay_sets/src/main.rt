@@ -13,6 +13,8 @@ mod transposes;
 use replays::Tally;
 use replays::sets::{outcome, prepare};
 use replays::steps::{first, size};
+use std::io;
+use std::io::Read;
 
 // What the records of a page are.
 const SECOND: u64 = 1;
@@ -68,32 +70,56 @@ fn replay(part: u64, s: &[u8], so_far: Tally, set: &mut [f64], work: &mut [u8]) 
     t
 }
 
-fn read_page(part: u64, so_far: Tally, set: &mut [f64], work: &mut [u8]) -> Tally {
-    let mut page = io::large_buffer();
-    let n = io::read_full(0, &mut page);
-    replay(part, &page[..n], so_far, set, work)
+fn read_page<R: Read>(
+    part: u64,
+    so_far: Tally,
+    set: &mut [f64],
+    work: &mut [u8],
+    input: &mut R,
+) -> io::Result<Tally> {
+    let mut page = replays::pages::empty_page();
+    let n = replays::pages::read_page(input, &mut page)?;
+    Ok(replay(part, &page[..n], so_far, set, work))
 }
 
 // The records of the next n pages.
-fn pages(part: u64, n: usize, set: &mut [f64], work: &mut [u8]) -> Tally {
+fn pages<R: Read>(
+    part: u64,
+    n: usize,
+    set: &mut [f64],
+    work: &mut [u8],
+    input: &mut R,
+) -> io::Result<Tally> {
     let mut t = replays::none();
-    let mut i = 0;
-    while i < n {
-        let more = read_page(part, t, set, work);
-        t = more;
-        i += 1;
+    for _ in 0..n {
+        t = read_page(part, t, set, work, input)?;
     }
-    t
+    Ok(t)
 }
 
-fn main() {
+fn main(rt: HostRuntime) -> io::Result<()> {
+    let mut input = rt.reader();
+    let mut out = io::writer(&rt);
     let mut set = [0.0f64; 83000];
     let mut work = [0u8; 2048];
-    replays::report(b"second order", pages(SECOND, 3, &mut set, &mut work));
-    replays::report(b"third order", pages(THIRD, 3, &mut set, &mut work));
-    replays::report(b"fourth order", pages(FOURTH, 2, &mut set, &mut work));
     replays::report(
+        &mut out,
+        b"second order",
+        pages(SECOND, 3, &mut set, &mut work, &mut input)?,
+    )?;
+    replays::report(
+        &mut out,
+        b"third order",
+        pages(THIRD, 3, &mut set, &mut work, &mut input)?,
+    )?;
+    replays::report(
+        &mut out,
+        b"fourth order",
+        pages(FOURTH, 2, &mut set, &mut work, &mut input)?,
+    )?;
+    replays::report(
+        &mut out,
         b"true transposes",
-        pages(TRANSPOSES, 3, &mut set, &mut work),
-    );
+        pages(TRANSPOSES, 3, &mut set, &mut work, &mut input)?,
+    )
 }

@@ -9,6 +9,8 @@ mod sums;
 
 use replays::Tally;
 use replays::steps::first;
+use std::io;
+use std::io::Read;
 
 // What the records of a page are.
 const SUMS: u64 = 1;
@@ -39,25 +41,28 @@ fn replay(part: u64, s: &[u8], so_far: Tally) -> Tally {
     t
 }
 
-fn read_page(part: u64, so_far: Tally) -> Tally {
-    let mut page = io::large_buffer();
-    let n = io::read_full(0, &mut page);
-    replay(part, &page[..n], so_far)
+fn read_page<R: Read>(part: u64, so_far: Tally, input: &mut R) -> io::Result<Tally> {
+    let mut page = replays::pages::empty_page();
+    let n = replays::pages::read_page(input, &mut page)?;
+    Ok(replay(part, &page[..n], so_far))
 }
 
 // The records of the next n pages.
-fn pages(part: u64, n: usize) -> Tally {
+fn pages<R: Read>(part: u64, n: usize, input: &mut R) -> io::Result<Tally> {
     let mut t = replays::none();
-    let mut i = 0;
-    while i < n {
-        let more = read_page(part, t);
-        t = more;
-        i += 1;
+    for _ in 0..n {
+        t = read_page(part, t, input)?;
     }
-    t
+    Ok(t)
 }
 
-fn main() {
-    sums::report(pages(SUMS, 3));
-    replays::report(b"third order without drift", pages(ACOUSTIC, 3));
+fn main(rt: HostRuntime) -> io::Result<()> {
+    let mut input = rt.reader();
+    let mut out = io::writer(&rt);
+    sums::report(&mut out, pages(SUMS, 3, &mut input)?)?;
+    replays::report(
+        &mut out,
+        b"third order without drift",
+        pages(ACOUSTIC, 3, &mut input)?,
+    )
 }

@@ -4,6 +4,8 @@ use replays::Tally;
 use replays::records::wide;
 use replays::steps::{after, count_of, size};
 use replays::values::{floats, mix_floats};
+use std::io;
+use std::io::Write;
 
 // The number of the call's answer.
 fn answer(r: &[u8], fc: &mut [f64], sums: &mut [f64], block: &[f64]) -> u64 {
@@ -48,8 +50,8 @@ pub fn step(t: Tally, r: &[u8]) -> Tally {
     fill_and_compare(t, r, &mut fc[0..a], &mut sums[0..b], &mut block[0..c])
 }
 
-pub fn report(t: Tally) {
+pub fn report<W: Write>(out: &mut W, t: Tally) -> io::Result<()> {
     let a = t.answers;
-    replays::report(b"row sums", t);
-    replays::line(b"refused, 10: ", a[10]);
+    replays::report(out, b"row sums", t)?;
+    replays::line(out, b"refused, 10: ", a[10])
 }

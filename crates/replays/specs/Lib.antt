@@ -2,3 +2,4 @@ pub mod Tally
 pub mod Words
 pub mod Values
 pub mod FilledLaws
+pub mod Report

@@ -1,11 +1,16 @@
 // What the replay programs count and write: a tally of the records that were compared, and the lines of the report.
 #![tactic(auto)]
 
-ghost use Rattle.std.specs.Prelude.{◌≡◌};
+ghost use Rattle.std.specs.Prelude.{◌≡◌, OnOk, slice_index};
+ghost use Rattle.std.specs.Io.KnownBytes.{Appends};
+ghost use Rattle.replays.specs.Report.{line_text, first_line_text, report_text};
 ghost use Rattle.replays.specs.Tally.{no_record, counted_at, tally, differences, mixed_numbers, compare};
 
 use crate::steps::{plus, some};
+use std::io;
+use std::io::Write;
 
+pub mod pages;
 pub mod records;
 pub mod sets;
 pub mod steps;
@@ -104,39 +109,42 @@ pub fn compared(t: Tally, r: &[u8], answer: u64, got: &[u64]) -> Tally
 }
 
 // A line of the report.
-pub fn line(name: &[u8], n: u64) {
-    io::write_all(1, name);
-    io::print_decimal(1, n);
-    io::write_all(1, b"\n");
+pub fn line<W: Write>(out: &mut W, name: &[u8], n: u64) -> io::Result<()>
+    ensures { OnOk result (Appends (W.contents out.old) (W.contents out.new) (line_text name.now n)) }
+{
+    out.write_all(name)?;
+    writeln!(out, "{n}")
 }
 
 // The first line of a report.
-pub fn first_line(title: &[u8], seen: u64, differ: u64) {
-    io::write_all(1, title);
-    io::write_all(1, b": ");
-    io::print_decimal(1, seen);
-    io::write_all(1, b" compared, ");
-    io::print_decimal(1, differ);
-    io::write_all(1, b" differ\n");
+pub fn first_line<W: Write>(out: &mut W, title: &[u8], seen: u64, differ: u64) -> io::Result<()>
+    ensures { OnOk result (Appends (W.contents out.old) (W.contents out.new) (first_line_text title.now seen differ)) }
+{
+    out.write_all(title)?;
+    writeln!(out, ": {seen} compared, {differ} differ")
 }
 
 // The report, with the same lines for every call; `well` calls ended well.
-pub fn report_with(title: &[u8], t: Tally, well: u64) {
+pub fn report_with<W: Write>(out: &mut W, title: &[u8], t: Tally, well: u64) -> io::Result<()>
+    ensures { OnOk result (Appends (W.contents out.old) (W.contents out.new) (report_text title.now t well)) }
+{
     let a = t.answers;
-    first_line(title, t.seen, t.differ);
-    line(b"ended well: ", well);
-    line(b"refused, 1: ", a[1]);
-    line(b"refused, 2: ", a[2]);
-    line(b"refused, 3: ", a[3]);
-    line(b"refused, 4: ", a[4]);
-    line(b"refused, 5: ", a[5]);
-    line(b"refused, 6: ", a[6]);
-    line(b"checksum ", t.sum);
+    first_line(out, title, t.seen, t.differ)?;
+    line(out, b"ended well: ", well)?;
+    line(out, b"refused, 1: ", a[1])?;
+    line(out, b"refused, 2: ", a[2])?;
+    line(out, b"refused, 3: ", a[3])?;
+    line(out, b"refused, 4: ", a[4])?;
+    line(out, b"refused, 5: ", a[5])?;
+    line(out, b"refused, 6: ", a[6])?;
+    line(out, b"checksum ", t.sum)
 }
 
 // The report where 0 alone is the number of a call that ended well.
-pub fn report(title: &[u8], t: Tally) {
+pub fn report<W: Write>(out: &mut W, title: &[u8], t: Tally) -> io::Result<()>
+    ensures { OnOk result (Appends (W.contents out.old) (W.contents out.new) (report_text title.now t (slice_index t.answers 0))) }
+{
     let a = t.answers;
     let well = a[0];
-    report_with(title, t, well);
+    report_with(out, title, t, well)
 }

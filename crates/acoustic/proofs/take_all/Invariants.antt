@@ -1,10 +1,7 @@
 use Prim.Native.Nat.{◌-◌}
-use native.Mathlib.Omega.{arith}
-use mathlib.Core.Path.{sym}
 use lib.ListN.{length, get_or}
-use lib.Ieee.{nan, sub, mul, binary64}
-use Rattle.acoustic.specs.Laws.{Mapping, mapping_none, mapping_more, mapping_all}
-use borrow.Author.Rules.{rules}
+use lib.Ieee.{nan, sub, binary64}
+use Rattle.acoustic.specs.Laws.{Mapping}
 use Rattle.acoustic.proofs.take_all.Given as goal
 
 abbrev pub invariant-loop-k : goal.invariant-loop-k

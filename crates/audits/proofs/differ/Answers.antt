@@ -1,7 +1,6 @@
 use mathlib.Core.Path.{ap₂}
 use mathlib.Core.Bool.{not}
 use lib.Dec.{eqb}
-use borrow.Author.Rules.{rules}
 use Rattle.audits.specs.Audit.{differ}
 use Rattle.audits.proofs.differ.Goals as goal
 

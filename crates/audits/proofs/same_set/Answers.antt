@@ -1,4 +1,3 @@
-use borrow.Author.Rules.{rules}
 use Rattle.audits.specs.Kernel.{set-refused, set_unlike, set-alike}
 use Rattle.audits.proofs.same_set.Goals as goal
 

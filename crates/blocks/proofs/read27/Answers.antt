@@ -1,7 +1,6 @@
 use mathlib.Core.Path.{◌∙◌}
 use native.Mathlib.Omega.{arith}
 use Rattle.blocks.specs.Block9.{joined-block}
-use borrow.Author.Rules.{rules}
 use Rattle.blocks.proofs.read27.Goals as goal
 
 pub read9-x-requires : goal.read9-x-requires

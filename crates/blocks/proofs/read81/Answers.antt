@@ -1,6 +1,5 @@
 use mathlib.Core.Path.{◌∙◌}
 use Rattle.blocks.specs.Block.{part-block}
-use borrow.Author.Rules.{rules}
 use Rattle.blocks.proofs.read81.Goals as goal
 
 pub returns : goal.returns

@@ -1,4 +1,3 @@
-use borrow.Author.Rules.{rules}
 use Rattle.acoustic.specs.Numbered.{by-number-both}
 use Rattle.capi_acoustic.proofs.gf_perm_trans_symmetrize_compact_fc3.Goals as goal
 

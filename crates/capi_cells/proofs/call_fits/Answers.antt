@@ -1,5 +1,4 @@
 use mathlib.Core.Path.{refl, sym, ◌∙◌}
-use borrow.Author.Rules.{rules}
 use Rattle.capi_cells.proofs.call_fits.Goals as goal
 
 pub returns-then-cell_fits : goal.returns-then-cell_fits

@@ -1,4 +1,3 @@
-use borrow.Author.Rules.{rules}
 use Rattle.capi_cells.proofs.cell_of.Goals as goal
 
 pub returns : goal.returns

@@ -1,5 +1,4 @@
 use mathlib.Core.Path.{ap, ◌∙◌}
-use borrow.Author.Rules.{rules}
 use Rattle.tables.specs.Answers.{number_of}
 use Rattle.capi_cells.proofs.gf_check_shift_tables.Goals as goal
 

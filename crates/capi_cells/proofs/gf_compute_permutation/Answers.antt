@@ -1,6 +1,5 @@
 use mathlib.Core.Path.{sym, ◌∙◌}
 use lib.ListN.{length}
-use borrow.Author.Rules.{rules}
 use Rattle.capi_cells.specs.Cells.{cell_and-two, matched, above, wrong}
 use Rattle.capi_cells.proofs.gf_compute_permutation.Goals as goal
 

@@ -1,4 +1,3 @@
-use borrow.Author.Rules.{rules}
 use Rattle.capi_cells.specs.Cells.{two_slots}
 use Rattle.capi_cells.proofs.put.Goals as goal
 

@@ -1,4 +1,3 @@
-use borrow.Author.Rules.{rules}
 use Rattle.capi_cells.specs.Cells.{of_matched, of_not, of_none, of_refused}
 use Rattle.capi_cells.proofs.tell.Goals as goal
 
@@ -15,11 +14,9 @@ returns-in-NotMatched c =
 pub returns-in-NoNumber : goal.returns-in-NoNumber
 returns-in-NoNumber c =
     let a = c.args in
-    let (q, e) = c.m-1.given in
-    of_none a.pair.now a.m q.0 _ e c.put.ensures
+    of_none a.pair.now a.m c.in-NoNumber.p _ c.in-NoNumber.is c.put.ensures
 
 pub returns-in-Refused : goal.returns-in-Refused
 returns-in-Refused c =
     let a = c.args in
-    let (q, e) = c.enum_told-in-Refused-1.given in
-    of_refused a.pair.now a.m q.0 e
+    of_refused a.pair.now a.m c.in-Refused.field-0 c.in-Refused.is

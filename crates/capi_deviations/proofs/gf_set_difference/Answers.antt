@@ -1,7 +1,6 @@
 use mathlib.Core.Path.{refl, sym, ◌∙◌}
 use lib.Dec.{lit<}
 use lib.ListN.{length}
-use borrow.Author.Rules.{rules}
 use Rattle.capi_deviations.specs.Slots.{fits, call_given, call_wrong}
 use Rattle.capi_deviations.proofs.gf_set_difference.Goals as goal
 

@@ -1,7 +1,5 @@
 use native.Mathlib.Omega.{arith}
-use lib.ListN.{length-set}
 use Rattle.capi_deviations.specs.Slots.{few, put-given, put_refused}
-use borrow.Author.Rules.{rules}
 use Rattle.capi_deviations.proofs.put.Goals as goal
 
 pub row_of-requires : goal.row_of-requires
@@ -16,11 +14,9 @@ overflow_add-result c = let g = few c.in-Given.q.deviation in omega (arith, g, c
 pub returns-in-Given : goal.returns-in-Given
 returns-in-Given c =
     let a = c.args in
-    let (q, e) = c.a-1.given in
-    put-given a.n a.value.now a.place.now a.a q.0 c.value.result c.row_of.result c.column_of.result c.number.result (c.requires.1, c.requires.2) e c.value.ensures c.row_of.ensures c.column_of.ensures c.number.ensures
+    put-given a.n a.value.now a.place.now a.a c.in-Given.q c.value.result c.row_of.result c.column_of.result c.number.result (c.requires.1, c.requires.2) c.in-Given.is c.value.ensures c.row_of.ensures c.column_of.ensures c.number.ensures
 
 pub returns-in-Refused : goal.returns-in-Refused
 returns-in-Refused c =
     let a = c.args in
-    let (q, e) = c.a-in-Refused-1.given in
-    put_refused a.n a.value.now a.place.now a.a q.0 c.refusal_number.result e c.refusal_number.ensures
+    put_refused a.n a.value.now a.place.now a.a c.in-Refused.r c.refusal_number.result c.in-Refused.is c.refusal_number.ensures

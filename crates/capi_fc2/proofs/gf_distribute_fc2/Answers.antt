@@ -1,4 +1,3 @@
-use borrow.Author.Rules.{rules}
 use Rattle.tables.specs.Numbered.{by-number-with}
 use Rattle.capi_fc2.proofs.gf_distribute_fc2.Goals as goal
 

@@ -1,7 +1,6 @@
 use mathlib.Core.Path.{sym, ◌∙◌}
 use lib.ListN.{length}
 use Rattle.capi_fc2.specs.Drift.{fits, told_of, above, wrong}
-use borrow.Author.Rules.{rules}
 use Rattle.capi_fc2.proofs.gf_drift_report.Goals as goal
 
 pub report-requires : goal.report-requires

@@ -1,4 +1,3 @@
-use borrow.Author.Rules.{rules}
 use Rattle.tables.specs.Numbered.{by_number}
 use Rattle.capi_fc2.proofs.gf_perm_trans_symmetrize_fc.Goals as goal
 

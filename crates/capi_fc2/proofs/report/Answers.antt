@@ -9,11 +9,9 @@ overflow_add-result c = omega (arith, few c.in-Report.q.drift, c.number.ensures)
 pub returns-in-Report : goal.returns-in-Report
 returns-in-Report c =
     let a = c.args in
-    let (q, e) = c.a-1.given in
-    put a.value.now a.place.now q.0 a.a c.value.result c.along_number.result c.number.result (search rules) e c.value.ensures c.along_number.ensures c.number.ensures
+    put a.value.now a.place.now c.in-Report.q a.a c.value.result c.along_number.result c.number.result (search rules) c.in-Report.is c.value.ensures c.along_number.ensures c.number.ensures
 
 pub returns-in-Refused : goal.returns-in-Refused
 returns-in-Refused c =
     let a = c.args in
-    let (q, e) = c.a-in-Refused-1.given in
-    kept a.value.now a.place.now a.a q.0 c.refusal_number.result e c.refusal_number.ensures
+    kept a.value.now a.place.now a.a c.in-Refused.r c.refusal_number.result c.in-Refused.is c.refusal_number.ensures

@@ -1,4 +1,3 @@
-use borrow.Author.Rules.{rules}
 use Rattle.tables.specs.Numbered.{by_number}
 use Rattle.capi_fc3.proofs.gf_distribute_fc3.Goals as goal
 

@@ -1,4 +1,3 @@
-use borrow.Author.Rules.{rules}
 use mir.Syntax.{w64}
 use mir.ValLaws.{to_z-of_z}
 use Rattle.tables.specs.Compact.{shift_tables}
@@ -10,5 +9,5 @@ pub returns : goal.returns
 returns c =
     let a = c.args in
     let T = shift_tables a.p2s.now a.s2pp.now a.nsym_list.now a.perms.now a.n_satom a.n_patom a.num_trans in
-    by-number-at (true_transpose_compact_fc3 a.fc3.now T a.done.now) (to_z-of_z w64 a.t_type c.fits.t_type) c.true_transpose_compact_fc3-a.ensures
+    by-number-at (true_transpose_compact_fc3 a.fc3.now T a.done.now) (to_z-of_z w64 a.t_type c.ranges.t_type) c.true_transpose_compact_fc3-a.ensures
     c.number.ensures

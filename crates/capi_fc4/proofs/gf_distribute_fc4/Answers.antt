@@ -1,4 +1,3 @@
-use borrow.Author.Rules.{rules}
 use Rattle.tables.specs.Numbered.{by_number}
 use Rattle.capi_fc4.proofs.gf_distribute_fc4.Goals as goal
 

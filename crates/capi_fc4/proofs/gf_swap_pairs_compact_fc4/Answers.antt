@@ -1,4 +1,3 @@
-use borrow.Author.Rules.{rules}
 use Rattle.tables.specs.Numbered.{by-number-with}
 use Rattle.capi_fc4.proofs.gf_swap_pairs_compact_fc4.Goals as goal
 

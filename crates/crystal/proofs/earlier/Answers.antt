@@ -1,9 +1,8 @@
-use mathlib.Core.Path.{◌≡◌, refl, sym, ◌∙◌}
+use mathlib.Core.Path.{refl, sym, ◌∙◌}
 use Prim.Native.Nat.{◌≤◌, ◌<◌}
 use borrow.Author.Tests.{eq-eqb, ne_eqb, le-leb, lt-leb}
 use Rattle.tables.specs.Answers.{number_of}
 use Rattle.crystal.specs.Crystal.{earlier}
-use borrow.Author.Rules.{rules}
 use Rattle.crystal.proofs.earlier.Goals as goal
 
 pub returns-then-x-eq0 : goal.returns-then-x-eq0

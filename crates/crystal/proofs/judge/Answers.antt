@@ -1,7 +1,6 @@
 use mathlib.Core.Path.{sym, ap, ◌∙◌}
 use Rattle.crystal.specs.Crystal.{earlier}
 use Rattle.crystal.specs.Laws.{earlier-one}
-use borrow.Author.Rules.{rules}
 use Rattle.crystal.proofs.judge.Goals as goal
 
 pub returns-then-number-eq1 : goal.returns-then-number-eq1

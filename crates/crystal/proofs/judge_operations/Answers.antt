@@ -1,11 +1,10 @@
 use native.Mathlib.Omega.{arith}
 use native.Mathlib.Nat.{mul-le-mul}
 use mathlib.Core.Path.{◌≡◌, sym, ◌∙◌}
-use mathlib.Core.Bool.{true, false, not}
+use mathlib.Core.Bool.{true, false}
 use borrow.Author.Tests.{lt-ltb, le-ltb, eq-eqb, ne_eqb, not-true, not-false}
 use Rattle.tables.specs.Conditions.{out_of_range}
 use Rattle.crystal.specs.Crystal.{judged_operations}
-use borrow.Author.Rules.{rules}
 use Rattle.crystal.proofs.judge_operations.Goals as goal
 
 pub returns-then-num_rot-gt-MOST : goal.returns-then-num_rot-gt-MOST

@@ -1,5 +1,4 @@
 use Rattle.deltas.specs.Rows.{is_column}
-use borrow.Author.Rules.{rules}
 use Rattle.deltas.proofs.column.Goals as goal
 
 pub returns : goal.returns

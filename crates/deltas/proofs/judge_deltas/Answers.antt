@@ -1,11 +1,9 @@
-use mathlib.Core.Path.{◌≡◌, refl, sym, ◌∙◌}
+use mathlib.Core.Path.{refl, sym, ◌∙◌}
 use Prim.Native.Nat.{◌≤◌}
 use native.Mathlib.Nat.{le_trans}
-use native.Mathlib.Omega.{arith}
 use lib.Dec.{lit≤}
 use Rattle.lists.specs.Tests.{not-not}
 use Rattle.deltas.specs.Guard.{counts-small, judged_is, slab_blocks, power_few, width_few}
-use borrow.Author.Rules.{rules}
 use Rattle.deltas.proofs.judge_deltas.Goals as goal
 
 pub returns-then-counts_above : goal.returns-then-counts_above

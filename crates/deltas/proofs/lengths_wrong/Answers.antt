@@ -4,7 +4,6 @@ use native.Mathlib.Omega.{arith}
 use borrow.Author.Tests.{eq-eqb, ne_eqb}
 use Rattle.deltas.specs.Guard.{sizes}
 use Rattle.lists.specs.Tests.{or-here, or-next}
-use borrow.Author.Rules.{rules}
 use Rattle.deltas.proofs.lengths_wrong.Goals as goal
 
 pub overflow_mul-total : goal.overflow_mul-total

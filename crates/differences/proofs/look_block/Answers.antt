@@ -1,9 +1,7 @@
-use Prim.Native.Nat.{◌-◌, ◌≤◌}
 use native.Mathlib.Omega.{arith}
 use mathlib.Core.Path.{◌≡◌, ◌∙◌}
-use borrow.Author.Rules.{rules}
-use Rattle.lists.specs.Tab.{times, times_none, times_more}
-use Rattle.differences.specs.Laws.{look_place, look_block}
+use Rattle.lists.specs.Tab.{times_none, times_more}
+use Rattle.differences.specs.Laws.{look_block}
 use Rattle.differences.proofs.look_block.Goals as goal
 
 pub loop-k-init : goal.loop-k-init

@@ -1,9 +1,7 @@
 use Prim.Native.Nat.{◌-◌, ◌≤◌}
-use native.Mathlib.Omega.{arith}
-use mathlib.Core.Path.{◌≡◌, ◌∙◌}
-use borrow.Author.Rules.{rules}
-use Rattle.lists.specs.Tab.{times, times_none, times_more}
-use Rattle.differences.specs.Laws.{look_place, look_block}
+use mathlib.Core.Path.{◌≡◌}
+use Rattle.lists.specs.Tab.{times}
+use Rattle.differences.specs.Laws.{look_place}
 use Rattle.differences.proofs.look_block.Given as goal
 
 abbrev pub invariant-loop-k : goal.invariant-loop-k

@@ -1,13 +1,10 @@
-use Prim.Native.Nat.{◌+◌, ◌*◌, ◌-◌, ◌≤◌, ◌<◌}
-use native.Mathlib.Omega.{arith}
-use mathlib.Core.Path.{◌≡◌, ap, ap₂, ◌∙◌}
+use Prim.Native.Nat.{◌+◌, ◌*◌, ◌-◌, ◌≤◌}
+use mathlib.Core.Path.{◌≡◌}
 use lib.ListN.{length, get_or}
 use lib.Ieee.{nan, sub, binary64}
-use borrow.Author.Rules.{rules}
-use Rattle.lists.specs.Tab.{times, times_none, times_more}
-use Rattle.audits.specs.Kernel.{there, readable, in_here}
-use Rattle.reports.specs.Loops.{look, look_at}
-use Rattle.differences.specs.Laws.{look_place, few-places}
+use Rattle.lists.specs.Tab.{times}
+use Rattle.audits.specs.Kernel.{there}
+use Rattle.reports.specs.Loops.{look}
 use Rattle.differences.proofs.look_place.Given as goal
 
 abbrev pub invariant-loop-i : goal.invariant-loop-i

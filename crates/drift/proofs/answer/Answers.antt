@@ -1,6 +1,5 @@
 use mathlib.Core.Path.{sym, ap}
 use Rattle.drift.specs.Drift.{answer_of}
-use borrow.Author.Rules.{rules}
 use Rattle.drift.proofs.answer.Goals as goal
 
 pub returns-in-Refused : goal.returns-in-Refused

@@ -1,7 +1,6 @@
 use Rattle.reports.specs.Seen.{conclude_none, conclude_still, conclude_worst}
 use Rattle.drift.specs.Drift.{report_at, still_report}
 use mathlib.Core.Path.{◌∙◌}
-use borrow.Author.Rules.{rules}
 use Rattle.drift.proofs.conclude.Goals as goal
 
 pub returns-then-c : goal.returns-then-c

@@ -1,4 +1,3 @@
-use borrow.Author.Rules.{rules}
 use Rattle.drift.proofs.report_at.Goals as goal
 
 pub returns : goal.returns

@@ -6,7 +6,6 @@ use Rattle.tables.proofs.Loops.{told-no, told_yes}
 use Prim.Native.Nat.{suc}
 use Rattle.explain.specs.Explain.{bound_tables, out_at, first_beyond}
 use Rattle.explain.specs.Laws.{here, next, entry-at}
-use borrow.Author.Rules.{rules}
 use Rattle.explain.proofs.bad_entry.Goals as goal
 
 pub returns-then-not-all_below : goal.returns-then-not-all_below

@@ -1,7 +1,6 @@
 use Rattle.tables.specs.Compact.{ShiftTables, shift_tables, shifts_of}
 use mathlib.Core.Path.{◌∙◌}
 use Rattle.explain.specs.Guarded.{rule-below, first_below, second_below, rule-named}
-use borrow.Author.Rules.{rules}
 use Rattle.explain.proofs.broken_rule.Goals as goal
 
 pub first_broken-r-requires : goal.first_broken-r-requires

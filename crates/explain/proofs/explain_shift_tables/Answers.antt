@@ -3,7 +3,6 @@ use Rattle.tables.specs.Compact.{ShiftTables, shift_tables}
 use Rattle.explain.specs.Explain.{because as becauseOf}
 use Rattle.tables.specs.declared.Refusal.TheVariants.{CountAboveLimit, WrongLength}
 use Rattle.explain.specs.Guarded.{told_0, told_1, told_2, told_3, told_6}
-use borrow.Author.Rules.{rules}
 use Rattle.explain.proofs.explain_shift_tables.Goals as goal
 
 pub returns-then-n-eq1 : goal.returns-then-n-eq1

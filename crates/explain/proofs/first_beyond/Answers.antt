@@ -1,15 +1,12 @@
 use mathlib.Core.Path.{◌≡◌, sym, ap, ◌∙◌}
-use Prim.Native.Nat.{ℕ, ◌≤◌, ◌<◌, ◌-◌}
 use native.Mathlib.Omega.{arith}
 use borrow.Author.Count.{below_none, below_more}
 use mathlib.Core.Bool.{false, not}
-use lib.IntN.{pos}
-use lib.ListN.{length, get_or}
+use lib.ListN.{length}
 use Rattle.lists.specs.Lowest.{lowest_by}
 use Rattle.tables.specs.Conditions.{below}
 use Rattle.tables.proofs.Integers.{handed}
 use Rattle.explain.specs.Explain.{first_beyond}
-use borrow.Author.Rules.{rules}
 use Rattle.explain.proofs.first_beyond.Goals as goal
 
 pub loop-k-init : goal.loop-k-init

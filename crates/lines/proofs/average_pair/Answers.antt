@@ -1,5 +1,4 @@
 use Rattle.lines.specs.Lines.{pair_at}
-use borrow.Author.Rules.{rules}
 use Rattle.lines.proofs.average_pair.Goals as goal
 
 pub returns : goal.returns

@@ -1,5 +1,4 @@
 use Rattle.lines.specs.Lines.{line_drift}
-use borrow.Author.Rules.{rules}
 use Rattle.lines.proofs.line_drift.Goals as goal
 
 pub returns : goal.returns

@@ -1,11 +1,9 @@
 use Rattle.lines.specs.Lines.{line_sums, step_is, step_fits}
 use Rattle.lines.specs.Sums3x3.{more}
 use Rattle.blocks.specs.Block.{block}
-use Rattle.lists.specs.Tab.{times, times_none, times_more}
+use Rattle.lists.specs.Tab.{times_none, times_more}
 use mathlib.Core.Path.{◌≡◌, ap, ◌∙◌}
 use native.Mathlib.Omega.{arith}
-use Prim.Native.Nat.{◌≤◌, ◌-◌, ◌+◌, ◌*◌}
-use borrow.Author.Rules.{rules}
 use Rattle.lines.proofs.line_sums.Goals as goal
 
 pub loop-k-init : goal.loop-k-init

@@ -1,11 +1,8 @@
-use Rattle.lines.specs.Lines.{line_sums, step_is, step_fits}
 use Rattle.lines.specs.Sums3x3.{more}
 use Rattle.blocks.specs.Block.{block}
-use Rattle.lists.specs.Tab.{times, times_none, times_more}
-use mathlib.Core.Path.{◌≡◌, ap, ◌∙◌}
-use native.Mathlib.Omega.{arith}
+use Rattle.lists.specs.Tab.{times}
+use mathlib.Core.Path.{◌≡◌}
 use Prim.Native.Nat.{◌≤◌, ◌-◌, ◌+◌, ◌*◌}
-use borrow.Author.Rules.{rules}
 use Rattle.lines.proofs.line_sums.Given as goal
 
 abbrev pub invariant-loop-k : goal.invariant-loop-k

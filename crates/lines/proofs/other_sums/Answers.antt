@@ -1,6 +1,5 @@
 use Rattle.lines.specs.Lines.{others, run_before, run_after, own_fits}
 use native.Mathlib.Omega.{arith}
-use borrow.Author.Rules.{rules}
 use Rattle.lines.proofs.other_sums.Goals as goal
 
 pub line_sums-s-requires : goal.line_sums-s-requires

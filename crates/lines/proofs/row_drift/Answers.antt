@@ -1,10 +1,8 @@
 use Rattle.lines.specs.Lines.{line_drift, row_drifts, row-start, run_line}
-use Rattle.lists.specs.Tab.{times, times_none, times_more}
+use Rattle.lists.specs.Tab.{times_none, times_more}
 use mathlib.Core.Path.{◌≡◌, refl, ◌∙◌}
-use lib.ListN.{length}
 use native.Mathlib.Omega.{arith}
-use Prim.Native.Nat.{◌≤◌, ◌-◌, ◌*◌}
-use borrow.Author.Rules.{rules}
+use Prim.Native.Nat.{◌*◌}
 use Rattle.lines.proofs.row_drift.Goals as goal
 
 pub loop-i-init : goal.loop-i-init

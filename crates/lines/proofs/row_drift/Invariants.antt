@@ -1,10 +1,8 @@
-use Rattle.lines.specs.Lines.{line_drift, row_drifts, row-start, run_line}
-use Rattle.lists.specs.Tab.{times, times_none, times_more}
-use mathlib.Core.Path.{◌≡◌, refl, ◌∙◌}
+use Rattle.lines.specs.Lines.{line_drift}
+use Rattle.lists.specs.Tab.{times}
+use mathlib.Core.Path.{◌≡◌}
 use lib.ListN.{length}
-use native.Mathlib.Omega.{arith}
 use Prim.Native.Nat.{◌≤◌, ◌-◌, ◌*◌}
-use borrow.Author.Rules.{rules}
 use Rattle.lines.proofs.row_drift.Given as goal
 
 abbrev pub invariant-loop-i : goal.invariant-loop-i

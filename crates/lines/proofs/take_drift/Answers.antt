@@ -1,10 +1,7 @@
 use Rattle.lines.specs.Lines.{less_at, line_less, step_is, step_fits}
-use Rattle.lists.specs.Tab.{times, times_none, times_more}
+use Rattle.lists.specs.Tab.{times_none, times_more}
 use mathlib.Core.Path.{◌≡◌, refl, ◌∙◌}
-use lib.ListN.{length}
 use native.Mathlib.Omega.{arith}
-use Prim.Native.Nat.{◌≤◌, ◌-◌, ◌+◌, ◌*◌}
-use borrow.Author.Rules.{rules}
 use Rattle.lines.proofs.take_drift.Goals as goal
 
 pub loop-k-init : goal.loop-k-init

@@ -1,10 +1,8 @@
-use Rattle.lines.specs.Lines.{less_at, line_less, step_is, step_fits}
-use Rattle.lists.specs.Tab.{times, times_none, times_more}
-use mathlib.Core.Path.{◌≡◌, refl, ◌∙◌}
+use Rattle.lines.specs.Lines.{less_at}
+use Rattle.lists.specs.Tab.{times}
+use mathlib.Core.Path.{◌≡◌}
 use lib.ListN.{length}
-use native.Mathlib.Omega.{arith}
 use Prim.Native.Nat.{◌≤◌, ◌-◌, ◌+◌, ◌*◌}
-use borrow.Author.Rules.{rules}
 use Rattle.lines.proofs.take_drift.Given as goal
 
 abbrev pub invariant-loop-k : goal.invariant-loop-k

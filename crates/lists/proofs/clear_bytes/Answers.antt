@@ -1,8 +1,5 @@
-use Prim.Native.Nat.{◌-◌}
 use native.Mathlib.Omega.{arith}
-use lib.ListN.{length}
-use Rattle.lists.specs.Clear.{Cleared, cleared_none, cleared_more, cleared_all}
-use borrow.Author.Rules.{rules}
+use Rattle.lists.specs.Clear.{cleared_none, cleared_more, cleared_all}
 use Rattle.lists.proofs.clear_bytes.Goals as goal
 
 pub loop-i-init : goal.loop-i-init

@@ -1,9 +1,7 @@
 use Prim.Native.Nat.{◌-◌}
-use native.Mathlib.Omega.{arith}
 use lib.ListN.{length}
 use lib.Ieee.{of_bits, binary64}
-use Rattle.lists.specs.Clear.{Cleared, cleared_none, cleared_more, cleared_all}
-use borrow.Author.Rules.{rules}
+use Rattle.lists.specs.Clear.{Cleared}
 use Rattle.lists.proofs.clear_floats.Given as goal
 
 abbrev pub invariant-loop-i : goal.invariant-loop-i

@@ -1,9 +1,6 @@
-use Prim.Native.Nat.{◌-◌}
 use native.Mathlib.Omega.{arith}
-use lib.ListN.{length}
 use lib.IntN.{pos}
-use Rattle.lists.specs.Clear.{Cleared, cleared_none, cleared_more, cleared_all}
-use borrow.Author.Rules.{rules}
+use Rattle.lists.specs.Clear.{cleared_none, cleared_more, cleared_all}
 use Rattle.lists.proofs.clear_ints.Goals as goal
 
 pub loop-i-init : goal.loop-i-init

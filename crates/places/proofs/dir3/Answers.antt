@@ -1,6 +1,5 @@
 use native.Mathlib.Omega.{arith}
 use Rattle.lists.specs.Digits.{horner}
-use borrow.Author.Rules.{rules}
 use Rattle.places.proofs.dir3.Goals as goal
 
 pub index_of-requires : goal.index_of-requires

@@ -2,7 +2,6 @@ use Prim.Native.Nat.{◌+◌, ◌*◌}
 use native.Mathlib.Omega.{arith}
 use Rattle.places.specs.Addresses.{grown}
 use Rattle.lists.specs.Digits.{horner}
-use borrow.Author.Rules.{rules}
 use Rattle.places.proofs.full3.Goals as goal
 
 pub index_of-requires : goal.index_of-requires

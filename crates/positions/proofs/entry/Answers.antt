@@ -1,6 +1,5 @@
 use mathlib.Core.Path.{ap, ◌∙◌}
 use lib.ListN.{get_or}
-use borrow.Author.Rules.{rules}
 use Rattle.positions.specs.Positions.{at_entry}
 use Rattle.positions.proofs.entry.Goals as goal
 

@@ -1,4 +1,3 @@
-use Rattle.std.proofs.Common.{rules}
 use Rattle.replays.specs.Tally.{compare}
 use Rattle.replays.proofs.compared.Goals as goal
 

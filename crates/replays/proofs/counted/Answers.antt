@@ -1,4 +1,4 @@
-use Rattle.std.proofs.Common.{rules, le-ltb, lt-ltb}
+use Rattle.std.proofs.Common.{le-ltb, lt-ltb}
 use Rattle.replays.specs.Tally.{counted_at}
 use Rattle.replays.proofs.counted.Goals as goal
 

@@ -1,4 +1,4 @@
-use Rattle.std.proofs.Common.{◌≡◌, ℕ, ◌-◌, ◌≤◌, cond, eqb, length, get_or, ap, ◌∙◌, arith, rules}
+use Rattle.std.proofs.Common.{◌≡◌, ℕ, cond, eqb, length, get_or, ap, ◌∙◌, arith}
 use Rattle.lists.specs.Tab.{times, times_none, times_more}
 use Rattle.replays.specs.Tally.{differing, increased}
 use Rattle.replays.proofs.different.Goals as goal

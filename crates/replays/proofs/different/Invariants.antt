@@ -1,6 +1,6 @@
-use Rattle.std.proofs.Common.{◌≡◌, ℕ, ◌-◌, ◌≤◌, cond, eqb, length, get_or, ap, ◌∙◌, arith, rules}
-use Rattle.lists.specs.Tab.{times, times_none, times_more}
-use Rattle.replays.specs.Tally.{differing, increased}
+use Rattle.std.proofs.Common.{◌≡◌, ◌-◌, ◌≤◌, length}
+use Rattle.lists.specs.Tab.{times}
+use Rattle.replays.specs.Tally.{differing}
 use Rattle.replays.proofs.different.Given as goal
 
 abbrev pub invariant-loop-i : goal.invariant-loop-i

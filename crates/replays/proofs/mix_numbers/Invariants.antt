@@ -1,5 +1,5 @@
-use Rattle.std.proofs.Common.{◌≡◌, ℕ, ◌-◌, ◌≤◌, length, ap, ◌∙◌, arith, rules}
-use Rattle.lists.specs.Tab.{times, times_none, times_more}
+use Rattle.std.proofs.Common.{◌≡◌, ◌-◌, ◌≤◌, length}
+use Rattle.lists.specs.Tab.{times}
 use Rattle.replays.specs.Words.{mixed_number}
 use Rattle.replays.proofs.mix_numbers.Given as goal
 

@@ -1,4 +1,3 @@
-use Rattle.std.proofs.Common.{rules}
 use Rattle.replays.specs.Tally.{tally}
 use Rattle.replays.proofs.tallied.Goals as goal
 

@@ -1,7 +1,6 @@
 use Rattle.reports.specs.Report.{value_of}
 use mathlib.Core.Path.{sym, ap}
 use lib.Ieee.{div, of_bits}
-use borrow.Author.Rules.{rules}
 use Rattle.reports.proofs.value.Goals as goal
 
 pub returns-in-NoNumber : goal.returns-in-NoNumber

@@ -2,7 +2,6 @@ use mathlib.Core.Path.{sym, ap, ◌∙◌}
 use Rattle.rotations.specs.Rotation.{widened}
 use Rattle.rotations.specs.Laws.{one-leg, widens}
 use native.Mathlib.Omega.{arith}
-use borrow.Author.Rules.{rules}
 use Rattle.rotations.proofs.coefficients2.Goals as goal
 
 pub returns : goal.returns

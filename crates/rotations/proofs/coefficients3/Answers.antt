@@ -2,7 +2,6 @@ use mathlib.Core.Path.{sym, ap, ◌∙◌}
 use native.Mathlib.Omega.{arith}
 use Rattle.rotations.specs.Rotation.{widened}
 use Rattle.rotations.specs.Laws.{widens}
-use borrow.Author.Rules.{rules}
 use Rattle.rotations.proofs.coefficients3.Goals as goal
 
 pub returns : goal.returns

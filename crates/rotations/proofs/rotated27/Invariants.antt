@@ -1,12 +1,6 @@
-use mathlib.Core.Path.{◌≡◌, refl, ap, ◌∙◌}
+use mathlib.Core.Path.{◌≡◌}
 use Prim.Native.Nat.{◌-◌, ◌≤◌}
-use native.Mathlib.Omega.{arith}
-use lib.ListN.{length, get_or-replicate}
-use lib.Ieee.{nan}
-use Rattle.lists.specs.Floats.{plus_zero}
 use Rattle.rotations.specs.Rotation.{sums}
-use Rattle.rotations.specs.Laws.{sums_none, sums-more}
-use borrow.Author.Rules.{rules}
 use Rattle.rotations.proofs.rotated27.Given as goal
 
 abbrev pub invariant-loop-q : goal.invariant-loop-q

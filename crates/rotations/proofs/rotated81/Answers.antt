@@ -1,9 +1,8 @@
 use mathlib.Core.Path.{◌≡◌, refl, ◌∙◌}
-use Prim.Native.Nat.{◌-◌, ◌*◌, ◌≤◌}
+use Prim.Native.Nat.{◌*◌}
 use native.Mathlib.Omega.{arith}
-use lib.ListN.{length}
 use borrow.Author.Count.{below_none}
-use Rattle.rotations.specs.Laws.{Filled, fill-part, filled-sums, sized, sums-width}
+use Rattle.rotations.specs.Laws.{fill-part, filled-sums, sized, sums-width}
 use borrow.Author.Rules.{rules}
 use Rattle.rotations.proofs.rotated81.Goals as goal
 

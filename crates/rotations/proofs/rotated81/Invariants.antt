@@ -1,10 +1,7 @@
-use mathlib.Core.Path.{◌≡◌, refl, ◌∙◌}
+use mathlib.Core.Path.{◌≡◌}
 use Prim.Native.Nat.{◌-◌, ◌*◌, ◌≤◌}
-use native.Mathlib.Omega.{arith}
 use lib.ListN.{length}
-use borrow.Author.Count.{below_none}
-use Rattle.rotations.specs.Laws.{Filled, fill-part, filled-sums, sized, sums-width}
-use borrow.Author.Rules.{rules}
+use Rattle.rotations.specs.Laws.{Filled}
 use Rattle.rotations.proofs.rotated81.Given as goal
 
 abbrev pub invariant-loop-h : goal.invariant-loop-h

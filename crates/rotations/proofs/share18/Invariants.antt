@@ -1,7 +1,5 @@
-use Rattle.rotations.specs.Laws.{Sharing, sharing_none, sharing_more, sharing_all}
+use Rattle.rotations.specs.Laws.{Sharing}
 use Prim.Native.Nat.{◌-◌}
-use native.Mathlib.Omega.{arith}
-use borrow.Author.Rules.{rules}
 use Rattle.rotations.proofs.share18.Given as goal
 
 abbrev pub invariant-loop-p : goal.invariant-loop-p

@@ -1,5 +1,4 @@
-use Rattle.rotations.specs.Laws.{Sharing, sharing_none, sharing_more, sharing_all}
-use Prim.Native.Nat.{◌-◌}
+use Rattle.rotations.specs.Laws.{sharing_none, sharing_more, sharing_all}
 use native.Mathlib.Omega.{arith}
 use borrow.Author.Rules.{rules}
 use Rattle.rotations.proofs.share27.Goals as goal

@@ -1,13 +1,7 @@
-use mathlib.Core.Path.{◌≡◌, refl, ap, ◌∙◌}
-use Prim.Native.Nat.{◌+◌, ◌-◌, ◌≤◌}
-use native.Mathlib.Omega.{arith}
-use lib.ListN.{length, get_or-replicate}
-use lib.Ieee.{nan}
-use Rattle.lists.specs.Digits.{in_row}
-use Rattle.lists.specs.Floats.{plus_zero}
+use mathlib.Core.Path.{◌≡◌}
+use Prim.Native.Nat.{◌-◌, ◌≤◌}
+use lib.ListN.{length}
 use Rattle.rotations.specs.Rotation.{sums}
-use Rattle.rotations.specs.Laws.{sums_none, sums-more}
-use borrow.Author.Rules.{rules}
 use Rattle.rotations.proofs.sums18.Given as goal
 
 abbrev pub invariant-loop-q : goal.invariant-loop-q

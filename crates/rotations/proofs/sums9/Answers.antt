@@ -1,5 +1,5 @@
 use mathlib.Core.Path.{◌≡◌, refl, ap, ◌∙◌}
-use Prim.Native.Nat.{◌+◌, ◌-◌, ◌≤◌}
+use Prim.Native.Nat.{◌+◌}
 use native.Mathlib.Omega.{arith}
 use lib.ListN.{length, get_or-replicate}
 use lib.Ieee.{nan}
@@ -7,7 +7,6 @@ use Rattle.lists.specs.Digits.{in_row}
 use Rattle.lists.specs.Floats.{plus_zero}
 use Rattle.rotations.specs.Rotation.{sums}
 use Rattle.rotations.specs.Laws.{sums_none, sums-more}
-use borrow.Author.Rules.{rules}
 use Rattle.rotations.proofs.sums9.Goals as goal
 
 pub loop-q-init : goal.loop-q-init

@@ -1,11 +1,9 @@
 use mathlib.Core.Path.{◌≡◌, refl, ◌∙◌}
-use Prim.Native.Nat.{ℕ, ◌-◌, ◌*◌, ◌<◌, ◌≤◌}
+use Prim.Native.Nat.{◌*◌}
 use native.Mathlib.Omega.{arith}
-use lib.ListN.{length, get_or}
 use lib.Ieee.{nan}
 use Rattle.lists.specs.Tab.{is_tab}
-use Rattle.rotations.specs.Rotation.{widened_at, widened}
-use borrow.Author.Rules.{rules}
+use Rattle.rotations.specs.Rotation.{widened}
 use Rattle.rotations.proofs.widen.Goals as goal
 
 pub loop-q-init : goal.loop-q-init

@@ -1,11 +1,8 @@
-use mathlib.Core.Path.{◌≡◌, refl, ◌∙◌}
+use mathlib.Core.Path.{◌≡◌}
 use Prim.Native.Nat.{ℕ, ◌-◌, ◌*◌, ◌<◌, ◌≤◌}
-use native.Mathlib.Omega.{arith}
 use lib.ListN.{length, get_or}
 use lib.Ieee.{nan}
-use Rattle.lists.specs.Tab.{is_tab}
-use Rattle.rotations.specs.Rotation.{widened_at, widened}
-use borrow.Author.Rules.{rules}
+use Rattle.rotations.specs.Rotation.{widened_at}
 use Rattle.rotations.proofs.widen.Given as goal
 
 abbrev pub invariant-loop-q : goal.invariant-loop-q

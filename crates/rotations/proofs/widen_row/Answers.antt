@@ -1,11 +1,7 @@
-use mathlib.Core.Path.{◌≡◌, refl, ◌∙◌}
-use Prim.Native.Nat.{ℕ, ◌+◌, ◌-◌, ◌*◌, ◌<◌, ◌≤◌}
+use mathlib.Core.Path.{refl, ◌∙◌}
 use native.Mathlib.Omega.{arith}
-use lib.ListN.{length, get_or, length-set}
-use lib.Ieee.{nan}
-use Rattle.rotations.specs.Rotation.{widened_at}
+use lib.ListN.{length-set}
 use Rattle.rotations.specs.Laws.{row_fits, before_fits, row_more, length-row}
-use borrow.Author.Rules.{rules}
 use Rattle.rotations.proofs.widen_row.Goals as goal
 
 pub overflow_mul-from : goal.overflow_mul-from

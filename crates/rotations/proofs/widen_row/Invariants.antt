@@ -1,11 +1,8 @@
-use mathlib.Core.Path.{◌≡◌, refl, ◌∙◌}
+use mathlib.Core.Path.{◌≡◌}
 use Prim.Native.Nat.{ℕ, ◌+◌, ◌-◌, ◌*◌, ◌<◌, ◌≤◌}
-use native.Mathlib.Omega.{arith}
-use lib.ListN.{length, get_or, length-set}
+use lib.ListN.{length, get_or}
 use lib.Ieee.{nan}
 use Rattle.rotations.specs.Rotation.{widened_at}
-use Rattle.rotations.specs.Laws.{row_fits, before_fits, row_more, length-row}
-use borrow.Author.Rules.{rules}
 use Rattle.rotations.proofs.widen_row.Given as goal
 
 abbrev pub invariant-loop-a : goal.invariant-loop-a

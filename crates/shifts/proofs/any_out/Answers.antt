@@ -1,6 +1,5 @@
 use mathlib.Core.Bool.{◌||◌}
 use borrow.Author.Tests.{not-true, not-false}
-use borrow.Author.Rules.{rules}
 use Rattle.tables.specs.Conditions.{out_of_range}
 use Rattle.tables.proofs.Loops.{told-no, told_yes}
 use Rattle.lists.specs.Tests.{not-not, or-here, or-next}

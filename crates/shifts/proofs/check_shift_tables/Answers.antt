@@ -1,6 +1,5 @@
 use mathlib.Core.List.{[], ◌∷◌}
 use mathlib.Core.Path.{sym, ◌∙◌}
-use borrow.Author.Rules.{rules}
 use Rattle.tables.specs.Compact.{ShiftTables, shift_tables, table_lengths, judged_tables}
 use Rattle.tables.specs.Conditions.{any_above, any_wrong, not_above}
 use Rattle.tables.specs.Answers.{refused, not-refused}

@@ -1,6 +1,5 @@
 use mathlib.Core.Path.{sym, ◌∙◌}
 use native.Mathlib.Nat.{le_trans}
-use borrow.Author.Rules.{rules}
 use Rattle.tables.specs.Lengths.{set_blocks}
 use Rattle.tables.specs.Compact.{ShiftTables, shift_tables, judged_compact}
 use Rattle.tables.specs.OneMoreLaws.{above_too, few-atoms, right_too, wrong-more}

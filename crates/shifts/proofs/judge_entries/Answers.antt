@@ -1,6 +1,5 @@
 use mathlib.Core.Bool.{not}
 use mathlib.Core.Path.{sym, ap, ◌∙◌}
-use borrow.Author.Rules.{rules}
 use Rattle.tables.specs.Compact.{ShiftTables, shift_tables, shifts_of, tables_out_of_range, judged_entries, fit_of}
 use Rattle.tables.specs.Shifts.{ruled}
 use Rattle.tables.specs.Answers.{refused, not-refused}

@@ -1,8 +1,7 @@
 use mathlib.Core.List.{[], ◌∷◌}
-use mathlib.Core.Path.{◌≡◌, sym, ◌∙◌}
+use mathlib.Core.Path.{sym, ◌∙◌}
 use Prim.Native.Nat.{◌≤◌}
 use native.Mathlib.Omega.{arith}
-use borrow.Author.Rules.{rules}
 use Rattle.tables.specs.Compact.{ShiftTables, shift_tables}
 use Rattle.tables.specs.Conditions.{not_above}
 use Rattle.shifts.proofs.Together.{count_above, wrong-set, wrong-tables, entries-left}

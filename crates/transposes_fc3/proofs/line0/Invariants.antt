@@ -1,12 +1,10 @@
 use Prim.Native.Nat.{◌≤◌, ◌-◌}
-use native.Mathlib.Omega.{arith}
 use mathlib.Core.Bool.{false}
-use mathlib.Core.Path.{◌≡◌, refl, ◌∙◌}
+use mathlib.Core.Path.{◌≡◌}
 use lib.ListN.{length}
-use borrow.Author.Rules.{rules}
-use Rattle.lists.specs.Tab.{times, times_none, times_more}
+use Rattle.lists.specs.Tab.{times}
 use Rattle.tables.specs.Compact.{shift_tables}
-use Rattle.transposes_fc3.specs.Fc3Loops.{at3, exchange_at, row_t}
+use Rattle.transposes_fc3.specs.Fc3Loops.{at3, exchange_at}
 use Rattle.transposes_fc3.proofs.line0.Given as goal
 
 abbrev pub invariant-loop-k : goal.invariant-loop-k

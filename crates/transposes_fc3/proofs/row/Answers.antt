@@ -1,7 +1,6 @@
 use mathlib.Core.Path.{◌≡◌, sym, ap, ◌∙◌}
 use Rattle.tables.specs.Compact.{shift_tables}
 use Rattle.transposes_fc3.specs.Fc3Loops.{row_t}
-use borrow.Author.Rules.{rules}
 use Rattle.transposes_fc3.proofs.row.Goals as goal
 
 pub row0-requires : goal.row0-requires

@@ -2,7 +2,6 @@ use mathlib.Core.Path.{sym, ◌∙◌}
 use Rattle.tables.specs.Compact.{shift_tables}
 use Rattle.orbits.specs.HalfShift.{rep-read}
 use Rattle.transposes_fc3.specs.Fc3Loops.{row_stays, row-moves}
-use borrow.Author.Rules.{rules}
 use Rattle.transposes_fc3.proofs.row0.Goals as goal
 
 pub stays-requires : goal.stays-requires

@@ -1,11 +1,7 @@
-use Prim.Native.Nat.{◌≤◌, ◌-◌}
 use native.Mathlib.Omega.{arith}
 use mathlib.Core.Path.{◌≡◌, refl, ◌∙◌}
-use lib.ListN.{length}
-use borrow.Author.Rules.{rules}
-use Rattle.lists.specs.Tab.{times, times_none, times_more}
-use Rattle.tables.specs.Compact.{shift_tables}
-use Rattle.transposes_fc3.specs.Fc3Loops.{at3, exchange_at, row_t}
+use Rattle.lists.specs.Tab.{times_none, times_more}
+use Rattle.transposes_fc3.specs.Fc3Loops.{row_t}
 use Rattle.transposes_fc3.proofs.row1.Goals as goal
 
 pub loop-k-init : goal.loop-k-init

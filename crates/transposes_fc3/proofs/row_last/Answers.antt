@@ -2,7 +2,6 @@ use native.Mathlib.Omega.{arith}
 use mathlib.Core.Path.{◌≡◌, sym, ap, ◌∙◌}
 use Rattle.tables.specs.Compact.{shift_tables}
 use Rattle.transposes_fc3.specs.Fc3Loops.{row_t, row_2}
-use borrow.Author.Rules.{rules}
 use Rattle.transposes_fc3.proofs.row_last.Goals as goal
 
 pub row1-requires : goal.row1-requires

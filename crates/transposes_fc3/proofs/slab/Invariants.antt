@@ -1,11 +1,9 @@
 use Prim.Native.Nat.{◌≤◌, ◌-◌}
-use native.Mathlib.Omega.{arith}
-use mathlib.Core.Path.{◌≡◌, refl, ◌∙◌}
+use mathlib.Core.Path.{◌≡◌}
 use lib.ListN.{length}
-use borrow.Author.Rules.{rules}
-use Rattle.lists.specs.Tab.{times, times_none, times_more}
+use Rattle.lists.specs.Tab.{times}
 use Rattle.tables.specs.Compact.{shift_tables}
-use Rattle.transposes_fc3.specs.Fc3Loops.{row_t, slab_t}
+use Rattle.transposes_fc3.specs.Fc3Loops.{row_t}
 use Rattle.transposes_fc3.proofs.slab.Given as goal
 
 abbrev pub invariant-loop-j : goal.invariant-loop-j

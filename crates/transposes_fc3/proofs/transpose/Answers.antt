@@ -4,7 +4,6 @@ use lib.Dec.{lit<}
 use lib.IntN.{pos}
 use mir.ValLaws.{to_z-of_z}
 use mir.Syntax.{w64}
-use borrow.Author.Rules.{rules}
 use Rattle.tables.specs.Compact.{shift_tables}
 use Rattle.transposes_fc3.specs.Fc3Loops.{by_meaning, no_meaning}
 use Rattle.transposes_fc3.proofs.transpose.Goals as goal

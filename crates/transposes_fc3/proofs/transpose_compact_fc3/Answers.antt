@@ -1,7 +1,6 @@
 use mathlib.Core.Path.{sym, ap, ◌∙◌}
 use mir.Syntax.{w64}
 use mir.ValLaws.{to_z-of_z}
-use borrow.Author.Rules.{rules}
 use Rattle.tables.specs.Compact.{shift_tables, shifts_of}
 use Rattle.transposes_fc3.specs.Fc3.{transposed_by}
 use Rattle.transposes_fc3.specs.Fc3Loops.{transpose_refused, transpose_ready, transpose_done}

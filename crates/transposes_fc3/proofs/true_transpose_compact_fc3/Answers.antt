@@ -2,7 +2,6 @@ use mathlib.Core.Path.{sym, ap, ◌∙◌}
 use lib.Dec.{lit≤}
 use mir.Syntax.{w64}
 use mir.ValLaws.{to_z-of_z}
-use borrow.Author.Rules.{rules}
 use Rattle.tables.specs.Compact.{shift_tables, shifts_of}
 use Rattle.tables.specs.Limits.{limit3}
 use Rattle.orbits.specs.TrueTransposes.{swapped, legs3, true_transpose_compact_fc3}

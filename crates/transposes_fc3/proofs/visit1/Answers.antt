@@ -5,7 +5,6 @@ use lib.Dec.{lit<}
 use Rattle.tables.specs.Compact.{shift_tables}
 use Rattle.orbits.specs.HalfShift.{prim_small, read-tables, rep-read}
 use Rattle.transposes_fc3.specs.Fc3Loops.{stay_1, other_1, found_in, found-met, found-stays, found-now}
-use borrow.Author.Rules.{rules}
 use Rattle.transposes_fc3.proofs.visit1.Goals as goal
 
 pub block3-n-requires : goal.block3-n-requires

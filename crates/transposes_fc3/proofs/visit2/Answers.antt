@@ -5,7 +5,6 @@ use lib.Dec.{lit<}
 use Rattle.tables.specs.Compact.{shift_tables}
 use Rattle.orbits.specs.HalfShift.{prim_small}
 use Rattle.transposes_fc3.specs.Fc3Loops.{at3, plain3, none_stays, other_2, rising, found_in, found-now}
-use borrow.Author.Rules.{rules}
 use Rattle.transposes_fc3.proofs.visit2.Goals as goal
 
 pub block3-n-requires : goal.block3-n-requires

@@ -4,7 +4,6 @@ use mir.ValLaws.{to_z-of_z}
 use Rattle.tables.specs.Compact.{shift_tables, shifts_of}
 use Rattle.transposes_fc4.specs.Fc4.{transposed_by4}
 use Rattle.transposes_fc4.specs.Fc4LoopLaws.{transpose_refused, transpose_ready, transpose_done}
-use borrow.Author.Rules.{rules}
 use Rattle.transposes_fc4.proofs.transpose_compact_fc4.Goals as goal
 
 pub returns-then-is_refusal : goal.returns-then-is_refusal

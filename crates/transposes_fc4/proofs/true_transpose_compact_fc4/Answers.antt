@@ -6,7 +6,6 @@ use Rattle.tables.specs.Compact.{shift_tables, shifts_of}
 use Rattle.tables.specs.Limits.{limit4}
 use Rattle.orbits.specs.TrueTransposes.{swapped, legs4, true_transpose_compact_fc4}
 use Rattle.orbits.specs.Moved.{true_refused, true_ready, true_done}
-use borrow.Author.Rules.{rules}
 use Rattle.transposes_fc4.proofs.true_transpose_compact_fc4.Goals as goal
 
 pub returns-then-is_refusal : goal.returns-then-is_refusal

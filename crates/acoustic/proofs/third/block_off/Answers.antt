@@ -1,8 +1,7 @@
 use mathlib.Core.Path.{ap, ap₂, sym, ◌∙◌}
 use lib.ListN.{length}
-use Rattle.blocks.specs.Block.{block, put_block, length-block}
+use Rattle.blocks.specs.Block.{put_block, length-block}
 use Rattle.acoustic.specs.Laws.{less}
-use borrow.Author.Rules.{rules}
 use Rattle.acoustic.proofs.third.block_off.Goals as goal
 
 pub take_all-requires : goal.take_all-requires

@@ -1,11 +1,11 @@
-use Prim.Native.Nat.{ℕ, ◌+◌, ◌*◌, ◌/◌, ◌%◌, ◌≤◌, ◌<◌}
+use Prim.Native.Nat.{◌/◌, ◌<◌}
 use native.Mathlib.Nat.{mod-lt, mul-le-mul, div-lt_iff_lt-mul}
 use native.Mathlib.Omega.{arith}
 use mathlib.Core.Path.{◌≡◌, ap, ◌∙◌}
 use lib.Dec.{lit≤}
 use Rattle.lists.specs.Digits.{in_row, pos_of}
 use Rattle.tables.specs.Limits.{limit3}
-use Rattle.tables.specs.Conditions.{Readable, index_at, read}
+use Rattle.tables.specs.Conditions.{read}
 use Rattle.tables.specs.Compact.{ShiftTables, shift_tables, shifts_of}
 use Rattle.legs.specs.Laws.{block_sums, leg_block}
 use Rattle.acoustic.specs.Laws.{scaled, line_of, line-below, line3_is, rows2}

@@ -1,17 +1,9 @@
-use lib.Ieee.{in_float}
-use lib.Dec.{le→leb, lit≤}
-use Prim.Native.Nat.{ℕ, ◌+◌, ◌*◌, ◌-◌, ◌≤◌, ◌<◌, ◌^◌}
-use native.Mathlib.Nat.{mul-le-mul}
-use native.Mathlib.Omega.{arith}
-use mathlib.Core.Path.{◌≡◌, refl, ap, sym, ◌∙◌}
+use Prim.Native.Nat.{◌-◌, ◌≤◌}
+use mathlib.Core.Path.{◌≡◌}
 use lib.ListN.{length}
-use Rattle.lists.specs.Tab.{times, times_none, times_more}
-use Rattle.blocks.specs.Block.{put_block}
-use Rattle.tables.specs.Limits.{limit3}
-use Rattle.tables.specs.Compact.{ShiftTables, shift_tables, shifts_of}
-use Rattle.lines.specs.Sums3x3.{inverse}
-use Rattle.acoustic.specs.Laws.{drift_put, drift_inside, in27, rows2}
-use borrow.Author.Rules.{rules}
+use Rattle.lists.specs.Tab.{times}
+use Rattle.tables.specs.Compact.{shift_tables, shifts_of}
+use Rattle.acoustic.specs.Laws.{drift_put}
 use Rattle.acoustic.proofs.third.drifts.Given as goal
 
 abbrev pub invariant-loop-r : goal.invariant-loop-r

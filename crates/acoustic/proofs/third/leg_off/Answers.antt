@@ -1,7 +1,5 @@
-use mathlib.Core.Path.{sym, ◌∙◌}
 use Rattle.tables.specs.Compact.{ShiftTables, shift_tables}
-use Rattle.acoustic.specs.Laws.{Room, leg3_made}
-use borrow.Author.Rules.{rules}
+use Rattle.acoustic.specs.Laws.{leg3_made}
 use Rattle.acoustic.proofs.third.leg_off.Goals as goal
 
 pub drifts-requires : goal.drifts-requires

@@ -1,11 +1,8 @@
-use Prim.Native.Nat.{ℕ, ◌-◌, ◌≤◌}
 use native.Mathlib.Omega.{arith}
 use mathlib.Core.Path.{◌≡◌, refl, ap, ◌∙◌}
-use lib.ListN.{length}
 use Rattle.lists.specs.Tab.{times, times_none, times_more}
 use Rattle.tables.specs.Compact.{ShiftTables, shift_tables, shifts_of}
 use Rattle.acoustic.specs.Acoustic.{without_drift, without_drifts}
-use borrow.Author.Rules.{rules}
 use Rattle.acoustic.proofs.third.legs_off.Goals as goal
 
 pub loop-leg-init : goal.loop-leg-init

@@ -1,11 +1,9 @@
-use Prim.Native.Nat.{ℕ, ◌-◌, ◌≤◌}
-use native.Mathlib.Omega.{arith}
-use mathlib.Core.Path.{◌≡◌, refl, ap, ◌∙◌}
+use Prim.Native.Nat.{◌-◌, ◌≤◌}
+use mathlib.Core.Path.{◌≡◌}
 use lib.ListN.{length}
-use Rattle.lists.specs.Tab.{times, times_none, times_more}
-use Rattle.tables.specs.Compact.{ShiftTables, shift_tables, shifts_of}
-use Rattle.acoustic.specs.Acoustic.{without_drift, without_drifts}
-use borrow.Author.Rules.{rules}
+use Rattle.lists.specs.Tab.{times}
+use Rattle.tables.specs.Compact.{shift_tables, shifts_of}
+use Rattle.acoustic.specs.Acoustic.{without_drift}
 use Rattle.acoustic.proofs.third.legs_off.Given as goal
 
 abbrev pub invariant-loop-leg : goal.invariant-loop-leg

@@ -6,7 +6,6 @@ use Rattle.tables.specs.Limits.{limit3}
 use Rattle.tables.specs.Compact.{ShiftTables, shift_tables}
 use Rattle.places.specs.ReadOuts.{tables}
 use Rattle.acoustic.specs.Laws.{other3_0, other3_1, other3_2}
-use borrow.Author.Rules.{rules}
 use Rattle.acoustic.proofs.third.other_block.Goals as goal
 
 last-leg : (leg : ℕ) → leg ≤ 2 → (leg ≡ 0 → ⊥) → (leg ≡ 1 → ⊥) → leg ≡ 2

@@ -1,17 +1,16 @@
 use lib.Dec.{lit≤}
-use Prim.Native.Nat.{ℕ, ◌+◌, ◌*◌, ◌-◌, ◌/◌, ◌%◌, ◌≤◌, ◌<◌}
+use Prim.Native.Nat.{◌+◌, ◌*◌, ◌/◌, ◌<◌}
 use native.Mathlib.Nat.{mod-lt, mul-le-mul, div-lt_iff_lt-mul}
 use native.Mathlib.Omega.{arith}
-use mathlib.Core.Path.{◌≡◌, refl, ap, ap₂, sym, ◌∙◌}
-use lib.ListN.{length}
+use mathlib.Core.Path.{◌≡◌, refl, ap, ap₂, ◌∙◌}
 use Rattle.lists.specs.Tab.{times, times_none, times_more}
 use Rattle.lists.specs.Digits.{times_power, in_row, pos_of}
 use Rattle.blocks.specs.Block.{block, put_block}
 use Rattle.tables.specs.Limits.{limit3}
-use Rattle.tables.specs.Conditions.{Readable, index_at, read}
+use Rattle.tables.specs.Conditions.{read}
 use Rattle.tables.specs.Compact.{ShiftTables, shift_tables, shifts_of}
 use Rattle.audits.specs.Guard.{block_inside}
-use Rattle.acoustic.specs.Laws.{less, less_at, row_less, other_block, other-below, drift_inside, row3_is, in27, rows2, rows3}
+use Rattle.acoustic.specs.Laws.{less, less_at, row_less, other_block, other-below, drift_inside, row3_is, in27, rows3}
 use borrow.Author.Rules.{rules}
 use Rattle.acoustic.proofs.third.row_off.Goals as goal
 

@@ -1,18 +1,9 @@
-use lib.Dec.{lit≤}
-use Prim.Native.Nat.{ℕ, ◌+◌, ◌*◌, ◌-◌, ◌/◌, ◌%◌, ◌≤◌, ◌<◌}
-use native.Mathlib.Nat.{mod-lt, mul-le-mul, div-lt_iff_lt-mul}
-use native.Mathlib.Omega.{arith}
-use mathlib.Core.Path.{◌≡◌, refl, ap, ap₂, sym, ◌∙◌}
+use Prim.Native.Nat.{◌+◌, ◌*◌, ◌-◌, ◌≤◌}
+use mathlib.Core.Path.{◌≡◌}
 use lib.ListN.{length}
-use Rattle.lists.specs.Tab.{times, times_none, times_more}
-use Rattle.lists.specs.Digits.{times_power, in_row, pos_of}
-use Rattle.blocks.specs.Block.{block, put_block}
-use Rattle.tables.specs.Limits.{limit3}
-use Rattle.tables.specs.Conditions.{Readable, index_at, read}
-use Rattle.tables.specs.Compact.{ShiftTables, shift_tables, shifts_of}
-use Rattle.audits.specs.Guard.{block_inside}
-use Rattle.acoustic.specs.Laws.{less, less_at, row_less, other_block, other-below, drift_inside, row3_is, in27, rows2, rows3}
-use borrow.Author.Rules.{rules}
+use Rattle.lists.specs.Tab.{times}
+use Rattle.tables.specs.Compact.{shift_tables, shifts_of}
+use Rattle.acoustic.specs.Laws.{less_at}
 use Rattle.acoustic.proofs.third.row_off.Given as goal
 
 abbrev pub invariant-loop-k : goal.invariant-loop-k

@@ -1,13 +1,10 @@
-use Prim.Native.Nat.{ℕ, ◌*◌, ◌-◌, ◌≤◌, ◌<◌}
+use Prim.Native.Nat.{◌*◌}
 use native.Mathlib.Nat.{mul-le-mul}
 use native.Mathlib.Omega.{arith}
 use mathlib.Core.Path.{◌≡◌, refl, ap, ◌∙◌}
-use lib.ListN.{length}
 use Rattle.lists.specs.Tab.{times, times_none, times_more}
-use Rattle.tables.specs.Limits.{limit3}
 use Rattle.tables.specs.Compact.{ShiftTables, shift_tables, shifts_of}
-use Rattle.acoustic.specs.Laws.{Room, row_less}
-use borrow.Author.Rules.{rules}
+use Rattle.acoustic.specs.Laws.{row_less}
 use Rattle.acoustic.proofs.third.rows_off.Goals as goal
 
 pub overflow_mul-count : goal.overflow_mul-count

@@ -2,7 +2,6 @@ use Rattle.tables.specs.Compact.{ShiftTables, shift_tables, shifts_of}
 use Rattle.places.specs.Places.{perms3}
 use Rattle.orbits.specs.Symmetric.{mean6}
 use Rattle.acoustic.specs.Calls.{no_level, some_levels, compact_ready}
-use borrow.Author.Rules.{rules}
 use Rattle.acoustic.proofs.third_compact.all_levels.Goals as goal
 
 pub symmetrize-requires : goal.symmetrize-requires

@@ -1,11 +1,10 @@
 use mathlib.Core.Path.{sym, ap, ◌∙◌}
-use Prim.Native.Nat.{◌*◌, ◌≤◌}
+use Prim.Native.Nat.{◌*◌}
 use native.Mathlib.Nat.{le_trans}
 use native.Mathlib.Omega.{arith}
 use lib.Dec.{lit≤}
 use Rattle.tables.specs.Compact.{ShiftTables, shift_tables}
 use Rattle.acoustic.specs.Calls.{above_too, few-atoms, right_too, wrong-more, drift27, few27}
-use borrow.Author.Rules.{rules}
 use Rattle.acoustic.proofs.third_compact.judge_lengths.Goals as goal
 
 pub judge_compact-a-requires : goal.judge_compact-a-requires

@@ -2,7 +2,6 @@ use Rattle.tables.specs.Compact.{ShiftTables, shift_tables, shifts_of}
 use Rattle.places.specs.Places.{perms3}
 use Rattle.orbits.specs.Symmetric.{mean6}
 use Rattle.acoustic.specs.Calls.{one_level_lem, compact_ready}
-use borrow.Author.Rules.{rules}
 use Rattle.acoustic.proofs.third_compact.level_pass.Goals as goal
 
 pub legs_off-requires : goal.legs_off-requires

@@ -5,7 +5,6 @@ use Rattle.tables.specs.Limits.{limit3}
 use Rattle.places.specs.Places.{perms3}
 use Rattle.orbits.specs.Symmetric.{mean6}
 use Rattle.acoustic.specs.Calls.{compact_refused, compact_work, compact_done}
-use borrow.Author.Rules.{rules}
 use Rattle.acoustic.proofs.third_compact.perm_trans_symmetrize_compact_fc3.Goals as goal
 
 pub returns-then-is_refusal : goal.returns-then-is_refusal

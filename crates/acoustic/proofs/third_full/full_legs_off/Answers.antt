@@ -1,7 +1,6 @@
 use lib.Dec.{lit≤}
 use native.Mathlib.Nat.{le_trans}
-use Rattle.audits.specs.Guard.{counted, part-counted, part-noughts}
-use borrow.Author.Rules.{rules}
+use Rattle.audits.specs.Guard.{part-counted, part-noughts}
 use Rattle.acoustic.proofs.third_full.full_legs_off.Goals as goal
 
 pub legs_off-requires : goal.legs_off-requires

@@ -4,7 +4,6 @@ use Rattle.orbits.specs.Symmetric.{mean6}
 use Rattle.audits.specs.Guard.{whole-shifts}
 use Rattle.acoustic.specs.Acoustic.{without_drifts}
 use Rattle.acoustic.specs.Calls.{one_level_lem, tiles_ready}
-use borrow.Author.Rules.{rules}
 use Rattle.acoustic.proofs.third_full.full_level.Goals as goal
 
 pub symmetrize-requires : goal.symmetrize-requires

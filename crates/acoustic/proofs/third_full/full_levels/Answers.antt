@@ -1,19 +1,16 @@
-use Prim.Native.Nat.{ℕ, ◌-◌, ◌≤◌}
 use native.Mathlib.Omega.{arith}
 use mathlib.Core.Path.{◌≡◌, refl, ap, ◌∙◌}
-use lib.ListN.{length}
 use Rattle.lists.specs.Tab.{times, times_none, times_more}
 use Rattle.places.specs.Places.{perms3, full_shifts}
 use Rattle.orbits.specs.Symmetric.{mean6}
 use Rattle.acoustic.specs.Acoustic.{leveled}
-use borrow.Author.Rules.{rules}
 use Rattle.acoustic.proofs.third_full.full_levels.Goals as goal
 
 pub loop-t-init : goal.loop-t-init
 loop-t-init c = (omega arith, refl, refl, times_none _ _)
 
 pub full_level-requires : goal.full_level-requires
-full_level-requires c = let l = c.loop-t in(rw (l.invariant.1, l.invariant.2) c.requires.0, c.requires.1)
+full_level-requires c = let l = c.loop-t in (rw (l.invariant.1, l.invariant.2) c.requires.0, c.requires.1)
 
 pub loop-t-preserved : goal.loop-t-preserved
 loop-t-preserved c =

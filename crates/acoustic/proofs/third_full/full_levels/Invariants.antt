@@ -1,12 +1,10 @@
-use Prim.Native.Nat.{ℕ, ◌-◌, ◌≤◌}
-use native.Mathlib.Omega.{arith}
-use mathlib.Core.Path.{◌≡◌, refl, ap, ◌∙◌}
+use Prim.Native.Nat.{◌-◌, ◌≤◌}
+use mathlib.Core.Path.{◌≡◌}
 use lib.ListN.{length}
-use Rattle.lists.specs.Tab.{times, times_none, times_more}
+use Rattle.lists.specs.Tab.{times}
 use Rattle.places.specs.Places.{perms3, full_shifts}
 use Rattle.orbits.specs.Symmetric.{mean6}
 use Rattle.acoustic.specs.Acoustic.{leveled}
-use borrow.Author.Rules.{rules}
 use Rattle.acoustic.proofs.third_full.full_levels.Given as goal
 
 abbrev pub invariant-loop-t : goal.invariant-loop-t

@@ -1,7 +1,6 @@
 use Rattle.places.specs.Places.{perms3, full_shifts}
 use Rattle.orbits.specs.Symmetric.{mean6}
 use Rattle.acoustic.specs.Calls.{no_level, some_levels, tiles_ready}
-use borrow.Author.Rules.{rules}
 use Rattle.acoustic.proofs.third_full.full_symmetrize.Goals as goal
 
 pub symmetrize-requires : goal.symmetrize-requires

@@ -1,13 +1,12 @@
 use mathlib.Core.List.{[]}
 use mathlib.Core.Path.{sym, ap, ◌∙◌}
-use Prim.Native.Nat.{◌*◌, ◌≤◌}
+use Prim.Native.Nat.{◌*◌}
 use native.Mathlib.Nat.{le_trans}
 use native.Mathlib.Omega.{arith}
 use lib.Dec.{lit≤}
 use Rattle.tables.specs.Answers.{is_done}
 use Rattle.tables.specs.Full.{done_full, refused-with, wrong-with, right-with}
 use Rattle.acoustic.specs.Calls.{drift27, few27}
-use borrow.Author.Rules.{rules}
 use Rattle.acoustic.proofs.third_full.judge_lengths.Goals as goal
 
 pub judge_full-a-requires : goal.judge_full-a-requires

@@ -6,7 +6,6 @@ use Rattle.tables.specs.Limits.{limit3}
 use Rattle.places.specs.Places.{perms3}
 use Rattle.orbits.specs.Symmetric.{mean6}
 use Rattle.acoustic.specs.Calls.{full-refused, full-room, full-done}
-use borrow.Author.Rules.{rules}
 use Rattle.acoustic.proofs.third_full.perm_trans_symmetrize_fc3.Goals as goal
 
 pub returns-then-is_refusal : goal.returns-then-is_refusal

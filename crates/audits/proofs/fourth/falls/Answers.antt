@@ -1,4 +1,3 @@
-use borrow.Author.Rules.{rules}
 use Rattle.audits.specs.Later.{falls_yes, falls_rest}
 use Rattle.audits.proofs.fourth.falls.Goals as goal
 

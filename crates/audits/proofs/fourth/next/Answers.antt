@@ -1,9 +1,7 @@
-use Prim.Native.Nat.{◌-◌}
 use native.Mathlib.Omega.{arith}
 use mathlib.Core.Path.{sym, ◌∙◌}
-use borrow.Author.Rules.{rules}
 use borrow.Author.Tests.{not-false}
-use Rattle.audits.specs.Later.{Next, next-none, next_more}
+use Rattle.audits.specs.Later.{next-none, next_more}
 use Rattle.audits.proofs.fourth.next.Goals as goal
 
 pub loop-r-init : goal.loop-r-init

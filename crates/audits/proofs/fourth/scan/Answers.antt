@@ -1,4 +1,4 @@
-use Prim.Native.Nat.{ℕ, ◌-◌, ◌≤◌, ◌<◌}
+use Prim.Native.Nat.{ℕ, ◌≤◌, ◌<◌}
 use native.Mathlib.Omega.{arith}
 use mathlib.Core.Path.{ap, ◌∙◌, subst}
 use borrow.Author.Rules.{rules}
@@ -7,7 +7,7 @@ use Rattle.tables.specs.Limits.{limit4}
 use Rattle.tables.specs.Compact.{ShiftTables, shift_tables, shifts_of}
 use Rattle.places.specs.Permutations.{perms4}
 use Rattle.audits.specs.declared.Audit.TheVariants.{Unlike}
-use Rattle.audits.specs.Blocks.{AlikeTo, alike-none, fits_w, passed-w, some-w, found-w, all-passed}
+use Rattle.audits.specs.Blocks.{alike-none, fits_w, passed-w, some-w, found-w, all-passed}
 use Rattle.audits.specs.Guard.{block-count}
 use Rattle.audits.specs.Later.{walked}
 use Rattle.audits.specs.FourthScanLaws.{in81, orders, blocks-few, blocks-some}

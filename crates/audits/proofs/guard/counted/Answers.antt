@@ -1,13 +1,11 @@
 use mathlib.Core.Path.{◌≡◌, refl}
-use Prim.Native.Nat.{ℕ, ◌-◌, ◌≤◌, ◌<◌}
 use native.Mathlib.Omega.{arith}
 use lib.IntN.{pos}
-use lib.ListN.{length, get_or, length-set}
+use lib.ListN.{length-set}
 use mir.Syntax.{w64}
 use mir.Val.{to_z}
 use mir.ValLaws.{to_z_pos}
 use borrow.Author.Count.{below_none}
-use borrow.Author.Rules.{rules}
 use Rattle.lists.specs.Tab.{is_tab, fill_more}
 use Rattle.audits.proofs.guard.counted.Goals as goal
 

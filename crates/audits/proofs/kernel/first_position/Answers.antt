@@ -1,8 +1,7 @@
-use Prim.Native.Nat.{ℕ, ◌-◌, ◌≤◌}
+use Prim.Native.Nat.{ℕ}
 use native.Mathlib.Omega.{arith}
 use mathlib.Core.Path.{◌≡◌, subst}
 use lib.ListN.{length}
-use borrow.Author.Rules.{rules}
 use Rattle.lists.specs.Lowest.{Lowest, is_lowest}
 use Rattle.audits.specs.Kernel.{another, position_to, first-none, one_more}
 use Rattle.audits.proofs.kernel.first_position.Goals as goal

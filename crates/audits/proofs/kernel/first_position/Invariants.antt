@@ -1,10 +1,7 @@
-use Prim.Native.Nat.{ℕ, ◌-◌, ◌≤◌}
-use native.Mathlib.Omega.{arith}
-use mathlib.Core.Path.{◌≡◌, subst}
+use Prim.Native.Nat.{◌-◌, ◌≤◌}
 use lib.ListN.{length}
-use borrow.Author.Rules.{rules}
-use Rattle.lists.specs.Lowest.{Lowest, is_lowest}
-use Rattle.audits.specs.Kernel.{another, position_to, first-none, one_more}
+use Rattle.lists.specs.Lowest.{Lowest}
+use Rattle.audits.specs.Kernel.{position_to}
 use Rattle.audits.proofs.kernel.first_position.Given as goal
 
 abbrev pub invariant-loop-i : goal.invariant-loop-i

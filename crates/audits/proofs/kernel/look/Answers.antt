@@ -1,5 +1,4 @@
 use mathlib.Core.Path.{sym, ◌∙◌}
-use borrow.Author.Rules.{rules}
 use Rattle.audits.specs.Kernel.{look-seen, look-unseen}
 use Rattle.audits.proofs.kernel.look.Goals as goal
 

@@ -1,4 +1,4 @@
-use Prim.Native.Nat.{ℕ, ◌-◌, ◌≤◌, ◌<◌}
+use Prim.Native.Nat.{ℕ, ◌≤◌, ◌<◌}
 use mathlib.Core.Path.{ap, ◌∙◌, subst}
 use borrow.Author.Rules.{rules}
 use Rattle.lists.specs.Digits.{times_power}
@@ -6,7 +6,7 @@ use Rattle.tables.specs.Limits.{limit2}
 use Rattle.tables.specs.Compact.{ShiftTables, shift_tables, shifts_of}
 use Rattle.places.specs.Permutations.{perms2}
 use Rattle.audits.specs.declared.Audit.TheVariants.{Unlike}
-use Rattle.audits.specs.Blocks.{AlikeTo, fits_w, passed-w, some-w, found-w, all-passed}
+use Rattle.audits.specs.Blocks.{fits_w, passed-w, some-w, found-w, all-passed}
 use Rattle.audits.specs.Guard.{block-count}
 use Rattle.audits.specs.SecondScanLaws.{in9, orders}
 use Rattle.audits.proofs.second.scan.Goals as goal

@@ -1,6 +1,5 @@
 use Rattle.tables.specs.Compact.{ShiftTables, shift_tables}
 use Rattle.capi_cells.specs.Explained.{call_wrong, call_told}
-use borrow.Author.Rules.{rules}
 use Rattle.capi_cells.proofs.capi_explaining.gf_explain_shift_tables.Goals as goal
 
 pub returns-then-place-ne5 : goal.returns-then-place-ne5

@@ -3,7 +3,6 @@ use mathlib.Core.Path.{ap, ◌∙◌}
 use mathlib.Core.List.{◌∷◌, []}
 use lib.ListN.{length-set}
 use Rattle.capi_cells.specs.Explained.{slots_of, five_slots}
-use borrow.Author.Rules.{rules}
 use Rattle.capi_cells.proofs.capi_explaining.put.Goals as goal
 
 pub bounds-place-4 : goal.bounds-place-4

@@ -1,6 +1,5 @@
 use mathlib.Core.Path.{sym, ◌∙◌}
 use lib.ListN.{length}
-use borrow.Author.Rules.{rules}
 use Rattle.capi_cells.specs.Cells.{nine-and-three}
 use Rattle.capi_cells.specs.Finding.{found, above, wrong}
 use Rattle.capi_cells.proofs.capi_finding.gf_find_permutation.Goals as goal

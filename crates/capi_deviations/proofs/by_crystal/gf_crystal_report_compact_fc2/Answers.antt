@@ -1,7 +1,6 @@
 use mathlib.Core.Path.{sym, ap, ◌∙◌}
 use mathlib.Core.List.{[], ◌∷◌}
 use lib.ListN.{length}
-use borrow.Author.Rules.{rules}
 use Rattle.tables.specs.Limits.{limit2}
 use Rattle.tables.specs.Conditions.{any_above}
 use Rattle.capi_deviations.specs.Slots.{row_length, report_slots, fits, either_above, call_given, call_wrong}

@@ -1,5 +1,4 @@
 use native.Mathlib.Omega.{arith}
-use borrow.Author.Rules.{rules}
 use Rattle.capi_fc2.specs.Replace.{called, above, wrong}
 use Rattle.capi_fc2.proofs.sums.gf_replace_block_fc2.Goals as goal
 

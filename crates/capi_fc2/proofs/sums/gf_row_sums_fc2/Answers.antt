@@ -1,4 +1,3 @@
-use borrow.Author.Rules.{rules}
 use Rattle.tables.specs.Numbered.{by_number}
 use Rattle.capi_fc2.proofs.sums.gf_row_sums_fc2.Goals as goal
 

@@ -1,7 +1,6 @@
 use mathlib.Core.Path.{sym, ◌∙◌}
 use lib.ListN.{length}
-use borrow.Author.Rules.{rules}
-use Rattle.capi_reports.specs.Told.{audit_slots, fits, call_told, call_wrong}
+use Rattle.capi_reports.specs.Told.{fits, call_told, call_wrong}
 use Rattle.capi_reports.proofs.auditing.gf_audit_compact_fc3.Goals as goal
 
 pub told-requires : goal.told-requires

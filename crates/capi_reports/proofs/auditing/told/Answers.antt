@@ -1,4 +1,3 @@
-use borrow.Author.Rules.{rules}
 use Rattle.capi_reports.specs.Told.{put-alike, put_unlike, put_refused}
 use Rattle.capi_reports.proofs.auditing.told.Goals as goal
 
@@ -8,11 +7,9 @@ returns-in-Alike c = let a = c.args in put-alike a.place.now a.numbers.now a.a c
 pub returns-in-Unlike : goal.returns-in-Unlike
 returns-in-Unlike c =
     let a = c.args in
-    let (q, e) = c.a-1.given in
-    put_unlike a.place.now a.numbers.now a.a q.0 c.requires e
+    put_unlike a.place.now a.numbers.now a.a c.in-Unlike.d c.requires c.in-Unlike.is
 
 pub returns-in-Refused : goal.returns-in-Refused
 returns-in-Refused c =
     let a = c.args in
-    let (q, e) = c.a-in-Refused-1.given in
-    put_refused a.place.now a.numbers.now a.a q.0 c.refusal_number.result e c.refusal_number.ensures
+    put_refused a.place.now a.numbers.now a.a c.in-Refused.r c.refusal_number.result c.in-Refused.is c.refusal_number.ensures

@@ -3,7 +3,6 @@ use lib.ListN.{length}
 use Rattle.tables.specs.Compact.{ShiftTables, shift_tables}
 use Rattle.capi_fc2.specs.Drift.{fits}
 use Rattle.capi_reports.specs.Drifts.{compact_told, compact_wrong}
-use borrow.Author.Rules.{rules}
 use Rattle.capi_reports.proofs.drifts.gf_drift_report_compact_fc2.Goals as goal
 
 pub report-requires : goal.report-requires

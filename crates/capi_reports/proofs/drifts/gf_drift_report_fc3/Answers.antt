@@ -1,7 +1,6 @@
 use mathlib.Core.Path.{sym, ◌∙◌}
 use lib.ListN.{length}
 use Rattle.capi_reports.specs.Drifts.{leg_fits, leg-told, leg-wrong}
-use borrow.Author.Rules.{rules}
 use Rattle.capi_reports.proofs.drifts.gf_drift_report_fc3.Goals as goal
 
 pub leg_report-requires : goal.leg_report-requires

@@ -1,4 +1,3 @@
-use borrow.Author.Rules.{rules}
 use Rattle.tables.specs.Numbered.{by_number}
 use Rattle.capi_reports.proofs.full.gf_compact_to_full_fc3.Goals as goal
 

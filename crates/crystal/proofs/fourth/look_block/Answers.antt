@@ -1,8 +1,7 @@
 use native.Mathlib.Omega.{arith}
-use mathlib.Core.Path.{ap, ap₂, sym, ◌∙◌}
-use Prim.Native.Nat.{ℕ, ◌+◌, ◌<◌}
+use mathlib.Core.Path.{ap, ap₂, ◌∙◌}
 use lib.ListN.{length}
-use Rattle.blocks.specs.Block.{block, length-block}
+use Rattle.blocks.specs.Block.{length-block}
 use Rattle.rotations.specs.Rotation.{rotated}
 use Rattle.rotations.specs.Laws.{rotated_by}
 use Rattle.reports.specs.Loops.{look_differences}

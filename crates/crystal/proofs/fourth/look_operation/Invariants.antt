@@ -1,21 +1,12 @@
-use Prim.Native.Nat.{ℕ, ◌+◌, ◌*◌, ◌-◌, ◌≤◌, ◌<◌}
-use native.Mathlib.Omega.{arith}
-use mathlib.Core.Path.{◌≡◌, sym, ap, ap₂, ◌∙◌, subst}
+use Prim.Native.Nat.{◌-◌, ◌≤◌}
+use mathlib.Core.Path.{◌≡◌}
 use mathlib.Core.List.{List}
-use lib.Dec.{lit≤}
-use lib.ListN.{length}
 use lib.Ieee.{Float}
-use Rattle.lists.specs.Tab.{times, times_none, times_more}
-use Rattle.lists.specs.Digits.{times_power}
+use Rattle.lists.specs.Tab.{times}
 use Rattle.blocks.specs.Block.{block}
-use Rattle.tables.specs.Limits.{limit4}
-use Rattle.tables.specs.Compact.{ShiftTables, shift_tables, shifts_of}
-use Rattle.places.specs.Places.{size}
+use Rattle.tables.specs.Compact.{shift_tables, shifts_of}
 use Rattle.rotations.specs.Rotation.{coefficients}
-use Rattle.audits.specs.Guard.{block-count, block_inside, few-numbers}
-use Rattle.audits.specs.FourthScanLaws.{in81}
-use Rattle.crystal.specs.Laws.{block_seen, operation_seen, look_is, image-inside, few_index}
-use borrow.Author.Rules.{rules}
+use Rattle.crystal.specs.Laws.{block_seen}
 use Rattle.crystal.proofs.fourth.look_operation.Given as goal
 
 abbrev pub invariant-loop-b : goal.invariant-loop-b

@@ -1,5 +1,4 @@
-use borrow.Author.Rules.{rules}
-use Rattle.audits.specs.Guard.{counted, part-counted, part-noughts}
+use Rattle.audits.specs.Guard.{part-counted, part-noughts}
 use Rattle.crystal.proofs.fourth.scan_full.Goals as goal
 
 pub scan-requires : goal.scan-requires

@@ -9,7 +9,6 @@ use Rattle.audits.specs.Guard.{ready-whole}
 use Rattle.reports.specs.declared.ReportAnswer.TheVariants.{Given}
 use Rattle.crystal.specs.Crystal.{earlier, judged_operations}
 use Rattle.crystal.specs.Laws.{both-done, operating, whole-set-few, full-given, full-refused}
-use borrow.Author.Rules.{rules}
 use Rattle.crystal.proofs.second.crystal_report_fc2.Goals as goal
 
 pub judge_full-s-requires : goal.judge_full-s-requires

@@ -1,10 +1,9 @@
 use Prim.Native.Nat.{◌+◌, ◌*◌, ◌<◌}
 use native.Mathlib.Nat.{mod-lt}
-use mathlib.Core.Path.{◌≡◌, ap, ◌∙◌}
+use mathlib.Core.Path.{ap, ◌∙◌}
 use Rattle.tables.specs.Conditions.{index_at}
 use Rattle.tables.specs.Compact.{ShiftTables, shift_tables}
 use Rattle.crystal.specs.SecondImages as images
-use borrow.Author.Rules.{rules}
 use Rattle.crystal.proofs.second.image_block.Goals as goal
 
 pub column_of-requires : goal.column_of-requires

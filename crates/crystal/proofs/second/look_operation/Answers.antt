@@ -1,21 +1,17 @@
-use Prim.Native.Nat.{ℕ, ◌+◌, ◌*◌, ◌-◌, ◌≤◌, ◌<◌}
+use Prim.Native.Nat.{ℕ, ◌+◌, ◌*◌, ◌<◌}
 use native.Mathlib.Omega.{arith}
-use mathlib.Core.Path.{◌≡◌, sym, ap, ap₂, ◌∙◌, subst}
-use mathlib.Core.List.{List}
+use mathlib.Core.Path.{◌≡◌, ap, ap₂, ◌∙◌, subst}
 use lib.Dec.{lit≤}
 use lib.ListN.{length}
-use lib.Ieee.{Float}
 use Rattle.lists.specs.Tab.{times, times_none, times_more}
 use Rattle.lists.specs.Digits.{times_power}
 use Rattle.blocks.specs.Block.{block}
 use Rattle.tables.specs.Limits.{limit2}
 use Rattle.tables.specs.Compact.{ShiftTables, shift_tables, shifts_of}
 use Rattle.places.specs.Places.{size}
-use Rattle.rotations.specs.Rotation.{coefficients}
 use Rattle.audits.specs.Guard.{block-count, block_inside, few-numbers}
 use Rattle.audits.specs.SecondScanLaws.{in9}
 use Rattle.crystal.specs.Laws.{block_seen, operation_seen, look_is, image-inside, few_index}
-use borrow.Author.Rules.{rules}
 use Rattle.crystal.proofs.second.look_operation.Goals as goal
 
 zero_more : (x : ℕ) → x + 0 ≡ x

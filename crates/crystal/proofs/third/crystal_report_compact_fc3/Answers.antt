@@ -8,7 +8,6 @@ use Rattle.audits.specs.Guard.{ready_compact}
 use Rattle.reports.specs.declared.ReportAnswer.TheVariants.{Given}
 use Rattle.crystal.specs.Crystal.{earlier, judged_operations}
 use Rattle.crystal.specs.Laws.{both-done, operating, set-few, compact_given, compact_refused}
-use borrow.Author.Rules.{rules}
 use Rattle.crystal.proofs.third.crystal_report_compact_fc3.Goals as goal
 
 pub judge_set-s-requires : goal.judge_set-s-requires

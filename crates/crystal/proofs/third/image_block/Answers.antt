@@ -4,7 +4,6 @@ use mathlib.Core.Path.{◌≡◌, ap, ◌∙◌}
 use Rattle.tables.specs.Conditions.{index_at}
 use Rattle.tables.specs.Compact.{ShiftTables, shift_tables}
 use Rattle.crystal.specs.ThirdImages as images
-use borrow.Author.Rules.{rules}
 use Rattle.crystal.proofs.third.image_block.Goals as goal
 
 pub column_of-requires : goal.column_of-requires

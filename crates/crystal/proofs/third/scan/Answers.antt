@@ -1,15 +1,11 @@
-use Prim.Native.Nat.{ℕ, ◌*◌, ◌-◌, ◌≤◌, ◌<◌}
 use native.Mathlib.Omega.{arith}
-use mathlib.Core.Path.{◌≡◌, refl, ap, ◌∙◌}
-use lib.ListN.{length}
+use mathlib.Core.Path.{◌≡◌, ap, ◌∙◌}
 use Rattle.lists.specs.Tab.{times, times_none, times_more}
 use Rattle.lists.specs.Digits.{times_power}
-use Rattle.blocks.specs.Block.{block}
 use Rattle.tables.specs.Compact.{ShiftTables, shift_tables, shifts_of}
 use Rattle.rotations.specs.Rotation.{coefficients}
 use Rattle.audits.specs.ThirdScanLaws.{in27}
 use Rattle.crystal.specs.Laws.{operation_seen, operations_seen-w, sends, carts_inside}
-use borrow.Author.Rules.{rules}
 use Rattle.crystal.proofs.third.scan.Goals as goal
 
 pub loop-r-init : goal.loop-r-init

@@ -7,7 +7,6 @@ use Rattle.rotations.specs.Rotation.{coefficients, rotated}
 use Rattle.deltas.specs.RotateDelta.{Deltas, deltas_of, delta_source}
 use Rattle.deltas.specs.Rows.{spread, add_pair, source_of_one, spread_shares}
 use Rattle.deltas.specs.Guard.{Images, pair, target_inside, source-inside}
-use borrow.Author.Rules.{rules}
 use Rattle.deltas.proofs.fc2s.add_pair_fc2s.Goals as goal
 
 pub column_of-s-requires : goal.column_of-s-requires

@@ -1,6 +1,5 @@
-use Prim.Native.Nat.{◌-◌}
 use native.Mathlib.Omega.{arith}
-use Rattle.deltas.specs.Rows.{Changed, changed_none, changed_more, axpy-at, is_axpy}
+use Rattle.deltas.specs.Rows.{changed_none, changed_more, axpy-at, is_axpy}
 use borrow.Author.Rules.{rules}
 use Rattle.deltas.proofs.fc2s.axpy9.Goals as goal
 

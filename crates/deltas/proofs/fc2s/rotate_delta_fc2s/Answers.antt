@@ -3,7 +3,6 @@ use lib.Dec.{lit≤}
 use native.Mathlib.Nat.{le_refl}
 use Rattle.tables.specs.Answers.{is_done}
 use Rattle.deltas.specs.Guard.{ready, refused, done_call}
-use borrow.Author.Rules.{rules}
 use Rattle.deltas.proofs.fc2s.rotate_delta_fc2s.Goals as goal
 
 pub judge_deltas-a-requires : goal.judge_deltas-a-requires

@@ -1,12 +1,11 @@
 use mathlib.Core.Path.{◌≡◌, refl, ap₂, ◌∙◌}
-use Prim.Native.Nat.{◌*◌, ◌-◌, ◌≤◌}
+use Prim.Native.Nat.{◌*◌}
 use native.Mathlib.Omega.{arith}
 use lib.Dec.{lit<}
 use lib.ListN.{length}
 use Rattle.lists.specs.Tab.{times, times_none, times_more}
 use Rattle.deltas.specs.RotateDelta.{Deltas, deltas_of}
 use Rattle.deltas.specs.Rows.{add_pair, rows_all}
-use borrow.Author.Rules.{rules}
 use Rattle.deltas.proofs.fc2s.rotate_rows_fc2s.Goals as goal
 
 pub loop-i-init : goal.loop-i-init

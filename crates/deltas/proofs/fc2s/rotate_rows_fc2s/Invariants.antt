@@ -1,12 +1,9 @@
-use mathlib.Core.Path.{◌≡◌, refl, ap₂, ◌∙◌}
+use mathlib.Core.Path.{◌≡◌}
 use Prim.Native.Nat.{◌*◌, ◌-◌, ◌≤◌}
-use native.Mathlib.Omega.{arith}
-use lib.Dec.{lit<}
 use lib.ListN.{length}
-use Rattle.lists.specs.Tab.{times, times_none, times_more}
-use Rattle.deltas.specs.RotateDelta.{Deltas, deltas_of}
-use Rattle.deltas.specs.Rows.{add_pair, rows_all}
-use borrow.Author.Rules.{rules}
+use Rattle.lists.specs.Tab.{times}
+use Rattle.deltas.specs.RotateDelta.{deltas_of}
+use Rattle.deltas.specs.Rows.{add_pair}
 use Rattle.deltas.proofs.fc2s.rotate_rows_fc2s.Given as goal
 
 abbrev pub invariant-loop-i : goal.invariant-loop-i

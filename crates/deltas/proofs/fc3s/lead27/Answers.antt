@@ -1,5 +1,4 @@
 use Rattle.deltas.specs.Rows.{lead}
-use borrow.Author.Rules.{rules}
 use Rattle.deltas.proofs.fc3s.lead27.Goals as goal
 
 pub returns : goal.returns

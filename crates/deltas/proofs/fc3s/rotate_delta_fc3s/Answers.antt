@@ -3,7 +3,6 @@ use lib.Dec.{lit≤}
 use lib.Dec.{lit≤}
 use Rattle.tables.specs.Answers.{is_done}
 use Rattle.deltas.specs.Guard.{ready, refused, done_call}
-use borrow.Author.Rules.{rules}
 use Rattle.deltas.proofs.fc3s.rotate_delta_fc3s.Goals as goal
 
 pub judge_deltas-a-requires : goal.judge_deltas-a-requires

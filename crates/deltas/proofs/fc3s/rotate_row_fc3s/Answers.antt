@@ -1,12 +1,8 @@
 use mathlib.Core.Path.{◌≡◌, refl, ◌∙◌}
-use Prim.Native.Nat.{◌*◌, ◌-◌, ◌≤◌}
+use Prim.Native.Nat.{◌*◌}
 use native.Mathlib.Omega.{arith}
-use lib.ListN.{length}
-use Rattle.lists.specs.Tab.{times, times_none, times_more}
-use Rattle.deltas.specs.RotateDelta.{deltas_of}
-use Rattle.deltas.specs.Rows.{add_pair}
+use Rattle.lists.specs.Tab.{times_none, times_more}
 use Rattle.deltas.specs.Guard.{few}
-use borrow.Author.Rules.{rules}
 use Rattle.deltas.proofs.fc3s.rotate_row_fc3s.Goals as goal
 
 pub overflow_mul-n-end : goal.overflow_mul-n-end

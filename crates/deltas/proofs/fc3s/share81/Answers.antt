@@ -3,7 +3,6 @@ use Rattle.blocks.specs.Block.{put_block}
 use Rattle.rotations.specs.Rotation.{rotated}
 use Rattle.rotations.specs.Laws.{rotated_by}
 use Rattle.deltas.specs.Rows.{with_share, share}
-use borrow.Author.Rules.{rules}
 use Rattle.deltas.proofs.fc3s.share81.Goals as goal
 
 pub returns : goal.returns

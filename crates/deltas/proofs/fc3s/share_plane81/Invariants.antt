@@ -1,14 +1,11 @@
-use mathlib.Core.Path.{◌≡◌, refl, ◌∙◌}
+use mathlib.Core.Path.{◌≡◌}
 use mathlib.Core.List.{List}
-use Prim.Native.Nat.{ℕ, ◌+◌, ◌-◌, ◌*◌, ◌<◌, ◌≤◌}
-use native.Mathlib.Omega.{arith}
+use Prim.Native.Nat.{◌+◌, ◌-◌, ◌*◌, ◌≤◌}
 use lib.ListN.{length}
 use lib.Ieee.{Float}
-use borrow.Author.Rules.{rules}
-use Rattle.lists.specs.Tab.{times, times_none, times_more}
+use Rattle.lists.specs.Tab.{times}
 use Rattle.tables.specs.Conditions.{index_at}
 use Rattle.rotations.specs.Rotation.{coefficients, rotated}
-use Rattle.blocks.specs.Inside.{inside-atom, inside-small}
 use Rattle.deltas.specs.Rows.{spread}
 use Rattle.deltas.proofs.fc3s.share_plane81.Given as goal
 

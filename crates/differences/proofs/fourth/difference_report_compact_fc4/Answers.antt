@@ -1,7 +1,6 @@
 use mathlib.Core.Path.{sym, ap, ◌∙◌}
 use lib.Dec.{lit≤}
 use lib.ListN.{length}
-use borrow.Author.Rules.{rules}
 use Rattle.tables.specs.Limits.{limit4}
 use Rattle.tables.specs.Compact.{shift_tables}
 use Rattle.places.specs.Permutations.{perms4}

@@ -1,17 +1,9 @@
-use Prim.Native.Nat.{ℕ, ◌-◌, ◌≤◌, ◌<◌}
-use native.Mathlib.Omega.{arith}
-use mathlib.Core.Path.{◌≡◌, ap, ◌∙◌, subst}
-use lib.Dec.{lit≤}
-use borrow.Author.Rules.{rules}
-use Rattle.lists.specs.Tab.{times, times_none, times_more}
-use Rattle.lists.specs.Digits.{times_power}
-use Rattle.tables.specs.Limits.{limit4}
-use Rattle.tables.specs.Compact.{ShiftTables, shift_tables, shifts_of}
+use Prim.Native.Nat.{◌-◌, ◌≤◌}
+use mathlib.Core.Path.{◌≡◌}
+use Rattle.lists.specs.Tab.{times}
+use Rattle.tables.specs.Compact.{shift_tables, shifts_of}
 use Rattle.places.specs.Permutations.{perms4}
-use Rattle.audits.specs.Blocks.{fits_w}
-use Rattle.audits.specs.Guard.{block-count, few-numbers}
-use Rattle.audits.specs.FourthScanLaws.{in81, orders}
-use Rattle.differences.specs.Laws.{block_seen, block_is, blocks-seen}
+use Rattle.differences.specs.Laws.{block_seen}
 use Rattle.differences.proofs.fourth.scan.Given as goal
 
 abbrev pub invariant-loop-b : goal.invariant-loop-b

@@ -4,7 +4,6 @@ use mathlib.Core.Path.{sym, ap, ◌∙◌}
 use mathlib.Core.List.{[]}
 use lib.Dec.{lit≤}
 use lib.ListN.{length}
-use borrow.Author.Rules.{rules}
 use Rattle.tables.specs.Full.{done_full}
 use Rattle.tables.specs.Limits.{limit3}
 use Rattle.places.specs.Permutations.{perms3}

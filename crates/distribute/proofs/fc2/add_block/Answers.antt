@@ -4,7 +4,6 @@ use Rattle.lines.specs.Sums3x3.{added}
 use Rattle.rotations.specs.Rotation.{rotated}
 use Rattle.rotations.specs.Laws.{rotated_by}
 use Rattle.distribute.specs.Fc2.{add_block}
-use borrow.Author.Rules.{rules}
 use Rattle.distribute.proofs.fc2.add_block.Goals as goal
 
 pub returns : goal.returns

@@ -1,14 +1,12 @@
 use mathlib.Core.Path.{◌≡◌, refl, ap, ◌∙◌}
-use Prim.Native.Nat.{◌+◌, ◌-◌, ◌*◌, ◌≤◌}
+use Prim.Native.Nat.{◌+◌, ◌*◌}
 use native.Mathlib.Omega.{arith}
-use lib.ListN.{length}
-use Rattle.lists.specs.Tab.{times, times_none, times_more}
+use Rattle.lists.specs.Tab.{times_none, times_more}
 use Rattle.blocks.specs.Block.{block}
 use Rattle.tables.specs.Conditions.{index_at}
 use Rattle.blocks.specs.Block9.{transposed9}
 use Rattle.rotations.specs.Rotation.{rotated, coefficients}
 use Rattle.distribute.specs.Fc2.{add_block, add_row}
-use borrow.Author.Rules.{rules}
 use Rattle.distribute.proofs.fc2.add_row.Goals as goal
 
 pub read9-r-requires : goal.read9-r-requires

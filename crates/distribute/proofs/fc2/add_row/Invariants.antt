@@ -1,14 +1,12 @@
-use mathlib.Core.Path.{◌≡◌, refl, ap, ◌∙◌}
+use mathlib.Core.Path.{◌≡◌}
 use Prim.Native.Nat.{◌+◌, ◌-◌, ◌*◌, ◌≤◌}
-use native.Mathlib.Omega.{arith}
 use lib.ListN.{length}
-use Rattle.lists.specs.Tab.{times, times_none, times_more}
+use Rattle.lists.specs.Tab.{times}
 use Rattle.blocks.specs.Block.{block}
 use Rattle.tables.specs.Conditions.{index_at}
 use Rattle.blocks.specs.Block9.{transposed9}
-use Rattle.rotations.specs.Rotation.{rotated, coefficients}
-use Rattle.distribute.specs.Fc2.{add_block, add_row}
-use borrow.Author.Rules.{rules}
+use Rattle.rotations.specs.Rotation.{rotated}
+use Rattle.distribute.specs.Fc2.{add_block}
 use Rattle.distribute.proofs.fc2.add_row.Given as goal
 
 abbrev pub invariant-loop-other : goal.invariant-loop-other

@@ -1,12 +1,10 @@
 use mathlib.Core.Path.{◌≡◌, sym, ap, ◌∙◌}
 use mathlib.Core.Bool.{false, not}
-use Prim.Native.Nat.{◌-◌, ◌≤◌}
 use native.Mathlib.Omega.{arith}
 use lib.ListN.{length}
-use Rattle.lists.specs.Tests.{some, some_of}
-use Rattle.distribute.specs.Fc2.{represented, bad_representative}
+use Rattle.lists.specs.Tests.{some_of}
+use Rattle.distribute.specs.Fc2.{bad_representative}
 use Rattle.distribute.specs.Fc2Laws.{none_yet, none_more}
-use borrow.Author.Rules.{rules}
 use Rattle.distribute.proofs.fc2.bad_representative.Goals as goal
 
 pub loop-i-init : goal.loop-i-init

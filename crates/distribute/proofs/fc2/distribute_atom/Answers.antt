@@ -2,7 +2,6 @@ use mathlib.Core.Path.{sym, ap, ◌∙◌, subst}
 use Prim.Native.Nat.{ℕ}
 use Rattle.tables.specs.Conditions.{index_at, Readable}
 use Rattle.distribute.specs.Fc2Laws.{read-todo, read_done, read_sym, read-todo-first, read-last, read-done-first, rows, atom-stays, atom-filled}
-use borrow.Author.Rules.{rules}
 use Rattle.distribute.proofs.fc2.distribute_atom.Goals as goal
 
 pub entry-atom_todo-requires : goal.entry-atom_todo-requires

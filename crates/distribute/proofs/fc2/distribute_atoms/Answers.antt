@@ -1,11 +1,9 @@
 use mathlib.Core.Path.{◌≡◌, refl, ◌∙◌}
-use Prim.Native.Nat.{◌-◌, ◌≤◌}
 use native.Mathlib.Omega.{arith}
 use lib.ListN.{length}
-use Rattle.lists.specs.Tab.{times, times_none, times_more}
+use Rattle.lists.specs.Tab.{times_none, times_more}
 use Rattle.distribute.specs.Fc2.{distribute_atom, distributed_fc2}
 use Rattle.distribute.specs.Fc2Laws.{ready-length}
-use borrow.Author.Rules.{rules}
 use Rattle.distribute.proofs.fc2.distribute_atoms.Goals as goal
 
 pub loop-i-init : goal.loop-i-init

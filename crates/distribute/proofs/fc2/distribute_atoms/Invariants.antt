@@ -1,11 +1,8 @@
-use mathlib.Core.Path.{◌≡◌, refl, ◌∙◌}
+use mathlib.Core.Path.{◌≡◌}
 use Prim.Native.Nat.{◌-◌, ◌≤◌}
-use native.Mathlib.Omega.{arith}
 use lib.ListN.{length}
-use Rattle.lists.specs.Tab.{times, times_none, times_more}
-use Rattle.distribute.specs.Fc2.{distribute_atom, distributed_fc2}
-use Rattle.distribute.specs.Fc2Laws.{ready-length}
-use borrow.Author.Rules.{rules}
+use Rattle.lists.specs.Tab.{times}
+use Rattle.distribute.specs.Fc2.{distribute_atom}
 use Rattle.distribute.proofs.fc2.distribute_atoms.Given as goal
 
 abbrev pub invariant-loop-i : goal.invariant-loop-i

@@ -3,7 +3,6 @@ use lib.IntN.{pos}
 use lib.ListN.{replicate}
 use Rattle.tables.specs.Answers.{is_done}
 use Rattle.distribute.specs.Fc2Laws.{ready, placing, refused, done_call}
-use borrow.Author.Rules.{rules}
 use Rattle.distribute.proofs.fc2.distribute_fc2.Goals as goal
 
 pub returns-then-is_refusal : goal.returns-then-is_refusal

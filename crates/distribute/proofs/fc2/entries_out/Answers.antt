@@ -2,7 +2,6 @@ use mathlib.Core.Bool.{true, false}
 use Rattle.tables.specs.Conditions.{out_of_range}
 use mathlib.Core.Path.{◌≡◌, sym, ◌∙◌}
 use Rattle.lists.specs.Tests.{not-not}
-use borrow.Author.Rules.{rules}
 use Rattle.distribute.proofs.fc2.entries_out.Goals as goal
 
 pub returns-then-not-all_below : goal.returns-then-not-all_below

@@ -2,7 +2,6 @@ use lib.ListN.{length}
 use Rattle.distribute.specs.Fc2.{Distribution}
 use mathlib.Core.Path.{refl, sym, ◌∙◌}
 use Rattle.distribute.specs.Fc2Laws.{counts-small, tables-fit, judged_is}
-use borrow.Author.Rules.{rules}
 use Rattle.distribute.proofs.fc2.judge_distribute_fc2.Goals as goal
 
 pub returns-then-counts_above : goal.returns-then-counts_above

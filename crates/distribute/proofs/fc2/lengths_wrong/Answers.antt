@@ -5,7 +5,6 @@ use native.Mathlib.Omega.{arith}
 use borrow.Author.Tests.{eq-eqb, ne_eqb}
 use Rattle.tables.specs.Lengths.{set_length2}
 use Rattle.distribute.specs.Fc2Laws.{product_small}
-use borrow.Author.Rules.{rules}
 use Rattle.distribute.proofs.fc2.lengths_wrong.Goals as goal
 
 pub overflow_mul-num_first : goal.overflow_mul-num_first

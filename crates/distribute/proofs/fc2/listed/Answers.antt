@@ -1,15 +1,11 @@
 use mathlib.Core.Path.{◌≡◌, sym, ◌∙◌}
 use mathlib.Core.Bool.{false}
-use Prim.Native.Nat.{◌-◌, ◌≤◌}
 use native.Mathlib.Omega.{arith}
-use lib.Dec.{eqb}
 use lib.ListN.{length}
 use borrow.Author.Tests.{eq-eqb, ne_eqb}
-use Rattle.lists.specs.Tests.{some, some_of}
-use Rattle.tables.specs.Conditions.{index_at}
+use Rattle.lists.specs.Tests.{some_of}
 use Rattle.distribute.specs.Fc2.{listed_atom}
 use Rattle.distribute.specs.Fc2Laws.{none_yet, none_more}
-use borrow.Author.Rules.{rules}
 use Rattle.distribute.proofs.fc2.listed.Goals as goal
 
 pub loop-i-init : goal.loop-i-init

@@ -2,13 +2,13 @@ use mir.Syntax.{w64}
 use mir.Val.{to_z, SFits}
 use mir.ValLaws.{to_z-of_z}
 use mathlib.Core.Path.{◌≡◌, refl}
-use Prim.Native.Nat.{◌-◌, ◌<◌, ◌≤◌}
+use Prim.Native.Nat.{◌<◌}
 use native.Mathlib.Omega.{arith}
 use lib.ListN.{length, length-set}
 use lib.IntN.{pos}
 use borrow.Author.Count.{below_none}
 use Rattle.tables.specs.Conditions.{read}
-use Rattle.distribute.specs.Fc2Laws.{Placed, placed-more}
+use Rattle.distribute.specs.Fc2Laws.{placed-more}
 use borrow.Author.Rules.{rules}
 use Rattle.distribute.proofs.fc2.place_atoms.Goals as goal
 

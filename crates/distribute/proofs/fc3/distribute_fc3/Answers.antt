@@ -2,7 +2,6 @@ use mathlib.Core.Path.{◌≡◌, sym, ap, ◌∙◌}
 use mathlib.Core.Bool.{false}
 use native.Mathlib.Omega.{arith}
 use lib.Dec.{lit≤}
-use borrow.Author.Rules.{rules}
 use Rattle.tables.specs.Answers.{is_refusal, is_done}
 use Rattle.tables.specs.Conditions.{read}
 use Rattle.tables.specs.Lengths.{set-blocks}
@@ -35,10 +34,13 @@ fill_slab-requires c =
     let e = c.judge_slabs-a.ensures in
     let r : is_refusal c.judge_slabs-a.result ≡ false = sym c.is_refusal.ensures ∙ c.if-is_refusal.false in
     let R = ready 256 2 _ _ _ _ _ _ _ (sym e ∙ is_done c.judge_slabs-a.result r) in
-    let l = R.set-length ∙ set-blocks a.num_first a.num_atom 2 in record { index_table = R.mapping_fit; blocks_in = (
+    let l = R.set-length ∙ set-blocks a.num_first a.num_atom 2 in record {
+      index_table = R.mapping_fit;
+      blocks_in = (
         inside_slab a.num_atom 27 2 a.target a.num_first _ R.target_below l,
         inside_slab a.num_atom 27 2 a.source a.num_first _ R.source-below l,
-      ) }
+      );
+    }
 
 pub returns : goal.returns
 returns c =

@@ -2,7 +2,6 @@ use mathlib.Core.Path.{ap, ◌∙◌}
 use Rattle.blocks.specs.Block.{put_block}
 use Rattle.rotations.specs.Rotation.{rotated}
 use Rattle.rotations.specs.Laws.{rotated_by}
-use borrow.Author.Rules.{rules}
 use Rattle.distribute.specs.Slab.{move_block}
 use Rattle.distribute.proofs.fc3.fill_block.Goals as goal
 

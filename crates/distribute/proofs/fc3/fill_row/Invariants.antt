@@ -1,15 +1,12 @@
-use mathlib.Core.Path.{◌≡◌, refl, ◌∙◌}
+use mathlib.Core.Path.{◌≡◌}
 use mathlib.Core.List.{List}
-use Prim.Native.Nat.{◌+◌, ◌-◌, ◌*◌, ◌<◌, ◌≤◌}
-use native.Mathlib.Omega.{arith}
+use Prim.Native.Nat.{◌+◌, ◌-◌, ◌*◌, ◌≤◌}
 use lib.ListN.{length}
 use lib.Ieee.{Float}
-use borrow.Author.Rules.{rules}
-use Rattle.lists.specs.Tab.{times, times_none, times_more}
-use Rattle.tables.specs.Conditions.{index_at, read}
+use Rattle.lists.specs.Tab.{times}
+use Rattle.tables.specs.Conditions.{index_at}
 use Rattle.rotations.specs.Rotation.{coefficients, rotated}
 use Rattle.distribute.specs.Slab.{move}
-use Rattle.blocks.specs.Inside.{inside-atom, inside-block, inside-small}
 use Rattle.distribute.proofs.fc3.fill_row.Given as goal
 
 abbrev pub invariant-loop-i : goal.invariant-loop-i

@@ -12,7 +12,6 @@ use Rattle.tables.specs.Lengths.{set_length}
 use mathlib.Core.Path.{sym, ◌∙◌}
 use borrow.Author.Tests.{lt-ltb, le-ltb, le-leb, lt-leb, eq-eqb, ne_eqb, not-true, not-false}
 use Rattle.distribute.specs.Slab.{judged_slabs}
-use borrow.Author.Rules.{rules}
 use Rattle.distribute.proofs.slabs.judge_slabs.Goals as goal
 
 -- the two facts that edits of the tests for them break

@@ -6,7 +6,6 @@ use Rattle.tables.specs.Compact.{ShiftTables, shift_tables}
 use Rattle.drift.specs.declared.DriftAnswer.TheVariants.{Report}
 use Rattle.audits.specs.Guard.{ready_compact}
 use Rattle.drift.specs.CompactLaws.{held, report-refused, report-done}
-use borrow.Author.Rules.{rules}
 use Rattle.drift.proofs.compact.drift_report_compact_fc2.Goals as goal
 
 pub judge_set-a-requires : goal.judge_set-a-requires

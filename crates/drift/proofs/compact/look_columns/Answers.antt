@@ -1,14 +1,11 @@
-use Prim.Native.Nat.{◌+◌, ◌-◌, ◌≤◌}
+use Prim.Native.Nat.{◌+◌}
 use native.Mathlib.Omega.{arith}
 use mathlib.Core.Path.{◌≡◌, sym, ap, ◌∙◌}
-use mathlib.Core.Logic.{⊎_elim}
-use Rattle.lists.specs.Tab.{times, times_none, times_more}
-use Rattle.places.specs.ReadOuts.{stored_in}
+use Rattle.lists.specs.Tab.{times_none, times_more}
 use Rattle.drift.specs.Loops.{look_line}
 use Rattle.drift.specs.Laws.{line_calm}
-use Rattle.drift.specs.CompactLaws.{column_sums, look_compact_columns}
-use borrow.Author.Tests.{not-false}
-use borrow.Author.Rules.{rules}
+use Rattle.drift.specs.CompactLaws.{look_compact_columns}
+use Rattle.drift.proofs.compact.look_columns.Goals.{then-not-calm, else-not-calm}
 use Rattle.drift.proofs.compact.look_columns.Goals as goal
 
 pub loop-j-init : goal.loop-j-init
@@ -28,10 +25,10 @@ loop-j-preserved c =
     let l = c.loop-j in
     let a = c.args in
     let f : c.if-not-calm.seen ≡ look_line (a.n + l.j) c.column_sums-s.result l.seen =
-    ⊎_elim
-    (λ w. w.2 ∙ w.1.ensures)
-    (λ w. w.1 ∙ line_calm (a.n + l.j) c.column_sums-s.result l.seen (sym c.calm.ensures ∙ not-false c.calm.result w.0.left))
-    c.if-not-calm.branch in
+    elim c.if-not-calm.branch [
+      | then-not-calm w ↦ w.seen-is ∙ w.look_line-more.ensures
+      | else-not-calm w ↦ w.seen-is ∙ line_calm (a.n + l.j) c.column_sums-s.result l.seen (sym c.calm.ensures ∙ w.if-not-calm.false)
+    ] in
     (omega arith, times_more l.j _ _ l.invariant.1 (f ∙ ap (λ s. look_line (a.n + l.j) s l.seen) c.column_sums-s.ensures))
 
 pub returns : goal.returns

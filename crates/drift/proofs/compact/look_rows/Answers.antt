@@ -1,14 +1,10 @@
-use Prim.Native.Nat.{◌-◌, ◌≤◌}
 use native.Mathlib.Omega.{arith}
 use mathlib.Core.Path.{◌≡◌, sym, ap, ◌∙◌}
-use mathlib.Core.Logic.{⊎_elim}
-use Rattle.lists.specs.Tab.{times, times_none, times_more}
-use Rattle.places.specs.ReadOuts.{stored_in}
+use Rattle.lists.specs.Tab.{times_none, times_more}
 use Rattle.drift.specs.Loops.{look_line}
 use Rattle.drift.specs.Laws.{line_calm}
-use Rattle.drift.specs.CompactLaws.{compact_row_sums, look_rows}
-use borrow.Author.Tests.{not-false}
-use borrow.Author.Rules.{rules}
+use Rattle.drift.specs.CompactLaws.{look_rows}
+use Rattle.drift.proofs.compact.look_rows.Goals.{then-not-calm, else-not-calm}
 use Rattle.drift.proofs.compact.look_rows.Goals as goal
 
 pub loop-i-init : goal.loop-i-init
@@ -25,10 +21,10 @@ loop-i-preserved c =
     let l = c.loop-i in
     let a = c.args in
     let f : c.if-not-calm.seen ≡ look_line l.i c.row_sums-s.result l.seen =
-    ⊎_elim
-    (λ w. w.2 ∙ w.1.ensures)
-    (λ w. w.1 ∙ line_calm l.i c.row_sums-s.result l.seen (sym c.calm.ensures ∙ not-false c.calm.result w.0.left))
-    c.if-not-calm.branch in
+    elim c.if-not-calm.branch [
+      | then-not-calm w ↦ w.seen-is ∙ w.look_line-more.ensures
+      | else-not-calm w ↦ w.seen-is ∙ line_calm l.i c.row_sums-s.result l.seen (sym c.calm.ensures ∙ w.if-not-calm.false)
+    ] in
     (omega arith, times_more l.i _ _ l.invariant.1 (f ∙ ap (λ s. look_line l.i s l.seen) c.row_sums-s.ensures))
 
 pub returns : goal.returns

@@ -1,14 +1,9 @@
 use Prim.Native.Nat.{◌-◌, ◌≤◌}
-use native.Mathlib.Omega.{arith}
-use mathlib.Core.Path.{◌≡◌, sym, ap, ◌∙◌}
-use mathlib.Core.Logic.{⊎_elim}
-use Rattle.lists.specs.Tab.{times, times_none, times_more}
+use mathlib.Core.Path.{◌≡◌}
+use Rattle.lists.specs.Tab.{times}
 use Rattle.places.specs.ReadOuts.{stored_in}
 use Rattle.drift.specs.Loops.{look_line}
-use Rattle.drift.specs.Laws.{line_calm}
-use Rattle.drift.specs.CompactLaws.{compact_row_sums, look_rows}
-use borrow.Author.Tests.{not-false}
-use borrow.Author.Rules.{rules}
+use Rattle.drift.specs.CompactLaws.{compact_row_sums}
 use Rattle.drift.proofs.compact.look_rows.Given as goal
 
 abbrev pub invariant-loop-i : goal.invariant-loop-i

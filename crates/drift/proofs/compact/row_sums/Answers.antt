@@ -1,13 +1,9 @@
-use Prim.Native.Nat.{◌-◌, ◌≤◌}
 use native.Mathlib.Omega.{arith}
 use mathlib.Core.Path.{◌≡◌, ap, ◌∙◌}
-use mathlib.Core.List.{[], ◌∷◌}
-use Rattle.lists.specs.Tab.{times, times_none, times_more}
+use Rattle.lists.specs.Tab.{times_none, times_more}
 use Rattle.blocks.specs.Block.{block}
 use Rattle.lines.specs.Sums3x3.{more}
-use Rattle.places.specs.ReadOuts.{stored_in}
 use Rattle.drift.specs.CompactLaws.{compact_row_sums}
-use borrow.Author.Rules.{rules}
 use Rattle.drift.proofs.compact.row_sums.Goals as goal
 
 pub loop-j-init : goal.loop-j-init

@@ -1,13 +1,10 @@
 use Prim.Native.Nat.{◌-◌, ◌≤◌}
-use native.Mathlib.Omega.{arith}
-use mathlib.Core.Path.{◌≡◌, ap, ◌∙◌}
+use mathlib.Core.Path.{◌≡◌}
 use mathlib.Core.List.{[], ◌∷◌}
-use Rattle.lists.specs.Tab.{times, times_none, times_more}
+use Rattle.lists.specs.Tab.{times}
 use Rattle.blocks.specs.Block.{block}
 use Rattle.lines.specs.Sums3x3.{more}
 use Rattle.places.specs.ReadOuts.{stored_in}
-use Rattle.drift.specs.CompactLaws.{compact_row_sums}
-use borrow.Author.Rules.{rules}
 use Rattle.drift.proofs.compact.row_sums.Given as goal
 
 abbrev pub invariant-loop-j : goal.invariant-loop-j

@@ -1,7 +1,6 @@
 use mathlib.Core.Path.{ap, ◌∙◌}
 use Rattle.places.specs.ReadOuts.{stored_in}
 use Rattle.drift.specs.CompactLaws.{look_rows, look_compact_columns}
-use borrow.Author.Rules.{rules}
 use Rattle.drift.proofs.compact.scan.Goals as goal
 
 pub look_rows-rows-requires : goal.look_rows-rows-requires

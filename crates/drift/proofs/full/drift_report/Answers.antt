@@ -2,7 +2,6 @@ use Rattle.drift.specs.Laws.{sized, report-refused, report-done}
 use Rattle.drift.specs.declared.DriftAnswer.TheVariants.{Report}
 use mathlib.Core.Path.{sym, ap, ◌∙◌}
 use lib.Dec.{lit≤}
-use borrow.Author.Rules.{rules}
 use Rattle.drift.proofs.full.drift_report.Goals as goal
 
 pub judge_full-a-requires : goal.judge_full-a-requires

@@ -1,14 +1,12 @@
-use Prim.Native.Nat.{◌+◌, ◌*◌, ◌-◌, ◌≤◌}
+use Prim.Native.Nat.{◌+◌, ◌*◌}
 use native.Mathlib.Omega.{arith}
 use mathlib.Core.Path.{◌≡◌, sym, ap, ◌∙◌}
-use Rattle.lists.specs.Tab.{times, times_none, times_more}
+use Rattle.lists.specs.Tab.{times_none, times_more}
 use Rattle.lines.specs.Sums3x3.{zeros}
 use Rattle.lines.specs.Lines.{line_sums}
 use Rattle.drift.specs.Loops.{look_line, look_lines}
-use mathlib.Core.Logic.{⊎_elim}
-use borrow.Author.Tests.{not-false}
 use Rattle.drift.specs.Laws.{line_calm}
-use borrow.Author.Rules.{rules}
+use Rattle.drift.proofs.full.look_lines.Goals.{then-not-calm, else-not-calm}
 use Rattle.drift.proofs.full.look_lines.Goals as goal
 
 pub loop-i-init : goal.loop-i-init
@@ -36,10 +34,10 @@ loop-i-preserved c =
     let a = c.args in
     let e : c.index_of.result ≡ l.i * a.apart = omega (arith, c.index_of.ensures) in
     let f : c.if-not-calm.seen ≡ look_line (a.first + l.i) c.line_sums-s.result l.seen =
-    ⊎_elim
-    (λ w. w.2 ∙ w.1.ensures)
-    (λ w. w.1 ∙ line_calm (a.first + l.i) c.line_sums-s.result l.seen (sym c.calm.ensures ∙ not-false c.calm.result w.0.left))
-    c.if-not-calm.branch in
+    elim c.if-not-calm.branch [
+      | then-not-calm w ↦ w.seen-is ∙ w.look_line-more.ensures
+      | else-not-calm w ↦ w.seen-is ∙ line_calm (a.first + l.i) c.line_sums-s.result l.seen (sym c.calm.ensures ∙ w.if-not-calm.false)
+    ] in
     (omega arith, times_more l.i _ _ l.invariant.1 (f ∙ ap (λ s. look_line (a.first + l.i) s l.seen) (c.line_sums-s.ensures ∙ ap (λ b. line_sums b a.step a.n a.fc.now zeros) e)))
 
 pub returns : goal.returns

@@ -1,14 +1,9 @@
 use Prim.Native.Nat.{◌+◌, ◌*◌, ◌-◌, ◌≤◌}
-use native.Mathlib.Omega.{arith}
-use mathlib.Core.Path.{◌≡◌, sym, ap, ◌∙◌}
-use Rattle.lists.specs.Tab.{times, times_none, times_more}
+use mathlib.Core.Path.{◌≡◌}
+use Rattle.lists.specs.Tab.{times}
 use Rattle.lines.specs.Sums3x3.{zeros}
 use Rattle.lines.specs.Lines.{line_sums}
-use Rattle.drift.specs.Loops.{look_line, look_lines}
-use mathlib.Core.Logic.{⊎_elim}
-use borrow.Author.Tests.{not-false}
-use Rattle.drift.specs.Laws.{line_calm}
-use borrow.Author.Rules.{rules}
+use Rattle.drift.specs.Loops.{look_line}
 use Rattle.drift.proofs.full.look_lines.Given as goal
 
 abbrev pub invariant-loop-i : goal.invariant-loop-i

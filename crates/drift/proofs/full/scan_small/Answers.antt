@@ -2,7 +2,6 @@ use native.Mathlib.Omega.{arith}
 use mathlib.Core.Path.{ap, ◌∙◌}
 use Rattle.drift.specs.Loops.{look_lines, scanned}
 use Rattle.drift.specs.Rows.{rows_stand, columns_stand}
-use borrow.Author.Rules.{rules}
 use Rattle.drift.proofs.full.scan_small.Goals as goal
 
 pub look_lines-rows-requires : goal.look_lines-rows-requires

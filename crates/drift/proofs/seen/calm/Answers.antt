@@ -1,4 +1,4 @@
-use Prim.Native.Nat.{ℕ, ◌-◌, ◌≤◌, ◌<◌}
+use Prim.Native.Nat.{ℕ}
 use native.Mathlib.Omega.{arith}
 use mathlib.Core.Bool.{Bool, true}
 use mathlib.Core.Path.{◌≡◌, sym, ◌∙◌}
@@ -7,7 +7,6 @@ use Rattle.lines.specs.Sums3x3.{sum_in}
 use Rattle.reports.specs.Floats.{at_most}
 use borrow.Author.Tests.{not-false, not-true}
 use borrow.Author.Count.{below_more}
-use borrow.Author.Rules.{rules}
 use Rattle.drift.proofs.seen.calm.Goals as goal
 
 pub loop-p-init : goal.loop-p-init

@@ -1,11 +1,7 @@
-use Prim.Native.Nat.{◌+◌, ◌*◌, ◌-◌, ◌≤◌}
 use native.Mathlib.Omega.{arith}
 use mathlib.Core.Path.{◌≡◌, ◌∙◌}
-use Rattle.lists.specs.Tab.{times, times_none, times_more}
-use Rattle.lines.specs.Sums3x3.{sum_in}
+use Rattle.lists.specs.Tab.{times_none, times_more}
 use Rattle.drift.specs.Loops.{look_line}
-use Rattle.reports.specs.Loops.{look}
-use borrow.Author.Rules.{rules}
 use Rattle.drift.proofs.seen.look_line.Goals as goal
 
 pub loop-p-init : goal.loop-p-init

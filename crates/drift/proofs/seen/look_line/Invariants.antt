@@ -1,11 +1,8 @@
 use Prim.Native.Nat.{◌+◌, ◌*◌, ◌-◌, ◌≤◌}
-use native.Mathlib.Omega.{arith}
-use mathlib.Core.Path.{◌≡◌, ◌∙◌}
-use Rattle.lists.specs.Tab.{times, times_none, times_more}
+use mathlib.Core.Path.{◌≡◌}
+use Rattle.lists.specs.Tab.{times}
 use Rattle.lines.specs.Sums3x3.{sum_in}
-use Rattle.drift.specs.Loops.{look_line}
 use Rattle.reports.specs.Loops.{look}
-use borrow.Author.Rules.{rules}
 use Rattle.drift.proofs.seen.look_line.Given as goal
 
 abbrev pub invariant-loop-p : goal.invariant-loop-p

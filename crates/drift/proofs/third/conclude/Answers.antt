@@ -1,5 +1,4 @@
 use mathlib.Core.Path.{◌∙◌}
-use borrow.Author.Rules.{rules}
 use Rattle.reports.specs.Seen.{conclude_none, conclude_still, conclude_worst}
 use Rattle.drift.specs.ThirdReport.{report_at3, still_report3}
 use Rattle.drift.proofs.third.conclude.Goals as goal

@@ -1,5 +1,4 @@
 use native.Mathlib.Omega.{arith}
-use borrow.Author.Rules.{rules}
 use Rattle.drift.specs.Lines.{first_nine}
 use Rattle.drift.proofs.third.first_nine.Goals as goal
 

@@ -1,15 +1,13 @@
-use Prim.Native.Nat.{◌+◌, ◌*◌, ◌-◌, ◌≤◌}
+use Prim.Native.Nat.{◌+◌, ◌*◌}
 use native.Mathlib.Omega.{arith}
 use mathlib.Core.Path.{◌≡◌, sym, ap, ◌∙◌}
-use mathlib.Core.Logic.{⊎_elim}
-use borrow.Author.Tests.{not-false}
-use borrow.Author.Rules.{rules}
-use Rattle.lists.specs.Tab.{times, times_none, times_more}
+use Rattle.lists.specs.Tab.{times_none, times_more}
 use Rattle.lines.specs.Sums3x3.{zeros}
 use Rattle.lines.specs.Lines.{line_sums}
 use Rattle.drift.specs.Loops.{look_line}
 use Rattle.drift.specs.Laws.{line_calm}
-use Rattle.drift.specs.Lines.{first_nine, look_leg, square, step_pos, line_in, first_small}
+use Rattle.drift.specs.Lines.{look_leg, square, step_pos, line_in, first_small}
+use Rattle.drift.proofs.third.look_leg.Goals.{then-not-calm, else-not-calm}
 use Rattle.drift.proofs.third.look_leg.Goals as goal
 
 pub overflow_mul-count : goal.overflow_mul-count
@@ -63,10 +61,10 @@ loop-e-preserved c =
     let l = c.loop-e in
     let a = c.args in
     let f : c.if-not-calm.seen ≡ look_line (a.from + l.e) c.line_sums-s.result l.seen =
-    ⊎_elim
-    (λ w. w.2 ∙ w.1.ensures)
-    (λ w. w.1 ∙ line_calm (a.from + l.e) c.line_sums-s.result l.seen (sym c.calm.ensures ∙ not-false c.calm.result w.0.left))
-    c.if-not-calm.branch in
+    elim c.if-not-calm.branch [
+      | then-not-calm w ↦ w.seen-is ∙ w.look_line-more.ensures
+      | else-not-calm w ↦ w.seen-is ∙ line_calm (a.from + l.e) c.line_sums-s.result l.seen (sym c.calm.ensures ∙ w.if-not-calm.false)
+    ] in
     (omega arith, times_more l.e _ _ l.invariant.1 (f ∙ ap (λ s. look_line (a.from + l.e) s l.seen) (c.line_sums-s.ensures ∙ ap (λ b. line_sums b (a.step * 3) a.n a.fc.now zeros) c.first_nine-first.ensures)))
 
 pub returns : goal.returns

@@ -1,15 +1,10 @@
 use Prim.Native.Nat.{◌+◌, ◌*◌, ◌-◌, ◌≤◌}
-use native.Mathlib.Omega.{arith}
-use mathlib.Core.Path.{◌≡◌, sym, ap, ◌∙◌}
-use mathlib.Core.Logic.{⊎_elim}
-use borrow.Author.Tests.{not-false}
-use borrow.Author.Rules.{rules}
-use Rattle.lists.specs.Tab.{times, times_none, times_more}
+use mathlib.Core.Path.{◌≡◌}
+use Rattle.lists.specs.Tab.{times}
 use Rattle.lines.specs.Sums3x3.{zeros}
 use Rattle.lines.specs.Lines.{line_sums}
 use Rattle.drift.specs.Loops.{look_line}
-use Rattle.drift.specs.Laws.{line_calm}
-use Rattle.drift.specs.Lines.{first_nine, look_leg, square, step_pos, line_in, first_small}
+use Rattle.drift.specs.Lines.{first_nine}
 use Rattle.drift.proofs.third.look_leg.Given as goal
 
 abbrev pub invariant-loop-e : goal.invariant-loop-e

@@ -1,4 +1,3 @@
-use borrow.Author.Rules.{rules}
 use Rattle.drift.proofs.third.report_at.Goals as goal
 
 pub column_of-second-requires : goal.column_of-second-requires

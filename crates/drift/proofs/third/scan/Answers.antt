@@ -1,7 +1,6 @@
 use Prim.Native.Nat.{◌*◌}
 use native.Mathlib.Omega.{arith}
 use mathlib.Core.Path.{ap, ◌∙◌}
-use borrow.Author.Rules.{rules}
 use Rattle.drift.specs.Lines.{look_leg, scanned3, square}
 use Rattle.drift.specs.ThirdLaws.{apart-third, apart-second, apart-first}
 use Rattle.drift.proofs.third.scan.Goals as goal

@@ -1,9 +1,8 @@
-use mathlib.Core.Path.{◌≡◌, sym, ap, ap₂, ◌∙◌}
+use mathlib.Core.Path.{ap, ◌∙◌}
 use lib.Dec.{eqb}
 use Rattle.tables.specs.Shifts.{p2s_at, s2pp_at}
 use Rattle.tables.specs.Compact.{ShiftTables, shift_tables, shifts_of, p2s_is, s2pp_is}
 use Rattle.explain.specs.Laws.{p2s-read, s2pp-read, p2s-below}
-use borrow.Author.Rules.{rules}
 use Rattle.explain.proofs.rules.comes_back.Goals as goal
 
 pub p2s_at-requires : goal.p2s_at-requires

@@ -1,12 +1,9 @@
-use mathlib.Core.Path.{◌≡◌, sym, ◌∙◌}
-use Prim.Native.Nat.{ℕ, ◌≤◌, ◌<◌, ◌-◌}
+use mathlib.Core.Path.{sym, ◌∙◌}
 use native.Mathlib.Omega.{arith}
 use borrow.Author.Count.{below_none, below_more}
 use mathlib.Core.Bool.{false}
-use Rattle.tables.specs.Shifts.{Shifts, is_after}
-use Rattle.tables.specs.Compact.{shift_tables, shifts_of}
+use Rattle.tables.specs.Shifts.{is_after}
 use Rattle.tables.proofs.Loops.{one-passed, all_failed}
-use borrow.Author.Rules.{rules}
 use Rattle.explain.proofs.rules.has_after.Goals as goal
 
 pub loop-v-init : goal.loop-v-init

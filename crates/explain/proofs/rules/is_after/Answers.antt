@@ -1,15 +1,12 @@
 use mathlib.Core.Path.{◌≡◌, sym, ap, ap₂, ◌∙◌}
-use Prim.Native.Nat.{ℕ, ◌≤◌, ◌<◌, ◌-◌}
 use native.Mathlib.Omega.{arith}
 use borrow.Author.Count.{below_none, below_more}
 use mathlib.Core.Bool.{true}
-use borrow.Author.Tests.{not-true, not-false}
 use Rattle.tables.proofs.Loops.{all-passed, one_failed}
 use lib.Dec.{eqb}
-use Rattle.tables.specs.Shifts.{Shifts, row, is_after}
+use Rattle.tables.specs.Shifts.{row, is_after}
 use Rattle.tables.specs.Compact.{ShiftTables, shift_tables, shifts_of, perms_is}
 use Rattle.explain.specs.Laws.{perms-read, image-below}
-use borrow.Author.Rules.{rules}
 use Rattle.explain.proofs.rules.is_after.Goals as goal
 
 pub loop-a-init : goal.loop-a-init

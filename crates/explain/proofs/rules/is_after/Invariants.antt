@@ -1,15 +1,9 @@
-use mathlib.Core.Path.{◌≡◌, sym, ap, ap₂, ◌∙◌}
+use mathlib.Core.Path.{◌≡◌}
 use Prim.Native.Nat.{ℕ, ◌≤◌, ◌<◌, ◌-◌}
-use native.Mathlib.Omega.{arith}
-use borrow.Author.Count.{below_none, below_more}
 use mathlib.Core.Bool.{true}
-use borrow.Author.Tests.{not-true, not-false}
-use Rattle.tables.proofs.Loops.{all-passed, one_failed}
 use lib.Dec.{eqb}
-use Rattle.tables.specs.Shifts.{Shifts, row, is_after}
-use Rattle.tables.specs.Compact.{ShiftTables, shift_tables, shifts_of, perms_is}
-use Rattle.explain.specs.Laws.{perms-read, image-below}
-use borrow.Author.Rules.{rules}
+use Rattle.tables.specs.Shifts.{Shifts, row}
+use Rattle.tables.specs.Compact.{shift_tables, shifts_of}
 use Rattle.explain.proofs.rules.is_after.Given as goal
 
 abbrev pub invariant-loop-a : goal.invariant-loop-a

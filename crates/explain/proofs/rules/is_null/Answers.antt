@@ -1,15 +1,12 @@
-use mathlib.Core.Path.{◌≡◌, sym, ap, ◌∙◌}
-use Prim.Native.Nat.{ℕ, ◌≤◌, ◌<◌, ◌-◌}
+use mathlib.Core.Path.{sym, ap, ◌∙◌}
 use native.Mathlib.Omega.{arith}
 use borrow.Author.Count.{below_none, below_more}
 use mathlib.Core.Bool.{true}
-use borrow.Author.Tests.{not-true, not-false}
 use Rattle.tables.proofs.Loops.{all-passed, one_failed}
 use lib.Dec.{eqb}
-use Rattle.tables.specs.Shifts.{Shifts, row, is_null}
+use Rattle.tables.specs.Shifts.{is_null}
 use Rattle.tables.specs.Compact.{ShiftTables, shift_tables, shifts_of, perms_is}
 use Rattle.explain.specs.Laws.{perms-read}
-use borrow.Author.Rules.{rules}
 use Rattle.explain.proofs.rules.is_null.Goals as goal
 
 pub loop-a-init : goal.loop-a-init

@@ -1,9 +1,8 @@
-use mathlib.Core.Path.{◌≡◌, sym, ap, ap₂, ◌∙◌}
+use mathlib.Core.Path.{ap, ap₂, ◌∙◌}
 use lib.Dec.{eqb}
-use Rattle.tables.specs.Shifts.{row, s2pp_at}
+use Rattle.tables.specs.Shifts.{s2pp_at}
 use Rattle.tables.specs.Compact.{ShiftTables, shift_tables, shifts_of, perms_is, s2pp_is}
 use Rattle.explain.specs.Laws.{perms-read, image-below, s2pp-read}
-use borrow.Author.Rules.{rules}
 use Rattle.explain.proofs.rules.keeps_prim.Goals as goal
 
 pub perms_at-requires : goal.perms_at-requires

@@ -1,9 +1,8 @@
-use mathlib.Core.Path.{◌≡◌, sym, ap, ap₂, ◌∙◌}
+use mathlib.Core.Path.{◌≡◌, ap, ap₂, ◌∙◌}
 use lib.Dec.{eqb}
 use Rattle.tables.specs.Shifts.{row, p2s_at, s2pp_at, nsym_at}
 use Rattle.tables.specs.Compact.{ShiftTables, shift_tables, shifts_of, perms_is, p2s_is, s2pp_is, nsym_is}
 use Rattle.explain.specs.Laws.{perms-read, p2s-read, s2pp-read, nsym_read, s2pp-below, nsym_below}
-use borrow.Author.Rules.{rules}
 use Rattle.explain.proofs.rules.lands.Goals as goal
 
 pub nsym_at-t-requires : goal.nsym_at-t-requires

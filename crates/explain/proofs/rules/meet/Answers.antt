@@ -1,9 +1,7 @@
-use mathlib.Core.Path.{◌≡◌, sym, ap, ap₂, ◌∙◌}
+use mathlib.Core.Path.{ap₂, ◌∙◌}
 use lib.Dec.{eqb}
-use Rattle.tables.specs.Shifts.{row}
 use Rattle.tables.specs.Compact.{ShiftTables, shift_tables, shifts_of, perms_is}
 use Rattle.explain.specs.Laws.{perms-read}
-use borrow.Author.Rules.{rules}
 use Rattle.explain.proofs.rules.meet.Goals as goal
 
 pub perms_at-x-requires : goal.perms_at-x-requires

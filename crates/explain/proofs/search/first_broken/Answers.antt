@@ -1,14 +1,10 @@
-use mathlib.Core.Path.{◌≡◌, sym, ◌∙◌}
 use mathlib.Core.Bool.{false}
-use Prim.Native.Nat.{ℕ, ◌≤◌, ◌<◌, ◌-◌}
 use native.Mathlib.Omega.{arith}
 use borrow.Author.Count.{below_none, below_more}
 use Rattle.lists.specs.Lowest.{lowest_by}
-use Rattle.tables.specs.Shifts.{Shifts}
 use Rattle.tables.specs.Compact.{ShiftTables, shift_tables, shifts_of}
 use Rattle.explain.specs.Explain.{rule_at, broken_from, broken, first_of, first_broken}
 use Rattle.explain.specs.Laws.{found_some, found_none}
-use borrow.Author.Rules.{rules}
 use Rattle.explain.proofs.search.first_broken.Goals as goal
 
 pub loop-rule-init : goal.loop-rule-init

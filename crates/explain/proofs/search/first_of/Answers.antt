@@ -1,13 +1,10 @@
-use mathlib.Core.Path.{◌≡◌, sym, ◌∙◌}
-use mathlib.Core.Bool.{Bool, false}
-use Prim.Native.Nat.{ℕ, ◌≤◌, ◌<◌, ◌-◌}
+use mathlib.Core.Bool.{false}
 use native.Mathlib.Omega.{arith}
 use borrow.Author.Count.{below_none, below_more}
 use Rattle.lists.specs.Lowest.{lowest_by}
 use Rattle.tables.specs.Compact.{ShiftTables, shift_tables, shifts_of}
-use Rattle.explain.specs.Explain.{Rule, rule_at, broken_at, broken_from, first_of, second_of}
+use Rattle.explain.specs.Explain.{rule_at, broken_at, broken_from, first_of, second_of}
 use Rattle.explain.specs.Laws.{found_some, found_none}
-use borrow.Author.Rules.{rules}
 use Rattle.explain.proofs.search.first_of.Goals as goal
 
 pub firsts-n-requires : goal.firsts-n-requires

@@ -1,13 +1,8 @@
-use mathlib.Core.Path.{◌≡◌, sym, ◌∙◌}
-use mathlib.Core.Bool.{Bool, false}
+use mathlib.Core.Path.{◌≡◌}
+use mathlib.Core.Bool.{false}
 use Prim.Native.Nat.{ℕ, ◌≤◌, ◌<◌, ◌-◌}
-use native.Mathlib.Omega.{arith}
-use borrow.Author.Count.{below_none, below_more}
-use Rattle.lists.specs.Lowest.{lowest_by}
-use Rattle.tables.specs.Compact.{ShiftTables, shift_tables, shifts_of}
-use Rattle.explain.specs.Explain.{Rule, rule_at, broken_at, second_of, third_of}
-use Rattle.explain.specs.Laws.{found_some, found_none}
-use borrow.Author.Rules.{rules}
+use Rattle.tables.specs.Compact.{shift_tables, shifts_of}
+use Rattle.explain.specs.Explain.{Rule, rule_at, broken_at}
 use Rattle.explain.proofs.search.second_of.Given as goal
 
 abbrev pub invariant-loop-j : goal.invariant-loop-j

@@ -1,12 +1,10 @@
-use mathlib.Core.Path.{◌≡◌, sym, ◌∙◌}
-use mathlib.Core.Bool.{Bool, false}
-use Prim.Native.Nat.{ℕ, ◌≤◌, ◌<◌, ◌-◌}
+use mathlib.Core.Path.{sym, ◌∙◌}
+use mathlib.Core.Bool.{false}
 use native.Mathlib.Omega.{arith}
 use borrow.Author.Count.{below_none, below_more}
 use Rattle.lists.specs.Lowest.{lowest_by}
 use Rattle.tables.specs.Compact.{ShiftTables, shift_tables, shifts_of}
-use Rattle.explain.specs.Explain.{Rule, rule_at, third_of}
-use borrow.Author.Rules.{rules}
+use Rattle.explain.specs.Explain.{rule_at, third_of}
 use Rattle.explain.proofs.search.third_of.Goals as goal
 
 pub thirds-n-requires : goal.thirds-n-requires

@@ -1,14 +1,9 @@
 use Prim.Native.Nat.{ℕ, ◌+◌, ◌-◌, ◌≤◌, ◌<◌}
-use native.Mathlib.Omega.{arith}
-use mathlib.Core.Path.{◌≡◌, refl}
+use mathlib.Core.Path.{◌≡◌}
 use lib.ListN.{length, get_or}
 use mathlib.Core.List.{[]}
-use Rattle.lists.specs.Tab.{fill_more, is_tab}
-use borrow.Author.Count.{below_none}
 use Rattle.blocks.specs.Block.{block}
 use Rattle.lines.specs.Sums3x3.{more}
-use Rattle.fc2.specs.FullLoops.{added8}
-use borrow.Author.Rules.{rules}
 use Rattle.fc2.proofs.columns.add8.Given as goal
 
 abbrev pub invariant-loop-c : goal.invariant-loop-c

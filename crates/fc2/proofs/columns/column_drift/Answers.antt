@@ -3,7 +3,6 @@ use Prim.Native.Nat.{ℕ}
 use native.Mathlib.Omega.{arith}
 use Rattle.lines.specs.Lines.{Sized}
 use Rattle.fc2.specs.Columns.{columns-all}
-use borrow.Author.Rules.{rules}
 use Rattle.fc2.proofs.columns.column_drift.Goals as goal
 
 pub panels-requires : goal.panels-requires

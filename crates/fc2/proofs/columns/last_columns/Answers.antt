@@ -1,12 +1,11 @@
 use mathlib.Core.Path.{◌≡◌, refl, sym, ◌∙◌, subst}
 use mathlib.Core.List.{List}
-use Prim.Native.Nat.{ℕ, ◌+◌, ◌*◌, ◌-◌, ◌≤◌}
+use Prim.Native.Nat.{ℕ, ◌+◌, ◌*◌}
 use native.Mathlib.Omega.{arith}
 use lib.ListN.{length}
 use lib.Ieee.{Float}
 use Rattle.fc2.specs.FullLaws.{column-line}
 use Rattle.fc2.specs.Columns.{Columns, columns-line}
-use borrow.Author.Rules.{rules}
 use Rattle.fc2.proofs.columns.last_columns.Goals as goal
 
 pub loop-j-init : goal.loop-j-init

@@ -1,12 +1,9 @@
-use mathlib.Core.Path.{◌≡◌, refl, sym, ◌∙◌, subst}
+use mathlib.Core.Path.{◌≡◌}
 use mathlib.Core.List.{List}
-use Prim.Native.Nat.{ℕ, ◌+◌, ◌*◌, ◌-◌, ◌≤◌}
-use native.Mathlib.Omega.{arith}
+use Prim.Native.Nat.{◌-◌, ◌≤◌}
 use lib.ListN.{length}
 use lib.Ieee.{Float}
-use Rattle.fc2.specs.FullLaws.{column-line}
-use Rattle.fc2.specs.Columns.{Columns, columns-line}
-use borrow.Author.Rules.{rules}
+use Rattle.fc2.specs.Columns.{Columns}
 use Rattle.fc2.proofs.columns.last_columns.Given as goal
 
 abbrev pub invariant-loop-j : goal.invariant-loop-j

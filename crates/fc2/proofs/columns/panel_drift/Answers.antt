@@ -1,5 +1,4 @@
 use Rattle.fc2.specs.FullLoops.{panel_drift}
-use borrow.Author.Rules.{rules}
 use Rattle.fc2.proofs.columns.panel_drift.Goals as goal
 
 pub returns : goal.returns

@@ -1,11 +1,7 @@
 use Prim.Native.Nat.{◌+◌, ◌*◌, ◌-◌, ◌≤◌}
-use native.Mathlib.Omega.{arith}
-use mathlib.Core.Path.{◌≡◌, ap, ◌∙◌}
-use Rattle.lists.specs.Tab.{times, times_none, times_more}
-use Rattle.fc2.specs.FullLaws.{full_is}
-use Rattle.fc2.specs.FullLoops.{added8, panel_sums}
-use Rattle.fc2.specs.Columns.{panel_fits}
-use borrow.Author.Rules.{rules}
+use mathlib.Core.Path.{◌≡◌}
+use Rattle.lists.specs.Tab.{times}
+use Rattle.fc2.specs.FullLoops.{added8}
 use Rattle.fc2.proofs.columns.panel_sums.Given as goal
 
 abbrev pub invariant-loop-i : goal.invariant-loop-i

@@ -1,11 +1,10 @@
 use mathlib.Core.Path.{◌≡◌, sym, subst, ◌∙◌}
 use mathlib.Core.List.{List}
 use lib.Ieee.{Float}
-use Prim.Native.Nat.{ℕ, ◌+◌, ◌*◌, ◌-◌, ◌≤◌}
+use Prim.Native.Nat.{ℕ, ◌+◌, ◌*◌}
 use native.Mathlib.Omega.{arith}
 use Rattle.lines.specs.Lines.{Sized}
 use Rattle.fc2.specs.Columns.{Columns, columns-none, columns_panel, panel_drifted, Drifted}
-use borrow.Author.Rules.{rules}
 use Rattle.fc2.proofs.columns.panels.Goals as goal
 
 pub loop-g-init : goal.loop-g-init

@@ -1,13 +1,8 @@
 use Prim.Native.Nat.{ℕ, ◌-◌, ◌≤◌, ◌<◌}
-use native.Mathlib.Omega.{arith}
-use mathlib.Core.Path.{◌≡◌, refl}
+use mathlib.Core.Path.{◌≡◌}
 use lib.ListN.{length, get_or}
 use mathlib.Core.List.{[]}
-use Rattle.lists.specs.Tab.{fill_more, is_tab}
-use borrow.Author.Count.{below_none}
 use Rattle.lines.specs.Sums3x3.{scaled}
-use Rattle.fc2.specs.FullLoops.{scaled8}
-use borrow.Author.Rules.{rules}
 use Rattle.fc2.proofs.columns.scale8.Given as goal
 
 abbrev pub invariant-loop-c : goal.invariant-loop-c

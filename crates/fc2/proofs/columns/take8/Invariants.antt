@@ -1,12 +1,9 @@
 use Prim.Native.Nat.{◌+◌, ◌-◌, ◌≤◌}
-use native.Mathlib.Omega.{arith}
-use mathlib.Core.Path.{◌≡◌, refl, ◌∙◌}
+use mathlib.Core.Path.{◌≡◌}
 use lib.ListN.{length, get_or}
 use mathlib.Core.List.{[]}
-use Rattle.lists.specs.Tab.{times, times_none, times_more}
+use Rattle.lists.specs.Tab.{times}
 use Rattle.lines.specs.Lines.{less_at}
-use Rattle.fc2.specs.FullLoops.{less8}
-use borrow.Author.Rules.{rules}
 use Rattle.fc2.proofs.columns.take8.Given as goal
 
 abbrev pub invariant-loop-c : goal.invariant-loop-c

@@ -1,12 +1,8 @@
 use Prim.Native.Nat.{◌+◌, ◌*◌, ◌-◌, ◌≤◌}
-use native.Mathlib.Omega.{arith}
-use mathlib.Core.Path.{◌≡◌, refl, ap, ◌∙◌}
+use mathlib.Core.Path.{◌≡◌}
 use lib.ListN.{length}
-use Rattle.lists.specs.Tab.{times, times_none, times_more}
-use Rattle.fc2.specs.FullLaws.{full_is}
-use Rattle.fc2.specs.FullLoops.{less8, panel_less}
-use Rattle.fc2.specs.Columns.{panel_fits}
-use borrow.Author.Rules.{rules}
+use Rattle.lists.specs.Tab.{times}
+use Rattle.fc2.specs.FullLoops.{less8}
 use Rattle.fc2.proofs.columns.take_panel.Given as goal
 
 abbrev pub invariant-loop-i : goal.invariant-loop-i

@@ -1,12 +1,9 @@
-use Prim.Native.Nat.{◌+◌, ◌*◌, ◌-◌, ◌≤◌}
 use native.Mathlib.Omega.{arith}
 use mathlib.Core.Path.{◌≡◌, refl, ap₂, ◌∙◌}
-use lib.ListN.{length}
-use Rattle.lists.specs.Tab.{times, times_none, times_more}
+use Rattle.lists.specs.Tab.{times_none, times_more}
 use Rattle.lines.specs.Lines.{pair_at}
 use Rattle.fc2.specs.FullLaws.{pair_inside, full_is}
 use Rattle.fc2.specs.FullLoops.{pairs_before}
-use borrow.Author.Rules.{rules}
 use Rattle.fc2.proofs.full.average_before.Goals as goal
 
 pub loop-j-init : goal.loop-j-init

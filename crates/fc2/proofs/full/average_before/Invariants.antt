@@ -1,12 +1,8 @@
 use Prim.Native.Nat.{◌+◌, ◌*◌, ◌-◌, ◌≤◌}
-use native.Mathlib.Omega.{arith}
-use mathlib.Core.Path.{◌≡◌, refl, ap₂, ◌∙◌}
+use mathlib.Core.Path.{◌≡◌}
 use lib.ListN.{length}
-use Rattle.lists.specs.Tab.{times, times_none, times_more}
+use Rattle.lists.specs.Tab.{times}
 use Rattle.lines.specs.Lines.{pair_at}
-use Rattle.fc2.specs.FullLaws.{pair_inside, full_is}
-use Rattle.fc2.specs.FullLoops.{pairs_before}
-use borrow.Author.Rules.{rules}
 use Rattle.fc2.proofs.full.average_before.Given as goal
 
 abbrev pub invariant-loop-j : goal.invariant-loop-j

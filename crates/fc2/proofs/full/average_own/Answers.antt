@@ -1,5 +1,4 @@
 use Rattle.fc2.specs.FullLoops.{own_at}
-use borrow.Author.Rules.{rules}
 use Rattle.fc2.proofs.full.average_own.Goals as goal
 
 pub returns : goal.returns

@@ -1,5 +1,4 @@
 use Rattle.fc2.specs.FullLaws.{evened-once}
-use borrow.Author.Rules.{rules}
 use Rattle.fc2.proofs.full.evened.Goals as goal
 
 pub returns : goal.returns

@@ -1,5 +1,4 @@
 use Rattle.fc2.specs.FullLoops.{swept}
-use borrow.Author.Rules.{rules}
 use Rattle.fc2.proofs.full.one_level.Goals as goal
 
 pub returns : goal.returns

@@ -1,6 +1,5 @@
 use Rattle.fc2.specs.FullWorkLaws.{sized, call_refused, call_done}
 use mathlib.Core.Path.{sym, ap, ◌∙◌}
-use borrow.Author.Rules.{rules}
 use Rattle.fc2.proofs.full.perm_trans_symmetrize_fc.Goals as goal
 
 pub returns-then-is_refusal : goal.returns-then-is_refusal

@@ -1,11 +1,8 @@
-use Prim.Native.Nat.{◌+◌, ◌*◌, ◌-◌, ◌≤◌}
 use native.Mathlib.Omega.{arith}
 use mathlib.Core.Path.{◌≡◌, refl, ◌∙◌}
-use lib.ListN.{length}
-use Rattle.lists.specs.Tab.{times, times_none, times_more}
+use Rattle.lists.specs.Tab.{times_none, times_more}
 use Rattle.fc2.specs.FullLaws.{pair_inside, full_is}
-use Rattle.fc2.specs.FullLoops.{own_at, pairs_before, pairs}
-use borrow.Author.Rules.{rules}
+use Rattle.fc2.specs.FullLoops.{pairs}
 use Rattle.fc2.proofs.full.set_index_permutation_symmetry_fc.Goals as goal
 
 pub loop-i-init : goal.loop-i-init

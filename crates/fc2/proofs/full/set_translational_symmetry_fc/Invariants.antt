@@ -1,14 +1,8 @@
 use Prim.Native.Nat.{◌-◌, ◌≤◌}
-use native.Mathlib.Omega.{arith}
-use mathlib.Core.Path.{◌≡◌, refl, ap, ◌∙◌}
+use mathlib.Core.Path.{◌≡◌}
 use lib.ListN.{length}
-use Rattle.lists.specs.Tab.{times, times_none, times_more}
-use Rattle.blocks.specs.Block.{put_block}
-use Rattle.lines.specs.Sums3x3.{balance}
-use Rattle.lines.specs.Lines.{others, row_of, own_fits, balance_at, balances}
-use Rattle.fc2.specs.FullLaws.{full_is}
-use Rattle.fc2.specs.FullLoops.{diagonals}
-use borrow.Author.Rules.{rules}
+use Rattle.lists.specs.Tab.{times}
+use Rattle.lines.specs.Lines.{balance_at}
 use Rattle.fc2.proofs.full.set_translational_symmetry_fc.Given as goal
 
 abbrev pub invariant-loop-i : goal.invariant-loop-i

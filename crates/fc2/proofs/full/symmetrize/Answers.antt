@@ -1,14 +1,12 @@
 use lib.Ieee.{in_float}
 use lib.Dec.{le→leb}
 use Rattle.fc2.specs.FullWorkLaws.{work_makes}
-use Rattle.fc2.specs.FullLoops.{swept, diagonals, worked}
+use Rattle.fc2.specs.FullLoops.{diagonals, worked}
 use Rattle.lines.specs.Sums3x3.{inverse}
-use Rattle.lists.specs.Tab.{times, times_none, times_more}
+use Rattle.lists.specs.Tab.{times_none, times_more}
 use mathlib.Core.Path.{◌≡◌, refl, ap, ◌∙◌}
-use lib.ListN.{length}
 use native.Mathlib.Omega.{arith}
-use Prim.Native.Nat.{◌≤◌, ◌-◌, ◌^◌}
-use borrow.Author.Rules.{rules}
+use Prim.Native.Nat.{◌^◌}
 use Rattle.fc2.proofs.full.symmetrize.Goals as goal
 
 pub int_to_float-inv_n : goal.int_to_float-inv_n

@@ -1,5 +1,4 @@
 use mathlib.Core.Path.{sym, ◌∙◌}
-use borrow.Author.Rules.{rules}
 use Rattle.fc2_compact.proofs.compact.exchange.Goals as goal
 
 pub transpose_pass-requires : goal.transpose_pass-requires

@@ -1,5 +1,4 @@
 use borrow.Author.Tests.{lt-ltb, le-ltb}
-use borrow.Author.Rules.{rules}
 use Rattle.fc2_compact.proofs.compact.judge_levels.Goals as goal
 
 pub returns-then-level-gt-LIMIT_LEVEL : goal.returns-then-level-gt-LIMIT_LEVEL

@@ -1,7 +1,6 @@
 use mathlib.Core.Path.{◌∙◌}
 use Rattle.fc2_compact.specs.Compact.{leveled}
 use Rattle.fc2_compact.specs.Code.{ready-same}
-use borrow.Author.Rules.{rules}
 use Rattle.fc2_compact.proofs.compact.level_pass.Goals as goal
 
 pub transpose_pass-requires : goal.transpose_pass-requires

@@ -1,12 +1,7 @@
 use mathlib.Core.Path.{◌≡◌, refl, ◌∙◌}
-use Prim.Native.Nat.{◌≤◌, ◌-◌}
 use native.Mathlib.Omega.{arith}
-use lib.ListN.{length}
-use Rattle.lists.specs.Tab.{times, times_none, times_more}
-use Rattle.tables.specs.Compact.{shift_tables, shifts_of}
-use Rattle.fc2_compact.specs.Compact.{leveled}
+use Rattle.lists.specs.Tab.{times_none, times_more}
 use Rattle.fc2_compact.specs.Code.{ready-same}
-use borrow.Author.Rules.{rules}
 use Rattle.fc2_compact.proofs.compact.levels.Goals as goal
 
 pub loop-done-init : goal.loop-done-init

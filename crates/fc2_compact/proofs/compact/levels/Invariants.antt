@@ -1,12 +1,9 @@
-use mathlib.Core.Path.{◌≡◌, refl, ◌∙◌}
+use mathlib.Core.Path.{◌≡◌}
 use Prim.Native.Nat.{◌≤◌, ◌-◌}
-use native.Mathlib.Omega.{arith}
 use lib.ListN.{length}
-use Rattle.lists.specs.Tab.{times, times_none, times_more}
+use Rattle.lists.specs.Tab.{times}
 use Rattle.tables.specs.Compact.{shift_tables, shifts_of}
 use Rattle.fc2_compact.specs.Compact.{leveled}
-use Rattle.fc2_compact.specs.Code.{ready-same}
-use borrow.Author.Rules.{rules}
 use Rattle.fc2_compact.proofs.compact.levels.Given as goal
 
 abbrev pub invariant-loop-done : goal.invariant-loop-done

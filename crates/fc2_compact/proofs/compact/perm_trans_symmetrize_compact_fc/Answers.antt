@@ -1,6 +1,5 @@
 use mathlib.Core.Path.{sym, ◌∙◌}
 use Rattle.fc2_compact.specs.CompactCallLaws.{ready_levels, symmetrize_refused, symmetrize_done}
-use borrow.Author.Rules.{rules}
 use Rattle.fc2_compact.proofs.compact.perm_trans_symmetrize_compact_fc.Goals as goal
 
 pub returns-then-is_refusal : goal.returns-then-is_refusal

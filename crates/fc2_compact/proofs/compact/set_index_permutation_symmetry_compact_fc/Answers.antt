@@ -1,9 +1,6 @@
 use mathlib.Core.Path.{sym, ◌∙◌}
 use Rattle.fc2_compact.specs.CompactCallLaws.{ready_when, index_refused, index_done}
-use borrow.Author.Rules.{rules}
 use Rattle.fc2_compact.proofs.compact.set_index_permutation_symmetry_compact_fc.Goals as goal
-
-
 
 pub returns-then-is_refusal : goal.returns-then-is_refusal
 returns-then-is_refusal c =

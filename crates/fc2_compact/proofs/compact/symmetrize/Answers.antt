@@ -1,6 +1,5 @@
 use Rattle.fc2_compact.specs.Compact.{symmetrized_compact}
 use Rattle.fc2_compact.specs.Code.{ready-same}
-use borrow.Author.Rules.{rules}
 use Rattle.fc2_compact.proofs.compact.symmetrize.Goals as goal
 
 pub levels-requires : goal.levels-requires

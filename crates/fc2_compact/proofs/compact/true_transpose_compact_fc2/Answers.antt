@@ -3,7 +3,6 @@ use Rattle.tables.specs.Limits.{limit2}
 use Rattle.orbits.specs.TrueTransposes.{true_transpose_compact_fc2}
 use Rattle.orbits.specs.Moved.{true_refused, true_done}
 use Rattle.fc2_compact.specs.CompactCallLaws.{ready_when}
-use borrow.Author.Rules.{rules}
 use Rattle.fc2_compact.proofs.compact.true_transpose_compact_fc2.Goals as goal
 
 pub returns-then-is_refusal : goal.returns-then-is_refusal

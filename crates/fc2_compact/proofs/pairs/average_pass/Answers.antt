@@ -1,12 +1,7 @@
-use Rattle.tables.specs.Compact.{shift_tables, shifts_of}
 use mathlib.Core.Path.{◌≡◌, refl, ◌∙◌}
-use Prim.Native.Nat.{◌≤◌, ◌-◌}
 use native.Mathlib.Omega.{arith}
-use lib.ListN.{length}
-use Rattle.lists.specs.Tab.{times, times_none, times_more}
-use Rattle.fc2_compact.specs.Visits.{average_visit}
+use Rattle.lists.specs.Tab.{times_none, times_more}
 use Rattle.fc2_compact.specs.Code.{ready-same, average_all}
-use borrow.Author.Rules.{rules}
 use Rattle.fc2_compact.proofs.pairs.average_pass.Goals as goal
 
 pub loop-p-init : goal.loop-p-init

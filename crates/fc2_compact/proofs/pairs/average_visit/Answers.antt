@@ -1,5 +1,4 @@
 use Rattle.fc2_compact.specs.Code.{s2pp-read, facts, visit_in, average_earlier, average_late, average_done}
-use borrow.Author.Rules.{rules}
 use Rattle.fc2_compact.proofs.pairs.average_visit.Goals as goal
 
 pub s2pp_at-requires : goal.s2pp_at-requires

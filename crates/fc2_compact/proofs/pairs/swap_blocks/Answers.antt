@@ -1,5 +1,4 @@
 use Rattle.fc2_compact.specs.Visits.{swapped-by}
-use borrow.Author.Rules.{rules}
 use Rattle.fc2_compact.proofs.pairs.swap_blocks.Goals as goal
 
 pub returns : goal.returns

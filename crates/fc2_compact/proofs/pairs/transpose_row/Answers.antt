@@ -1,12 +1,8 @@
-use Rattle.tables.specs.Compact.{shift_tables, shifts_of}
 use mathlib.Core.Path.{◌≡◌, refl, ◌∙◌}
-use Prim.Native.Nat.{◌≤◌, ◌-◌}
 use native.Mathlib.Omega.{arith}
-use lib.ListN.{length}
-use Rattle.lists.specs.Tab.{times, times_none, times_more}
+use Rattle.lists.specs.Tab.{times_none, times_more}
 use Rattle.fc2_compact.specs.Visits.{transpose_visit}
 use Rattle.fc2_compact.specs.Code.{ready_at, p2s-read}
-use borrow.Author.Rules.{rules}
 use Rattle.fc2_compact.proofs.pairs.transpose_row.Goals as goal
 
 pub p2s_at-i-requires : goal.p2s_at-i-requires

@@ -1,12 +1,9 @@
 use Rattle.tables.specs.Compact.{shift_tables, shifts_of}
-use mathlib.Core.Path.{◌≡◌, refl, ◌∙◌}
+use mathlib.Core.Path.{◌≡◌}
 use Prim.Native.Nat.{◌≤◌, ◌-◌}
-use native.Mathlib.Omega.{arith}
 use lib.ListN.{length}
-use Rattle.lists.specs.Tab.{times, times_none, times_more}
+use Rattle.lists.specs.Tab.{times}
 use Rattle.fc2_compact.specs.Visits.{transpose_visit}
-use Rattle.fc2_compact.specs.Code.{ready_at, p2s-read}
-use borrow.Author.Rules.{rules}
 use Rattle.fc2_compact.proofs.pairs.transpose_row.Given as goal
 
 abbrev pub invariant-loop-j : goal.invariant-loop-j

@@ -1,7 +1,6 @@
-use mathlib.Core.Logic.{inl, inr, ⊎_elim}
+use mathlib.Core.Logic.{inl, inr}
 use borrow.Author.Tests.{not-true, not-false}
 use Rattle.fc2_compact.specs.Code.{s2pp-read, facts, visit_in, transpose_earlier, transpose_late, transpose_none, transpose_done}
-use borrow.Author.Rules.{rules}
 use Rattle.fc2_compact.proofs.pairs.transpose_visit.Goals.{then-c-b-2+else-j-i, else-c-b-2}
 use Rattle.fc2_compact.proofs.pairs.transpose_visit.Goals as goal
 

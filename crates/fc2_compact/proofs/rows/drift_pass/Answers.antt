@@ -5,7 +5,6 @@ use Prim.Native.Nat.{◌^◌}
 use native.Mathlib.Omega.{arith}
 use Rattle.lines.specs.Sums3x3.{inverse}
 use Rattle.fc2_compact.specs.Code.{sized, drift_all}
-use borrow.Author.Rules.{rules}
 use Rattle.fc2_compact.proofs.rows.drift_pass.Goals as goal
 
 pub int_to_float-inv_n : goal.int_to_float-inv_n

@@ -1,13 +1,7 @@
 use mathlib.Core.Path.{◌≡◌, refl, ◌∙◌}
-use Prim.Native.Nat.{◌≤◌, ◌-◌}
 use native.Mathlib.Omega.{arith}
-use lib.ListN.{length}
-use Rattle.lists.specs.Tab.{times, times_none, times_more}
-use Rattle.tables.specs.Compact.{shift_tables, shifts_of}
-use Rattle.tables.specs.Shifts.{p2s_at}
-use Rattle.lines.specs.Lines.{balance_at}
+use Rattle.lists.specs.Tab.{times_none, times_more}
 use Rattle.fc2_compact.specs.Code.{ready-same, site_all}
-use borrow.Author.Rules.{rules}
 use Rattle.fc2_compact.proofs.rows.site_pass.Goals as goal
 
 pub loop-p-init : goal.loop-p-init

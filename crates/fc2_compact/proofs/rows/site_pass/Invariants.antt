@@ -1,13 +1,10 @@
-use mathlib.Core.Path.{◌≡◌, refl, ◌∙◌}
+use mathlib.Core.Path.{◌≡◌}
 use Prim.Native.Nat.{◌≤◌, ◌-◌}
-use native.Mathlib.Omega.{arith}
 use lib.ListN.{length}
-use Rattle.lists.specs.Tab.{times, times_none, times_more}
+use Rattle.lists.specs.Tab.{times}
 use Rattle.tables.specs.Compact.{shift_tables, shifts_of}
 use Rattle.tables.specs.Shifts.{p2s_at}
 use Rattle.lines.specs.Lines.{balance_at}
-use Rattle.fc2_compact.specs.Code.{ready-same, site_all}
-use borrow.Author.Rules.{rules}
 use Rattle.fc2_compact.proofs.rows.site_pass.Given as goal
 
 abbrev pub invariant-loop-p : goal.invariant-loop-p

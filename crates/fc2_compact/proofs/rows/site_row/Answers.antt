@@ -1,6 +1,5 @@
 use Rattle.tables.specs.Compact.{shift_tables}
 use Rattle.fc2_compact.specs.Code.{p2s-read, own_at, own_in, own_row, facts, site_row_is}
-use borrow.Author.Rules.{rules}
 use Rattle.fc2_compact.proofs.rows.site_row.Goals as goal
 
 pub p2s_at-i-requires : goal.p2s_at-i-requires

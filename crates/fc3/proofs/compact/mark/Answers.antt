@@ -1,7 +1,6 @@
 use mathlib.Core.Path.{refl}
 use native.Mathlib.Omega.{arith}
 use lib.ListN.{length-set}
-use borrow.Author.Rules.{rules}
 use Rattle.orbits.specs.Spread.{set_all}
 use Rattle.fc3.proofs.compact.mark.Goals as goal
 

@@ -1,12 +1,7 @@
-use Prim.Native.Nat.{◌≤◌, ◌-◌}
 use native.Mathlib.Omega.{arith}
 use mathlib.Core.Path.{◌≡◌, refl, ◌∙◌}
-use lib.ListN.{length}
-use borrow.Author.Rules.{rules}
-use Rattle.lists.specs.Tab.{times, times_none, times_more}
-use Rattle.tables.specs.Compact.{shift_tables}
-use Rattle.orbits.specs.GroupLoop.{State}
-use Rattle.fc3.specs.Loops.{at3, visit_at, row3}
+use Rattle.lists.specs.Tab.{times_none, times_more}
+use Rattle.fc3.specs.Loops.{row3}
 use Rattle.fc3.proofs.compact.row.Goals as goal
 
 pub loop-k-init : goal.loop-k-init

@@ -1,12 +1,10 @@
 use Prim.Native.Nat.{◌≤◌, ◌-◌}
-use native.Mathlib.Omega.{arith}
-use mathlib.Core.Path.{◌≡◌, refl, ◌∙◌}
+use mathlib.Core.Path.{◌≡◌}
 use lib.ListN.{length}
-use borrow.Author.Rules.{rules}
-use Rattle.lists.specs.Tab.{times, times_none, times_more}
+use Rattle.lists.specs.Tab.{times}
 use Rattle.tables.specs.Compact.{shift_tables}
 use Rattle.orbits.specs.GroupLoop.{State}
-use Rattle.fc3.specs.Loops.{at3, visit_at, row3}
+use Rattle.fc3.specs.Loops.{at3, visit_at}
 use Rattle.fc3.proofs.compact.row.Given as goal
 
 abbrev pub invariant-loop-k : goal.invariant-loop-k

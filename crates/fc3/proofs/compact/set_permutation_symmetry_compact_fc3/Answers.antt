@@ -1,5 +1,4 @@
 use mathlib.Core.Path.{sym, ◌∙◌}
-use borrow.Author.Rules.{rules}
 use Rattle.fc3.specs.Loops.{symmetrize_refused, symmetrize_ready, symmetrize_done}
 use Rattle.fc3.proofs.compact.set_permutation_symmetry_compact_fc3.Goals as goal
 

@@ -1,4 +1,3 @@
-use borrow.Author.Rules.{rules}
 use Rattle.fc3.specs.Loops.{worked_clear}
 use Rattle.fc3.proofs.compact.symmetrize.Goals as goal
 

@@ -1,5 +1,4 @@
 use Prim.Native.Nat.{◌<◌}
-use borrow.Author.Rules.{rules}
 use Rattle.fc3.specs.Loops.{p2s-read, read-tables, Found, all_in, marks_in, took}
 use Rattle.fc3.proofs.compact.take.Goals as goal
 

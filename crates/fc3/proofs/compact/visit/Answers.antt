@@ -1,6 +1,5 @@
 use mathlib.Core.Path.{sym, ap, ◌∙◌}
 use lib.ListN.{get_or}
-use borrow.Author.Rules.{rules}
 use Rattle.fc3.specs.Loops.{at-below, plain3, visit-free, visit-met}
 use Rattle.fc3.proofs.compact.visit.Goals as goal
 

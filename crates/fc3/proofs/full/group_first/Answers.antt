@@ -1,6 +1,5 @@
 use native.Mathlib.Omega.{arith}
 use Rattle.fc3.specs.FullLoops.{Sorted, found_first, first-distinct, found_in, found_is}
-use borrow.Author.Rules.{rules}
 use Rattle.fc3.proofs.full.group_first.Goals as goal
 
 pub work_first_two-requires : goal.work_first_two-requires

@@ -1,6 +1,5 @@
 use native.Mathlib.Omega.{arith}
 use Rattle.fc3.specs.FullLoops.{Sorted, found-last, last-distinct, found_in, found_is}
-use borrow.Author.Rules.{rules}
 use Rattle.fc3.proofs.full.group_last.Goals as goal
 
 pub work_last_two-requires : goal.work_last_two-requires

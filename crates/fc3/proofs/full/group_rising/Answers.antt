@@ -1,6 +1,5 @@
 use native.Mathlib.Omega.{arith}
 use Rattle.fc3.specs.FullLoops.{Sorted, Found, found_in, found-distinct, found_is}
-use borrow.Author.Rules.{rules}
 use Rattle.fc3.proofs.full.group_rising.Goals as goal
 
 pub work_distinct-requires : goal.work_distinct-requires

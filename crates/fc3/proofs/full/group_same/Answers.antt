@@ -1,6 +1,5 @@
 use native.Mathlib.Omega.{arith}
 use Rattle.fc3.specs.FullLoops.{Sorted, found-same, found_in, found_is}
-use borrow.Author.Rules.{rules}
 use Rattle.fc3.proofs.full.group_same.Goals as goal
 
 pub work_same-requires : goal.work_same-requires

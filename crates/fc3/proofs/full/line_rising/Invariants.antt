@@ -1,10 +1,8 @@
 use Prim.Native.Nat.{◌+◌, ◌≤◌, ◌-◌}
-use native.Mathlib.Omega.{arith}
-use mathlib.Core.Path.{◌≡◌, refl, ◌∙◌}
+use mathlib.Core.Path.{◌≡◌}
 use lib.ListN.{length}
-use borrow.Author.Rules.{rules}
-use Rattle.lists.specs.Tab.{times, times-at, times-from}
-use Rattle.fc3.specs.FullLoops.{group_at, line_of, first-turn}
+use Rattle.lists.specs.Tab.{times}
+use Rattle.fc3.specs.FullLoops.{group_at}
 use Rattle.fc3.proofs.full.line_rising.Given as goal
 
 abbrev pub invariant-loop-c : goal.invariant-loop-c

@@ -1,9 +1,7 @@
-use Prim.Native.Nat.{◌+◌, ◌≤◌, ◌-◌}
+use Prim.Native.Nat.{◌+◌}
 use native.Mathlib.Omega.{arith}
 use mathlib.Core.Path.{◌≡◌, refl, ◌∙◌}
-use lib.ListN.{length}
-use borrow.Author.Rules.{rules}
-use Rattle.lists.specs.Tab.{times, times-at, times-from}
+use Rattle.lists.specs.Tab.{times-at, times-from}
 use Rattle.fc3.specs.FullLoops.{line_of, lines_of, first-turn}
 use Rattle.fc3.proofs.full.lines.Goals as goal
 

@@ -1,10 +1,8 @@
 use Prim.Native.Nat.{◌+◌, ◌≤◌, ◌-◌}
-use native.Mathlib.Omega.{arith}
-use mathlib.Core.Path.{◌≡◌, refl, ◌∙◌}
+use mathlib.Core.Path.{◌≡◌}
 use lib.ListN.{length}
-use borrow.Author.Rules.{rules}
-use Rattle.lists.specs.Tab.{times, times-at, times-from}
-use Rattle.fc3.specs.FullLoops.{line_of, lines_of, first-turn}
+use Rattle.lists.specs.Tab.{times}
+use Rattle.fc3.specs.FullLoops.{line_of}
 use Rattle.fc3.proofs.full.lines.Given as goal
 
 abbrev pub invariant-loop-b : goal.invariant-loop-b

@@ -1,5 +1,4 @@
 use mathlib.Core.Path.{sym, ◌∙◌}
-use borrow.Author.Rules.{rules}
 use lib.Dec.{lit≤}
 use Rattle.fc3.specs.FullLoops.{full-refused, full-ready, full-done}
 use Rattle.fc3.proofs.full.set_permutation_symmetry_fc3.Goals as goal

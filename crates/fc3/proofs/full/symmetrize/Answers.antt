@@ -1,8 +1,6 @@
-use Prim.Native.Nat.{◌≤◌, ◌<◌, ◌-◌}
+use Prim.Native.Nat.{◌<◌}
 use native.Mathlib.Omega.{arith}
 use mathlib.Core.Path.{◌≡◌, refl, ap, ◌∙◌}
-use lib.ListN.{length}
-use borrow.Author.Rules.{rules}
 use Rattle.lists.specs.Tab.{times, times_none, times_more}
 use Rattle.fc3.specs.FullLoops.{slab_of, slabs_of, slab_lines, slabs_leave}
 use Rattle.fc3.proofs.full.symmetrize.Goals as goal

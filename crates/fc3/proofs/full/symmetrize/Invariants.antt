@@ -1,10 +1,8 @@
-use Prim.Native.Nat.{◌≤◌, ◌<◌, ◌-◌}
-use native.Mathlib.Omega.{arith}
-use mathlib.Core.Path.{◌≡◌, refl, ap, ◌∙◌}
+use Prim.Native.Nat.{◌≤◌, ◌-◌}
+use mathlib.Core.Path.{◌≡◌}
 use lib.ListN.{length}
-use borrow.Author.Rules.{rules}
-use Rattle.lists.specs.Tab.{times, times_none, times_more}
-use Rattle.fc3.specs.FullLoops.{slab_of, slabs_of, slab_lines, slabs_leave}
+use Rattle.lists.specs.Tab.{times}
+use Rattle.fc3.specs.FullLoops.{slab_of}
 use Rattle.fc3.proofs.full.symmetrize.Given as goal
 
 abbrev pub invariant-loop-a : goal.invariant-loop-a

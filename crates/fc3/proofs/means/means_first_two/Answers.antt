@@ -1,6 +1,5 @@
 use mathlib.Core.Path.{◌∙◌}
 use Rattle.fc3.specs.Mean.{six-sums, lnm-permuted, mln-permuted, mnl-permuted, nlm-permuted, nml-permuted, means_are}
-use borrow.Author.Rules.{rules}
 use Rattle.fc3.proofs.means.means_first_two.Goals as goal
 
 pub returns : goal.returns

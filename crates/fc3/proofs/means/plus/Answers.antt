@@ -1,8 +1,6 @@
-use Prim.Native.Nat.{ℕ, ◌≤◌, ◌<◌, ◌-◌}
 use native.Mathlib.Omega.{arith}
-use mathlib.Core.Path.{◌≡◌, refl}
-use lib.ListN.{length, get_or}
-use lib.Ieee.{nan, binary64, add}
+use mathlib.Core.Path.{refl}
+use lib.Ieee.{nan}
 use borrow.Author.Count.{below_none}
 use Rattle.lists.specs.Tab.{fill_more, is_tab}
 use Rattle.fc3.specs.Mean.{plus27}

@@ -1,12 +1,7 @@
 use Prim.Native.Nat.{ℕ, ◌≤◌, ◌<◌, ◌-◌}
-use native.Mathlib.Omega.{arith}
-use mathlib.Core.Path.{◌≡◌, refl}
+use mathlib.Core.Path.{◌≡◌}
 use lib.ListN.{length, get_or}
 use lib.Ieee.{nan, binary64, div, of_bits}
-use borrow.Author.Count.{below_none}
-use Rattle.lists.specs.Tab.{fill_more, is_tab}
-use Rattle.fc3.specs.Mean.{sixths}
-use borrow.Author.Rules.{rules}
 use Rattle.fc3.proofs.means.sixths.Given as goal
 
 abbrev pub invariant-loop-k : goal.invariant-loop-k

@@ -1,5 +1,4 @@
 use Rattle.fc3.specs.Coinciding.{six_copies}
-use borrow.Author.Rules.{rules}
 use Rattle.fc3.proofs.spots.copy_blocks.Goals as goal
 
 pub returns : goal.returns

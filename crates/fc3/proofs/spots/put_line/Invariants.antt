@@ -1,16 +1,13 @@
 use Prim.Native.Nat.{◌+◌, ◌*◌, ◌≤◌, ◌-◌}
-use native.Mathlib.Omega.{arith}
-use mathlib.Core.Path.{◌≡◌, ap, ◌∙◌}
+use mathlib.Core.Path.{◌≡◌}
 use mathlib.Core.List.{[], ◌∷◌}
 use lib.ListN.{get_or}
 use lib.Ieee.{nan}
-use Rattle.lists.specs.Tab.{times, times_none, times_more}
+use Rattle.lists.specs.Tab.{times}
 use Rattle.places.specs.Permutations.{perms3}
 use Rattle.orbits.specs.Groups.{spots}
 use Rattle.orbits.specs.Spread.{set_all}
-use Rattle.fc3.specs.Spread.{line_at, dirs_are}
 use Rattle.fc3.specs.Coinciding.{Six, flat}
-use borrow.Author.Rules.{rules}
 use Rattle.fc3.proofs.spots.put_line.Given as goal
 
 abbrev pub invariant-loop-n : goal.invariant-loop-n

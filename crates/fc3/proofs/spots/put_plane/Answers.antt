@@ -1,11 +1,7 @@
-use Prim.Native.Nat.{◌≤◌, ◌-◌}
 use native.Mathlib.Omega.{arith}
 use mathlib.Core.Path.{◌≡◌, ◌∙◌}
-use mathlib.Core.List.{[], ◌∷◌}
-use Rattle.lists.specs.Tab.{times, times_none, times_more}
-use Rattle.fc3.specs.Spread.{line_at, plane_at}
-use Rattle.fc3.specs.Coinciding.{Six, flat}
-use borrow.Author.Rules.{rules}
+use Rattle.lists.specs.Tab.{times_none, times_more}
+use Rattle.fc3.specs.Spread.{plane_at}
 use Rattle.fc3.proofs.spots.put_plane.Goals as goal
 
 pub loop-m-init : goal.loop-m-init

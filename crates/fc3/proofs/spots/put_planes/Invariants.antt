@@ -1,11 +1,9 @@
 use Prim.Native.Nat.{◌≤◌, ◌-◌}
-use native.Mathlib.Omega.{arith}
-use mathlib.Core.Path.{◌≡◌, ◌∙◌}
+use mathlib.Core.Path.{◌≡◌}
 use mathlib.Core.List.{[], ◌∷◌}
-use Rattle.lists.specs.Tab.{times, times_none, times_more}
-use Rattle.fc3.specs.Spread.{plane_at, planes_are}
+use Rattle.lists.specs.Tab.{times}
+use Rattle.fc3.specs.Spread.{plane_at}
 use Rattle.fc3.specs.Coinciding.{Six, flat}
-use borrow.Author.Rules.{rules}
 use Rattle.fc3.proofs.spots.put_planes.Given as goal
 
 abbrev pub invariant-loop-l : goal.invariant-loop-l

@@ -1,5 +1,4 @@
 use mathlib.Core.Path.{sym, ap, ◌∙◌}
-use borrow.Author.Rules.{rules}
 use Rattle.orbits.specs.Spread.{set_all}
 use Rattle.fc3.specs.Spread.{spots-at, six_stores}
 use Rattle.fc3.specs.Coinciding.{flat}

@@ -1,7 +1,6 @@
 use mathlib.Core.Path.{sym}
 use mathlib.Core.Bool.{false≢true}
 use borrow.Author.Tests.{eqb-false, not-true}
-use borrow.Author.Rules.{rules}
 use Rattle.fc3.proofs.spread.pairs.Goals as goal
 
 pub returns-then-apart : goal.returns-then-apart

@@ -5,7 +5,6 @@ use Rattle.places.specs.Permutations.{perms3}
 use Rattle.orbits.specs.Groups.{spread_block}
 use Rattle.fc3.specs.Mean.{mean6}
 use Rattle.fc3.specs.Spread.{six-spread, length-means}
-use borrow.Author.Rules.{rules}
 use Rattle.fc3.proofs.spread.work_distinct.Goals as goal
 
 pub write27-requires-6 : goal.write27-requires-6

@@ -3,7 +3,6 @@ use mathlib.Core.List.{[], ◌∷◌}
 use Rattle.places.specs.Permutations.{perms3}
 use Rattle.orbits.specs.Groups.{spread_block}
 use Rattle.fc3.specs.Repeated.{first_two_lem}
-use borrow.Author.Rules.{rules}
 use Rattle.fc3.proofs.spread.work_first_two.Goals as goal
 
 pub returns : goal.returns

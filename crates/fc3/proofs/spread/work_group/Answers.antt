@@ -3,7 +3,6 @@ use mathlib.Core.List.{[], ◌∷◌}
 use Rattle.places.specs.Permutations.{perms3}
 use Rattle.orbits.specs.Groups.{spread_block}
 use Rattle.fc3.specs.Repeated.{Pairs}
-use borrow.Author.Rules.{rules}
 use Rattle.fc3.proofs.spread.work_group.Goals as goal
 
 pub work_distinct-requires : goal.work_distinct-requires

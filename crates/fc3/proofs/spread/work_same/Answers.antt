@@ -5,7 +5,6 @@ use Rattle.orbits.specs.Groups.{spread_block}
 use Rattle.blocks.specs.Permuted.{gathered}
 use Rattle.fc3.specs.Later.{later_mln, later_lnm}
 use Rattle.fc3.specs.Repeated.{all_same_lem}
-use borrow.Author.Rules.{rules}
 use Rattle.fc3.proofs.spread.work_same.Goals as goal
 
 pub returns : goal.returns

@@ -1,12 +1,7 @@
-use Prim.Native.Nat.{◌≤◌, ◌-◌}
 use native.Mathlib.Omega.{arith}
 use mathlib.Core.Path.{◌≡◌, refl, ◌∙◌}
 use lib.ListN.{length}
-use Rattle.lists.specs.Tab.{times, times_none, times_more}
-use Rattle.tables.specs.Compact.{shift_tables, shifts_of}
-use Rattle.orbits.specs.GroupLoop.{State}
-use Rattle.fc4.specs.Loops.{visit_at}
-use borrow.Author.Rules.{rules}
+use Rattle.lists.specs.Tab.{times_none, times_more}
 use Rattle.fc4.proofs.compact.all_blocks.Goals as goal
 
 pub loop-b-init : goal.loop-b-init

@@ -1,12 +1,10 @@
 use Prim.Native.Nat.{◌≤◌, ◌-◌}
-use native.Mathlib.Omega.{arith}
-use mathlib.Core.Path.{◌≡◌, refl, ◌∙◌}
+use mathlib.Core.Path.{◌≡◌}
 use lib.ListN.{length}
-use Rattle.lists.specs.Tab.{times, times_none, times_more}
+use Rattle.lists.specs.Tab.{times}
 use Rattle.tables.specs.Compact.{shift_tables, shifts_of}
 use Rattle.orbits.specs.GroupLoop.{State}
 use Rattle.fc4.specs.Loops.{visit_at}
-use borrow.Author.Rules.{rules}
 use Rattle.fc4.proofs.compact.all_blocks.Given as goal
 
 abbrev pub invariant-loop-b : goal.invariant-loop-b

@@ -1,6 +1,5 @@
 use mathlib.Core.Path.{sym, ◌∙◌}
 use Rattle.fc4.specs.Loops.{symmetrize_refused, symmetrize_ready, symmetrize_done}
-use borrow.Author.Rules.{rules}
 use Rattle.fc4.proofs.compact.set_permutation_symmetry_compact_fc4.Goals as goal
 
 pub returns-then-is_refusal : goal.returns-then-is_refusal

@@ -1,5 +1,4 @@
 use Rattle.fc4.specs.Loops.{full-takes, visit-free, visit-met}
-use borrow.Author.Rules.{rules}
 use Rattle.fc4.proofs.full.full_visit.Goals as goal
 
 pub full_group_blocks-bs-requires : goal.full_group_blocks-bs-requires

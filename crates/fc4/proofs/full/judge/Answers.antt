@@ -2,7 +2,6 @@ use mathlib.Core.List.{[]}
 use mathlib.Core.Path.{sym, ◌∙◌}
 use native.Mathlib.Nat.{le_trans}
 use lib.Dec.{lit≤}
-use borrow.Author.Rules.{rules}
 use Rattle.tables.specs.Answers.{is_done}
 use Rattle.tables.specs.Full.{done_full, refused-with, wrong-with, right-with}
 use Rattle.fc4.proofs.full.judge.Goals as goal

@@ -1,6 +1,5 @@
 use mathlib.Core.Path.{sym, ◌∙◌}
 use Rattle.fc4.specs.Loops.{full-refused, full-ready, full-done}
-use borrow.Author.Rules.{rules}
 use Rattle.fc4.proofs.full.set_permutation_symmetry_fc4.Goals as goal
 
 pub returns-then-is_refusal : goal.returns-then-is_refusal

@@ -2,7 +2,6 @@ use Prim.Native.Nat.{◌<◌}
 use mathlib.Core.Path.{◌∙◌}
 use Rattle.lists.specs.Digits.{horner}
 use Rattle.fc4.specs.Blocks.{whole_below, whole_pos, whole_are, joined_are, legs_are, same-atoms}
-use borrow.Author.Rules.{rules}
 use Rattle.fc4.proofs.group.full_group_blocks.Goals as goal
 
 pub column_of-requires : goal.column_of-requires

@@ -3,7 +3,6 @@ use mathlib.Core.Path.{◌≡◌, refl, ap, ◌∙◌}
 use Rattle.tables.specs.Conditions.{index_at}
 use Rattle.places.specs.ReadOuts.{stored_in}
 use Rattle.fc4.specs.Blocks.{read-tables, others_below, satoms_pos, p2s-read, found_are, joined_are, legs_are, same-atoms}
-use borrow.Author.Rules.{rules}
 use Rattle.fc4.proofs.group.group_blocks.Goals as goal
 
 pub column_of-requires : goal.column_of-requires

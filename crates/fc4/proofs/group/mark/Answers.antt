@@ -1,10 +1,9 @@
-use Prim.Native.Nat.{◌≤◌, ◌<◌, ◌-◌}
+use Prim.Native.Nat.{◌<◌}
 use native.Mathlib.Omega.{arith}
 use mathlib.Core.Path.{◌≡◌, refl, ◌∙◌}
-use lib.ListN.{length, get_or, set, length-set}
-use Rattle.lists.specs.Tab.{times, times_none, times_more}
+use lib.ListN.{length, get_or, length-set}
+use Rattle.lists.specs.Tab.{times_none, times_more}
 use Rattle.fc4.specs.Loops.{stored-marks}
-use borrow.Author.Rules.{rules}
 use Rattle.fc4.proofs.group.mark.Goals as goal
 
 pub loop-s-init : goal.loop-s-init

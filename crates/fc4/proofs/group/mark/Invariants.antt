@@ -1,10 +1,7 @@
-use Prim.Native.Nat.{◌≤◌, ◌<◌, ◌-◌}
-use native.Mathlib.Omega.{arith}
-use mathlib.Core.Path.{◌≡◌, refl, ◌∙◌}
-use lib.ListN.{length, get_or, set, length-set}
-use Rattle.lists.specs.Tab.{times, times_none, times_more}
-use Rattle.fc4.specs.Loops.{stored-marks}
-use borrow.Author.Rules.{rules}
+use Prim.Native.Nat.{◌≤◌, ◌-◌}
+use mathlib.Core.Path.{◌≡◌}
+use lib.ListN.{length, get_or, set}
+use Rattle.lists.specs.Tab.{times}
 use Rattle.fc4.proofs.group.mark.Given as goal
 
 abbrev pub invariant-loop-s : goal.invariant-loop-s

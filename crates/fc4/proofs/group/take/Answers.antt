@@ -1,6 +1,5 @@
 use mathlib.Core.Path.{ap₂}
 use Rattle.fc4.specs.Loops.{taken_blocks}
-use borrow.Author.Rules.{rules}
 use Rattle.fc4.proofs.group.take.Goals as goal
 
 pub mark-requires : goal.mark-requires

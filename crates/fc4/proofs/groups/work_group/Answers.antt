@@ -1,5 +1,4 @@
 use mathlib.Core.Path.{ap, ◌∙◌}
-use borrow.Author.Rules.{rules}
 use Rattle.places.specs.Permutations.{perms4}
 use Rattle.orbits.specs.Groups.{spread_block}
 use Rattle.fc4.proofs.groups.work_group.Goals as goal

@@ -1,12 +1,7 @@
 use Prim.Native.Nat.{ℕ, ◌≤◌, ◌<◌, ◌-◌}
-use native.Mathlib.Omega.{arith}
-use mathlib.Core.Path.{◌≡◌, refl}
+use mathlib.Core.Path.{◌≡◌}
 use lib.ListN.{length, get_or}
 use lib.Ieee.{nan, binary64, div, of_bits}
-use borrow.Author.Count.{below_none}
-use borrow.Author.Rules.{rules}
-use Rattle.lists.specs.Tab.{fill_more, is_tab}
-use Rattle.fc4.specs.Mean.{divided}
 use Rattle.fc4.proofs.mean.divided.Given as goal
 
 abbrev pub invariant-loop-k : goal.invariant-loop-k

@@ -1,12 +1,8 @@
-use Prim.Native.Nat.{◌≤◌, ◌-◌}
 use native.Mathlib.Omega.{arith}
 use mathlib.Core.Path.{◌≡◌, refl, ap, ◌∙◌}
-use lib.ListN.{length, replicate}
-use lib.Ieee.{binary64, of_bits}
-use borrow.Author.Rules.{rules}
-use Rattle.lists.specs.Tab.{times, times_none, times_more}
+use Rattle.lists.specs.Tab.{times_none, times_more}
 use Rattle.blocks.specs.Block.{put_block}
-use Rattle.fc4.specs.Mean.{group_of, nine_sums, divided, means_to, means_are, is_group_lem}
+use Rattle.fc4.specs.Mean.{nine_sums, divided, means_to, means_are, is_group_lem}
 use Rattle.fc4.proofs.mean.group_means.Goals as goal
 
 pub read_group-g-requires : goal.read_group-g-requires

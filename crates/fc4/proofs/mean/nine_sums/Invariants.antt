@@ -1,12 +1,10 @@
 use Prim.Native.Nat.{◌≤◌, ◌-◌}
-use native.Mathlib.Omega.{arith}
-use mathlib.Core.Path.{◌≡◌, refl, ap, ◌∙◌}
+use mathlib.Core.Path.{◌≡◌}
 use mathlib.Core.List.{[]}
 use lib.ListN.{length, get_or, replicate}
 use lib.Ieee.{binary64, of_bits}
-use borrow.Author.Rules.{rules}
-use Rattle.lists.specs.Tab.{times, times_none, times_more}
-use Rattle.fc4.specs.Mean.{added_nine, nine_sums, length-added}
+use Rattle.lists.specs.Tab.{times}
+use Rattle.fc4.specs.Mean.{added_nine}
 use Rattle.fc4.proofs.mean.nine_sums.Given as goal
 
 abbrev pub invariant-loop-s : goal.invariant-loop-s

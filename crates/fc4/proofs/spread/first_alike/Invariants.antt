@@ -1,7 +1,4 @@
 use Prim.Native.Nat.{◌≤◌, ◌-◌}
-use native.Mathlib.Omega.{arith}
-use mathlib.Core.Path.{refl}
-use borrow.Author.Rules.{rules}
 use Rattle.fc4.proofs.spread.first_alike.Given as goal
 
 abbrev pub invariant-loop-r : goal.invariant-loop-r

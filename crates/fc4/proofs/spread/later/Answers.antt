@@ -1,12 +1,9 @@
-use Prim.Native.Nat.{ℕ, ◌≤◌, ◌<◌, ◌-◌, max}
+use Prim.Native.Nat.{max}
 use native.Mathlib.Omega.{arith}
-use mathlib.Core.Path.{◌≡◌, refl, ap, ◌∙◌}
-use lib.ListN.{length, get_or, length-set}
+use mathlib.Core.Path.{refl, ap, ◌∙◌}
+use lib.ListN.{get_or, length-set}
 use borrow.Author.Count.{below_none}
-use borrow.Author.Rules.{rules}
 use Rattle.lists.specs.Tab.{fill_more, is_tab}
-use Rattle.blocks.specs.Permuted.{permuted}
-use Rattle.positions.specs.Positions.{permutation_at}
 use Rattle.fc4.specs.Spread.{later_of}
 use Rattle.fc4.proofs.spread.later.Goals as goal
 

@@ -1,13 +1,8 @@
 use Prim.Native.Nat.{ℕ, ◌≤◌, ◌<◌, ◌-◌, max}
-use native.Mathlib.Omega.{arith}
-use mathlib.Core.Path.{◌≡◌, refl, ap, ◌∙◌}
-use lib.ListN.{length, get_or, length-set}
-use borrow.Author.Count.{below_none}
-use borrow.Author.Rules.{rules}
-use Rattle.lists.specs.Tab.{fill_more, is_tab}
+use mathlib.Core.Path.{◌≡◌}
+use lib.ListN.{length, get_or}
 use Rattle.blocks.specs.Permuted.{permuted}
 use Rattle.positions.specs.Positions.{permutation_at}
-use Rattle.fc4.specs.Spread.{later_of}
 use Rattle.fc4.proofs.spread.later.Given as goal
 
 abbrev pub invariant-loop-k : goal.invariant-loop-k

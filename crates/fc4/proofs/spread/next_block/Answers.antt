@@ -1,6 +1,4 @@
-use Prim.Native.Nat.{◌-◌}
-use borrow.Author.Rules.{rules}
-use Rattle.fc4.specs.Spread.{NextBlock, none_passed, one-more-passed}
+use Rattle.fc4.specs.Spread.{none_passed, one-more-passed}
 use Rattle.fc4.proofs.spread.next_block.Goals as goal
 
 pub loop-n-init : goal.loop-n-init

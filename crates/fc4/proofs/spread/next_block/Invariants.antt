@@ -1,6 +1,5 @@
 use Prim.Native.Nat.{◌-◌}
-use borrow.Author.Rules.{rules}
-use Rattle.fc4.specs.Spread.{NextBlock, none_passed, one-more-passed}
+use Rattle.fc4.specs.Spread.{NextBlock}
 use Rattle.fc4.proofs.spread.next_block.Given as goal
 
 abbrev pub invariant-loop-n : goal.invariant-loop-n

@@ -1,11 +1,11 @@
-use Prim.Native.Nat.{ℕ, ◌+◌, ◌≤◌, ◌<◌, ◌-◌}
+use Prim.Native.Nat.{◌+◌, ◌<◌}
 use native.Mathlib.Omega.{arith}
 use mathlib.Core.Path.{◌≡◌, refl, sym, ap, ◌∙◌}
-use lib.ListN.{length, get_or, length-set}
+use lib.ListN.{get_or, length-set}
 use lib.Ieee.{nan}
 use borrow.Author.Count.{below_none}
 use borrow.Author.Rules.{rules}
-use Rattle.lists.specs.Tab.{times, times_none, times_more, fill_more}
+use Rattle.lists.specs.Tab.{times_none, times_more, fill_more}
 use Rattle.blocks.specs.Block.{put_block}
 use Rattle.fc4.specs.Spread.{sources_below, made_of, is_made, passed_over, put_blocks, blocks_are}
 use Rattle.fc4.proofs.spread.put_blocks.Goals as goal
@@ -21,25 +21,19 @@ pub loop-k-init : goal.loop-k-init
 loop-k-init c = (omega arith, refl, below_none _)
 
 -- the source of a place is a position of the block
-source_in : (c : tie.In-loop2 invariant-loop2 decreases-loop2 invariant-loop decreases-loop) → get_or c.before.before.sources.result c.before.loop2.k 0 < 81
-source_in c =
-    let a = c.before.before.before.before.before.before.before.before.before in
-    let l = c.before.before.before.before.before.before.loop in
-    rw c.before.before.sources.ensures (sources_below a.args.bs.now (get_or a.args.bs.now l.s 0) c.before.loop2.k (omega (arith, c.loop2-test.true)))
-
 pub overflow_cast-q : goal.overflow_cast-q
 overflow_cast-q c =
-    let g = source_in c in
+    let g : get_or c.sources-m.result c.loop-k.k 0 < 81 = rw c.sources-m.ensures (sources_below c.args.bs.now (get_or c.args.bs.now c.loop-s.s 0) c.loop-k.k (omega (arith, c.loop-k-test.true))) in
     search rules
 
 pub offset_bounds-v-q : goal.offset_bounds-v-q
 offset_bounds-v-q c =
-    let g = source_in c in
+    let g : get_or c.sources-m.result c.loop-k.k 0 < 81 = rw c.sources-m.ensures (sources_below c.args.bs.now (get_or c.args.bs.now c.loop-s.s 0) c.loop-k.k (omega (arith, c.loop-k-test.true))) in
     omega arith
 
 pub bounds-v-q : goal.bounds-v-q
 bounds-v-q c =
-    let g = source_in c in
+    let g : get_or c.sources-m.result c.loop-k.k 0 < 81 = rw c.sources-m.ensures (sources_below c.args.bs.now (get_or c.args.bs.now c.loop-s.s 0) c.loop-k.k (omega (arith, c.loop-k-test.true))) in
     omega arith
 
 pub loop-k-preserved : goal.loop-k-preserved

@@ -1,12 +1,9 @@
-use Prim.Native.Nat.{◌≤◌, ◌-◌}
 use native.Mathlib.Omega.{arith}
 use mathlib.Core.Path.{◌≡◌, ◌∙◌}
-use mathlib.Core.Logic.{⊎_elim}
-use lib.ListN.{replicate}
-use borrow.Author.Rules.{rules}
-use Rattle.lists.specs.Tab.{times, times_none, times_more}
+use Rattle.lists.specs.Tab.{times_none, times_more}
 use Rattle.positions.specs.Inverses.{inverse-at, inverse-below}
 use Rattle.fc4.specs.Spread.{later_if_shared, sources_of, not-shared, is_shared}
+use Rattle.fc4.proofs.spread.sources.Goals.{then-bs-s, else-bs-s}
 use Rattle.fc4.proofs.spread.sources.Goals as goal
 
 pub loop-s-init : goal.loop-s-init
@@ -21,10 +18,10 @@ pub loop-s-preserved : goal.loop-s-preserved
 loop-s-preserved c =
     let l = c.loop-s in
     let e : c.if-bs-s.m ≡ later_if_shared c.args.bs.now c.args.b l.s l.m =
-    ⊎_elim
-    (λ w. w.3 ∙ is_shared c.args.bs.now c.args.b l.s l.m w.0.taken w.2.ensures (inverse-at c.requires.0 l.s))
-    (λ w. w.1 ∙ not-shared c.args.bs.now c.args.b l.s l.m w.0.left)
-    c.if-bs-s.branch in
+    elim c.if-bs-s.branch [
+      | then-bs-s w ↦ w.m-is ∙ is_shared c.args.bs.now c.args.b l.s l.m w.if-bs-s.true w.later-n.ensures (inverse-at c.requires.0 l.s)
+      | else-bs-s w ↦ w.m-is ∙ not-shared c.args.bs.now c.args.b l.s l.m w.if-bs-s.false
+    ] in
     (omega arith, times_more l.s _ _ l.invariant.1 e)
 
 pub returns : goal.returns

@@ -1,12 +1,8 @@
 use Prim.Native.Nat.{◌≤◌, ◌-◌}
-use native.Mathlib.Omega.{arith}
-use mathlib.Core.Path.{◌≡◌, ◌∙◌}
-use mathlib.Core.Logic.{⊎_elim}
+use mathlib.Core.Path.{◌≡◌}
 use lib.ListN.{replicate}
-use borrow.Author.Rules.{rules}
-use Rattle.lists.specs.Tab.{times, times_none, times_more}
-use Rattle.positions.specs.Inverses.{inverse-at, inverse-below}
-use Rattle.fc4.specs.Spread.{later_if_shared, sources_of, not-shared, is_shared}
+use Rattle.lists.specs.Tab.{times}
+use Rattle.fc4.specs.Spread.{later_if_shared}
 use Rattle.fc4.proofs.spread.sources.Given as goal
 
 abbrev pub invariant-loop-s : goal.invariant-loop-s

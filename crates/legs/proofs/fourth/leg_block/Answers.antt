@@ -8,7 +8,6 @@ use Rattle.tables.specs.Limits.{limit4}
 use Rattle.tables.specs.Compact.{ShiftTables, shift_tables}
 use Rattle.places.specs.ReadOuts.{tables}
 use Rattle.legs.specs.Laws.{leg4_0, leg4_1, leg4_2, leg4_3}
-use borrow.Author.Rules.{rules}
 use Rattle.legs.proofs.fourth.leg_block.Goals as goal
 
 last-leg : (leg : ℕ) → leg ≤ 3 → (leg ≡ 0 → ⊥) → (leg ≡ 1 → ⊥) → (leg ≡ 2 → ⊥) → leg ≡ 3

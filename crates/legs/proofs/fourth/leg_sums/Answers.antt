@@ -1,14 +1,12 @@
-use Prim.Native.Nat.{ℕ, ◌*◌, ◌+◌, ◌-◌, ◌≤◌, ◌<◌}
 use native.Mathlib.Omega.{arith}
-use mathlib.Core.Path.{◌≡◌, sym, ap, ap₂, ◌∙◌}
+use mathlib.Core.Path.{◌≡◌, sym, ap, ◌∙◌}
 use lib.Dec.{lit≤}
-use lib.ListN.{length, length-replicate}
+use lib.ListN.{length}
 use Rattle.blocks.specs.Block.{block, length-block}
 use Rattle.tables.specs.Limits.{limit4}
 use Rattle.tables.specs.Compact.{ShiftTables, shift_tables, shifts_of}
 use Rattle.audits.specs.FourthScanLaws.{in81}
 use Rattle.legs.specs.Laws.{leg_block, block_sums, sums_none, sums-more, length-sums, leg-inside}
-use borrow.Author.Rules.{rules}
 use Rattle.legs.proofs.fourth.leg_sums.Goals as goal
 
 pub loop-i-init : goal.loop-i-init

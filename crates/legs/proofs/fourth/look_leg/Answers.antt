@@ -1,15 +1,12 @@
-use Prim.Native.Nat.{ℕ, ◌+◌, ◌*◌, ◌-◌, ◌≤◌, ◌<◌}
+use Prim.Native.Nat.{ℕ, ◌+◌, ◌*◌, ◌-◌, ◌<◌}
 use native.Mathlib.Omega.{arith}
-use native.Mathlib.Nat.{mul-le-mul, le_trans}
-use mathlib.Core.Path.{◌≡◌, sym, ap, ap₂, ◌∙◌, subst}
-use lib.Dec.{lit≤}
+use native.Mathlib.Nat.{mul-le-mul}
+use mathlib.Core.Path.{◌≡◌, ap, ◌∙◌, subst}
 use lib.ListN.{length}
 use Rattle.lists.specs.Tab.{times, times_none, times_more}
 use Rattle.lists.specs.Digits.{times_power}
-use Rattle.tables.specs.Limits.{limit4}
 use Rattle.tables.specs.Compact.{ShiftTables, shift_tables, shifts_of}
 use Rattle.legs.specs.Laws.{leg_block, line_seen, leg_seen, look_is, length-sums}
-use borrow.Author.Rules.{rules}
 use Rattle.legs.proofs.fourth.look_leg.Goals as goal
 
 zero_more : (x : ℕ) → x + 0 ≡ x

@@ -1,11 +1,8 @@
 use Prim.Native.Nat.{◌-◌, ◌≤◌}
-use native.Mathlib.Omega.{arith}
-use mathlib.Core.Path.{◌≡◌, ap, ◌∙◌}
-use Rattle.lists.specs.Tab.{times, times_none, times_more}
-use Rattle.tables.specs.Compact.{ShiftTables, shift_tables, shifts_of}
-use Rattle.audits.specs.FourthScanLaws.{in81}
-use Rattle.legs.specs.Laws.{leg_seen, legs_seen-w}
-use borrow.Author.Rules.{rules}
+use mathlib.Core.Path.{◌≡◌}
+use Rattle.lists.specs.Tab.{times}
+use Rattle.tables.specs.Compact.{shift_tables, shifts_of}
+use Rattle.legs.specs.Laws.{leg_seen}
 use Rattle.legs.proofs.fourth.scan.Given as goal
 
 abbrev pub invariant-loop-e : goal.invariant-loop-e

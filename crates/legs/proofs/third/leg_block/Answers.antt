@@ -8,7 +8,6 @@ use Rattle.tables.specs.Limits.{limit3}
 use Rattle.tables.specs.Compact.{ShiftTables, shift_tables}
 use Rattle.places.specs.ReadOuts.{tables}
 use Rattle.legs.specs.Laws.{leg3_0, leg3_1, leg3_2}
-use borrow.Author.Rules.{rules}
 use Rattle.legs.proofs.third.leg_block.Goals as goal
 
 last-leg : (leg : ℕ) → leg ≤ 2 → (leg ≡ 0 → ⊥) → (leg ≡ 1 → ⊥) → leg ≡ 2

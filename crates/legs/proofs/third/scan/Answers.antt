@@ -1,11 +1,9 @@
-use Prim.Native.Nat.{◌-◌, ◌≤◌}
 use native.Mathlib.Omega.{arith}
 use mathlib.Core.Path.{◌≡◌, ap, ◌∙◌}
 use Rattle.lists.specs.Tab.{times, times_none, times_more}
 use Rattle.tables.specs.Compact.{ShiftTables, shift_tables, shifts_of}
 use Rattle.audits.specs.ThirdScanLaws.{in27}
 use Rattle.legs.specs.Laws.{leg_seen, legs_seen-w}
-use borrow.Author.Rules.{rules}
 use Rattle.legs.proofs.third.scan.Goals as goal
 
 pub loop-e-init : goal.loop-e-init

@@ -4,7 +4,6 @@ use lib.ListN.{length}
 use Rattle.distances.specs.Near.{distance}
 use Rattle.matching.specs.Matching.{searched}
 use Rattle.matching.specs.CellsOutcomeLaws.{accepted, refused, done}
-use borrow.Author.Rules.{rules}
 use Rattle.matching.proofs.cells.compute_permutation.Goals as goal
 
 pub fill-requires : goal.fill-requires

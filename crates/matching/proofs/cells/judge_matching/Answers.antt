@@ -4,7 +4,6 @@ use borrow.Author.Tests.{lt-ltb, le-ltb, eq-eqb, ne_eqb}
 use Rattle.tables.specs.declared.Answer.TheVariants.{Refused}
 use Rattle.tables.specs.declared.Refusal.TheVariants.{WrongLength}
 use Rattle.matching.specs.Matching.{judged_matching}
-use borrow.Author.Rules.{rules}
 use Rattle.matching.proofs.cells.judge_matching.Goals as goal
 
 -- the fact that an edit of the test for it breaks

@@ -1,10 +1,10 @@
 use mathlib.Core.Path.{◌≡◌}
+use native.Mathlib.Omega.{arith}
 use Rattle.tables.proofs.Integers.{handed}
 use Rattle.matching.specs.Matching.{is_filled}
-use borrow.Author.Rules.{rules}
 use Rattle.matching.proofs.chains.filled_at.Goals as goal
 
 pub returns : goal.returns
 returns c =
     let a = c.args in
-    handed (λ z. c.is_filled.result ≡ is_filled z) a.rot_atom.now a.j c.is_filled-arg-1.given c.is_filled.ensures
+    handed (λ z. c.is_filled.result ≡ is_filled z) a.rot_atom.now a.j (omega arith) c.is_filled.ensures

@@ -4,7 +4,6 @@ use lib.IntN.{pos}
 use mir.Val.{to_z}
 use mir.Syntax.{w64}
 use mir.ValLaws.{to_z_pos}
-use borrow.Author.Rules.{rules}
 use Rattle.matching.proofs.chains.give.Goals as goal
 
 pub returns : goal.returns

@@ -1,5 +1,4 @@
-use borrow.Author.Rules.{rules}
-use mathlib.Core.Path.{sym, ap, ◌∙◌}
+use mathlib.Core.Path.{sym, ◌∙◌}
 use native.Mathlib.Omega.{arith}
 use Rattle.matching.specs.Groups.{held_below}
 use Rattle.matching.specs.StepLaws.{filled_pos, open_held, open_free, open_far}

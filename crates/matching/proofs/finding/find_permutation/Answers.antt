@@ -1,7 +1,6 @@
 use mathlib.Core.Path.{sym, ◌∙◌}
 use native.Mathlib.Omega.{arith}
 use lib.ListN.{length}
-use borrow.Author.Rules.{rules}
 use Rattle.matching.specs.FindingOutcomeLaws.{accepted, refused, finished}
 use Rattle.matching.proofs.finding.find_permutation.Goals as goal
 

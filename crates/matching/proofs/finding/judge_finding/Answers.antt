@@ -1,5 +1,4 @@
 use mathlib.Core.Path.{sym, ◌∙◌}
-use borrow.Author.Rules.{rules}
 use Rattle.tables.specs.Answers.{is_done}
 use Rattle.matching.specs.FindingOutcomeLaws.{positions-refused, marks-wrong, marks-right}
 use Rattle.matching.proofs.finding.judge_finding.Goals as goal

@@ -1,6 +1,5 @@
 use mathlib.Core.Path.{sym, ap, ◌∙◌}
 use lib.IntN.{pos}
-use borrow.Author.Rules.{rules}
 use Rattle.matching.specs.StepLaws.{filled_pos}
 use Rattle.matching.specs.Rest.{there-told, free-told}
 use Rattle.matching.proofs.rest.holds_at.Goals as goal

@@ -1,8 +1,5 @@
-use Prim.Native.Nat.{◌≤◌, ◌-◌}
 use native.Mathlib.Omega.{arith}
-use lib.ListN.{length}
-use borrow.Author.Rules.{rules}
-use Rattle.matching.specs.Rest.{NotBelow, not_none, not_more, held_at, held_nowhere}
+use Rattle.matching.specs.Rest.{not_none, not_more, held_at, held_nowhere}
 use Rattle.matching.proofs.rest.is_held.Goals as goal
 
 pub loop-j-init : goal.loop-j-init

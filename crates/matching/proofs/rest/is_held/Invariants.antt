@@ -1,8 +1,6 @@
 use Prim.Native.Nat.{◌≤◌, ◌-◌}
-use native.Mathlib.Omega.{arith}
 use lib.ListN.{length}
-use borrow.Author.Rules.{rules}
-use Rattle.matching.specs.Rest.{NotBelow, not_none, not_more, held_at, held_nowhere}
+use Rattle.matching.specs.Rest.{NotBelow}
 use Rattle.matching.proofs.rest.is_held.Given as goal
 
 abbrev pub invariant-loop-j : goal.invariant-loop-j

@@ -1,6 +1,5 @@
 use mathlib.Core.Path.{◌≡◌, ap, ◌∙◌}
 use lib.ListN.{length, replicate, length-replicate}
-use borrow.Author.Rules.{rules}
 use Rattle.matching.specs.Rest.{placed_already, starts, placed-now}
 use Rattle.matching.proofs.rest.place_one.Goals as goal
 

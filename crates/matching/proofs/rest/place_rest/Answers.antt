@@ -1,10 +1,8 @@
 use mathlib.Core.Path.{◌≡◌, refl, sym, ◌∙◌}
 use native.Mathlib.Omega.{arith}
-use Prim.Native.Nat.{◌≤◌, ◌<◌, ◌-◌}
+use Prim.Native.Nat.{◌<◌}
 use lib.ListN.{length}
-use borrow.Author.Rules.{rules}
-use Rattle.distances.specs.Near.{near}
-use Rattle.matching.specs.Rest.{PlacedBelow, placed-none, placed-more, placed-all, placed-stuck}
+use Rattle.matching.specs.Rest.{placed-none, placed-more, placed-all, placed-stuck}
 use Rattle.matching.proofs.rest.place_rest.Goals as goal
 
 pub loop-i-init : goal.loop-i-init

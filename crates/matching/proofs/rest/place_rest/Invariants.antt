@@ -1,10 +1,8 @@
-use mathlib.Core.Path.{◌≡◌, refl, sym, ◌∙◌}
-use native.Mathlib.Omega.{arith}
-use Prim.Native.Nat.{◌≤◌, ◌<◌, ◌-◌}
+use mathlib.Core.Path.{◌≡◌}
+use Prim.Native.Nat.{◌≤◌, ◌-◌}
 use lib.ListN.{length}
-use borrow.Author.Rules.{rules}
 use Rattle.distances.specs.Near.{near}
-use Rattle.matching.specs.Rest.{PlacedBelow, placed-none, placed-more, placed-all, placed-stuck}
+use Rattle.matching.specs.Rest.{PlacedBelow}
 use Rattle.matching.proofs.rest.place_rest.Given as goal
 
 abbrev pub invariant-loop-i : goal.invariant-loop-i

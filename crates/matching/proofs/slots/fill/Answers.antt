@@ -4,7 +4,6 @@ use lib.IntN.{negsuc}
 use lib.ListN.{length, length-replicate}
 use Rattle.distances.specs.Near.{distance}
 use Rattle.matching.specs.CellsOutcomeLaws.{all_found, not_found}
-use borrow.Author.Rules.{rules}
 use Rattle.matching.proofs.slots.fill.Goals as goal
 
 pub place_all-p-requires : goal.place_all-p-requires

@@ -8,8 +8,7 @@ use borrow.Author.Count.{below_more}
 use mathlib.Core.Path.{◌≡◌, sym, ap, ◌∙◌, subst}
 use lib.ListN.{length}
 use native.Mathlib.Omega.{arith}
-use Prim.Native.Nat.{ℕ, ◌+◌, ◌-◌, ◌≤◌, ◌<◌}
-use borrow.Author.Rules.{rules}
+use Prim.Native.Nat.{◌+◌}
 use Rattle.matching.proofs.slots.find.Goals as goal
 
 pub loop-j-init : goal.loop-j-init
@@ -27,7 +26,7 @@ returns-then-is_near c =
     let a = c.args in
     let dist = distance a.cell a.pos.now a.rot_pos.now in
     let slots = a.rot_atom.now in
-    let e = handed (λ z. c.tried-d.result ≡ tried_as z (dist a.i l.j)) slots l.j c.tried-arg-1.given c.tried-d.ensures in
+    let e = handed (λ z. c.tried-d.result ≡ tried_as z (dist a.i l.j)) slots l.j (omega arith) c.tried-d.ensures in
     let t : takes (near a.cell a.pos.now a.rot_pos.now) slots a.i l.j ≡ true = sym (near-tried (is_filled (slot_at slots l.j)) (dist a.i l.j)) ∙ ap is_near (sym e) ∙ sym c.is_near.ensures ∙ c.if-is_near.true in
     let p = taken_is dist slots a.i l.j l.invariant.0 l.invariant.1 (λ _. t) in
     (p, noted_is dist slots a.i l.j l.none p l.invariant.0 l.invariant.2)
@@ -38,7 +37,7 @@ loop-j-preserved c =
     let a = c.args in
     let dist = distance a.cell a.pos.now a.rot_pos.now in
     let slots = a.rot_atom.now in
-    let e = handed (λ z. c.tried-d.result ≡ tried_as z (dist a.i l.j)) slots l.j c.tried-arg-1.given c.tried-d.ensures in
+    let e = handed (λ z. c.tried-d.result ≡ tried_as z (dist a.i l.j)) slots l.j (omega arith) c.tried-d.ensures in
     let t : takes (near a.cell a.pos.now a.rot_pos.now) slots a.i l.j ≡ false = sym (near-tried (is_filled (slot_at slots l.j)) (dist a.i l.j)) ∙ ap is_near (sym e) ∙ sym c.is_near.ensures ∙ c.if-is_near.false in
     let b : no_number_at dist slots a.i l.j ≡ is_none c.tried-d.result = sym (none_tried (is_filled (slot_at slots l.j)) (dist a.i l.j)) ∙ ap is_none (sym e) in
     let f = first-noted (no_number_at dist slots a.i) (length slots) l.j l.none l.invariant.2 c.tried-d.result b c.loop-j-test.true in

@@ -1,6 +1,5 @@
 use Rattle.matching.specs.Search.{noted_by}
 use mathlib.Core.Path.{sym, ap, ◌∙◌}
-use borrow.Author.Rules.{rules}
 use Rattle.matching.proofs.slots.noted.Goals as goal
 
 pub returns-in-NoNumber : goal.returns-in-NoNumber

@@ -6,7 +6,6 @@ use Rattle.distances.specs.Near.{distance}
 use Rattle.matching.specs.Search.{place_at, place_out}
 use native.Mathlib.Omega.{arith}
 use mathlib.Core.Path.{◌≡◌}
-use borrow.Author.Rules.{rules}
 use Rattle.matching.proofs.slots.place.Goals as goal
 
 pub returns-then-j-rot_atom : goal.returns-then-j-rot_atom

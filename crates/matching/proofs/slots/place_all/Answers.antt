@@ -1,14 +1,11 @@
-use Rattle.matching.specs.Slots.{FilledBelow, still-filled, length-place}
-use Rattle.matching.specs.Matching.{match_one}
+use Rattle.matching.specs.Slots.{still-filled, length-place}
 use Rattle.distances.specs.Near.{near, distance}
-use Rattle.matching.specs.Search.{pair_after, pair-none, pair-more}
-use Rattle.lists.specs.Tab.{times, times_none, times_more}
+use Rattle.matching.specs.Search.{pair-none, pair-more}
+use Rattle.lists.specs.Tab.{times_none, times_more}
 use borrow.Author.Count.{below_none}
 use lib.ListN.{length}
 use native.Mathlib.Omega.{arith}
-use Prim.Native.Nat.{◌≤◌, ◌-◌}
 use mathlib.Core.Path.{◌≡◌, refl, ap, ◌∙◌}
-use borrow.Author.Rules.{rules}
 use Rattle.matching.proofs.slots.place_all.Goals as goal
 
 pub loop-i-init : goal.loop-i-init

@@ -1,14 +1,11 @@
-use Rattle.matching.specs.Slots.{FilledBelow, still-filled, length-place}
+use Rattle.matching.specs.Slots.{FilledBelow}
 use Rattle.matching.specs.Matching.{match_one}
 use Rattle.distances.specs.Near.{near, distance}
-use Rattle.matching.specs.Search.{pair_after, pair-none, pair-more}
-use Rattle.lists.specs.Tab.{times, times_none, times_more}
-use borrow.Author.Count.{below_none}
+use Rattle.matching.specs.Search.{pair_after}
+use Rattle.lists.specs.Tab.{times}
 use lib.ListN.{length}
-use native.Mathlib.Omega.{arith}
 use Prim.Native.Nat.{◌≤◌, ◌-◌}
-use mathlib.Core.Path.{◌≡◌, refl, ap, ◌∙◌}
-use borrow.Author.Rules.{rules}
+use mathlib.Core.Path.{◌≡◌}
 use Rattle.matching.proofs.slots.place_all.Given as goal
 
 abbrev pub invariant-loop-i : goal.invariant-loop-i

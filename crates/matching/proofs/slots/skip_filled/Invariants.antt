@@ -1,12 +1,6 @@
 use Rattle.matching.specs.Slots.{FilledBelow}
-use Rattle.matching.specs.Matching.{is_filled}
-use Rattle.tables.proofs.Integers.{handed}
-use borrow.Author.Count.{below_more}
-use mathlib.Core.Path.{◌≡◌, sym, ◌∙◌}
 use lib.ListN.{length}
-use native.Mathlib.Omega.{arith}
 use Prim.Native.Nat.{◌-◌}
-use borrow.Author.Rules.{rules}
 use Rattle.matching.proofs.slots.skip_filled.Given as goal
 
 abbrev pub invariant-loop-k : goal.invariant-loop-k

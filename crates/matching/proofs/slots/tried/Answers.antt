@@ -1,7 +1,6 @@
 use Rattle.matching.proofs.Signs.{read_back}
 use Rattle.matching.specs.Matching.{is_filled}
 use mathlib.Core.Path.{◌≡◌, sym, ◌∙◌}
-use borrow.Author.Rules.{rules}
 use Rattle.matching.proofs.slots.tried.Goals as goal
 
 pub returns-then-is_filled : goal.returns-then-is_filled

@@ -1,6 +1,5 @@
 use mathlib.Core.Path.{sym, ◌∙◌}
 use lib.Dec.{lit≤}
-use borrow.Author.Rules.{rules}
 use Rattle.tables.specs.Compact.{ShiftTables, shift_tables}
 use Rattle.read_out.specs.Guard.{in9, read-out-refused, reading, read-out-done}
 use Rattle.read_out.proofs.fc2.compact_to_full_fc2.Goals as goal

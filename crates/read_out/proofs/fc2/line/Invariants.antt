@@ -1,12 +1,8 @@
-use mathlib.Core.Path.{◌≡◌, refl, ◌∙◌}
-use Prim.Native.Nat.{◌+◌, ◌-◌, ◌*◌, ◌<◌, ◌≤◌}
-use native.Mathlib.Omega.{arith}
+use mathlib.Core.Path.{◌≡◌}
+use Prim.Native.Nat.{◌+◌, ◌-◌, ◌*◌, ◌≤◌}
 use lib.ListN.{length}
-use borrow.Author.Rules.{rules}
-use Rattle.lists.specs.Tab.{times, times_none, times_more}
-use Rattle.blocks.specs.Block.{block, put_block}
+use Rattle.lists.specs.Tab.{times}
 use Rattle.tables.specs.Conditions.{index_at}
-use Rattle.blocks.specs.Inside.{inside-atom, inside-block, inside-small}
 use Rattle.read_out.specs.Copies.{copy_legs}
 use Rattle.read_out.proofs.fc2.line.Given as goal
 

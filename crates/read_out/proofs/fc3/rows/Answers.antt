@@ -1,9 +1,6 @@
 use mathlib.Core.Path.{◌≡◌, refl, ◌∙◌}
-use Prim.Native.Nat.{◌-◌, ◌≤◌}
 use native.Mathlib.Omega.{arith}
-use lib.ListN.{length}
-use borrow.Author.Rules.{rules}
-use Rattle.lists.specs.Tab.{times, times_none, times_more}
+use Rattle.lists.specs.Tab.{times_none, times_more}
 use Rattle.tables.specs.Conditions.{index_at}
 use Rattle.places.specs.ReadOuts.{s2pp-read, nsym_read, perms-read}
 use Rattle.blocks.specs.Inside.{inside_slab}
@@ -23,10 +20,13 @@ pub plane-requires : goal.plane-requires
 plane-requires c =
     let a = c.args in
     let l = c.loop-i in
-    let R = c.requires in rw (c.nsym_at-t.ensures, c.s2pp_at-p.ensures, l.invariant.1) (record { along = perms-read R.read-tables l.i (omega arith); blocks_in = (
+    let R = c.requires in rw (c.nsym_at-t.ensures, c.s2pp_at-p.ensures, l.invariant.1) (record {
+      along = perms-read R.read-tables l.i (omega arith);
+      blocks_in = (
         inside_slab a.n_satom 27 2 l.i a.n_satom _ (omega arith) R.full-length,
         inside_slab a.n_satom 27 2 _ R.read-tables.n_patom _ (s2pp-read R.read-tables l.i (omega arith)).1 R.set-length,
-      ) })
+      );
+    })
 
 pub loop-i-preserved : goal.loop-i-preserved
 loop-i-preserved c =

@@ -1,13 +1,9 @@
-use mathlib.Core.Path.{◌≡◌, refl, ◌∙◌}
+use mathlib.Core.Path.{◌≡◌}
 use Prim.Native.Nat.{◌-◌, ◌≤◌}
-use native.Mathlib.Omega.{arith}
 use lib.ListN.{length}
-use borrow.Author.Rules.{rules}
-use Rattle.lists.specs.Tab.{times, times_none, times_more}
+use Rattle.lists.specs.Tab.{times}
 use Rattle.tables.specs.Conditions.{index_at}
-use Rattle.places.specs.ReadOuts.{s2pp-read, nsym_read, perms-read}
-use Rattle.blocks.specs.Inside.{inside_slab}
-use Rattle.read_out.specs.Copies.{copy_legs, copy_rows}
+use Rattle.read_out.specs.Copies.{copy_legs}
 use Rattle.read_out.proofs.fc3.rows.Given as goal
 
 abbrev pub invariant-loop-i : goal.invariant-loop-i

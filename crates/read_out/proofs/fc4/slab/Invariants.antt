@@ -1,11 +1,8 @@
-use mathlib.Core.Path.{◌≡◌, refl, ◌∙◌}
-use Prim.Native.Nat.{◌+◌, ◌-◌, ◌*◌, ◌<◌, ◌≤◌}
-use native.Mathlib.Omega.{arith}
+use mathlib.Core.Path.{◌≡◌}
+use Prim.Native.Nat.{◌+◌, ◌-◌, ◌*◌, ◌≤◌}
 use lib.ListN.{length}
-use borrow.Author.Rules.{rules}
-use Rattle.lists.specs.Tab.{times, times_none, times_more}
+use Rattle.lists.specs.Tab.{times}
 use Rattle.tables.specs.Conditions.{index_at}
-use Rattle.blocks.specs.Inside.{inside-atom, inside-small}
 use Rattle.read_out.specs.Copies.{copy_legs}
 use Rattle.read_out.proofs.fc4.slab.Given as goal
 

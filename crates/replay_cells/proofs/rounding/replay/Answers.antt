@@ -1,7 +1,4 @@
-use Prim.Native.Nat.{◌≤◌, ◌*◌, ◌-◌}
 use native.Mathlib.Omega.{arith}
-use lib.ListN.{length}
-use borrow.Author.Rules.{rules}
 use Rattle.replay_cells.proofs.rounding.replay.Goals as goal
 
 pub loop-i-init : goal.loop-i-init

@@ -1,7 +1,5 @@
 use Prim.Native.Nat.{◌≤◌, ◌*◌, ◌-◌}
-use native.Mathlib.Omega.{arith}
 use lib.ListN.{length}
-use borrow.Author.Rules.{rules}
 use Rattle.replay_cells.proofs.rounding.replay.Given as goal
 
 abbrev pub invariant-loop-i : goal.invariant-loop-i

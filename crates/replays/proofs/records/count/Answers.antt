@@ -1,4 +1,4 @@
-use Rattle.std.proofs.Common.{◌≡◌, ℕ, ◌/◌, ◌<◌, ◌≤◌, List, length, arith, rules, le-ltb, lt-ltb}
+use Rattle.std.proofs.Common.{◌≡◌, ℕ, ◌/◌, ◌<◌, ◌≤◌, List, length, arith, le-ltb, lt-ltb}
 use Rattle.replays.specs.Words.{word_of, records_in}
 use Rattle.replays.proofs.records.count.Goals as goal
 

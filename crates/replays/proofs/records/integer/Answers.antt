@@ -1,4 +1,4 @@
-use Rattle.std.proofs.Common.{◌≡◌, ℕ, zero, suc, ◌-◌, ◌^◌, ◌<◌, ◌≤◌, Bool, ℤ, pos, negsuc, ◌-ℤ◌, sym, refl, ap, ◌∙◌, subst, zero-add, arith, w64, Fits, SFits, to_z, rules, le-ltb}
+use Rattle.std.proofs.Common.{◌≡◌, ℕ, zero, suc, ◌-◌, ◌^◌, ◌<◌, ◌≤◌, Bool, ℤ, pos, negsuc, ◌-ℤ◌, sym, refl, ap, ◌∙◌, subst, zero-add, arith, w64, Fits, SFits, to_z, le-ltb}
 use mir.Val.{sel}
 use mir.ValLaws.{to_z_pos, to_z-Fits, to_z-of_z}
 use Rattle.replays.proofs.records.integer.Goals as goal

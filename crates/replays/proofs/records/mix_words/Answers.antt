@@ -1,4 +1,4 @@
-use Rattle.std.proofs.Common.{◌≡◌, ℕ, ◌+◌, ◌-◌, ◌≤◌, ap, ◌∙◌, arith, rules}
+use Rattle.std.proofs.Common.{◌≡◌, ℕ, ◌+◌, ◌-◌, ap, ◌∙◌, arith}
 use Rattle.lists.specs.Tab.{times, times-at, times-from}
 use Rattle.replays.specs.Words.{mixed, mixed_at}
 use Rattle.replays.proofs.records.mix_words.Goals as goal

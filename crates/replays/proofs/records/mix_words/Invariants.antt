@@ -1,6 +1,6 @@
-use Rattle.std.proofs.Common.{◌≡◌, ℕ, ◌+◌, ◌-◌, ◌≤◌, ap, ◌∙◌, arith, rules}
-use Rattle.lists.specs.Tab.{times, times-at, times-from}
-use Rattle.replays.specs.Words.{mixed, mixed_at}
+use Rattle.std.proofs.Common.{◌≡◌, ◌+◌, ◌-◌, ◌≤◌}
+use Rattle.lists.specs.Tab.{times}
+use Rattle.replays.specs.Words.{mixed_at}
 use Rattle.replays.proofs.records.mix_words.Given as goal
 
 abbrev pub invariant-loop-k : goal.invariant-loop-k

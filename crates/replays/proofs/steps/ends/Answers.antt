@@ -1,4 +1,4 @@
-use Rattle.std.proofs.Common.{arith, rules, le-ltb, lt-ltb}
+use Rattle.std.proofs.Common.{arith, le-ltb, lt-ltb}
 use Rattle.replays.specs.Words.{end_within}
 use Rattle.replays.proofs.steps.ends.Goals as goal
 

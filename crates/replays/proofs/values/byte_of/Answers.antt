@@ -1,4 +1,4 @@
-use Rattle.std.proofs.Common.{◌≡◌, ℕ, ◌<◌, ◌≤◌, List, length, get_or, refl, arith, rules, le-ltb, lt-ltb}
+use Rattle.std.proofs.Common.{◌≡◌, ℕ, ◌<◌, ◌≤◌, List, length, get_or, refl, arith, le-ltb, lt-ltb}
 use Rattle.replays.specs.Values.{byte_of}
 use Rattle.replays.proofs.values.byte_of.Goals as goal
 

@@ -1,6 +1,6 @@
-use Rattle.std.proofs.Common.{◌+◌, ◌-◌, ◌%◌, ◌^◌, length, ap, ◌∙◌, arith, rules}
+use Rattle.std.proofs.Common.{◌+◌, ◌-◌, ◌%◌, ◌^◌, length}
 use Rattle.replays.specs.Values.{byte_of}
-use Rattle.replays.specs.FilledLaws.{Filled, filled_none, filled_more, filled-all}
+use Rattle.replays.specs.FilledLaws.{Filled}
 use Rattle.replays.proofs.values.bytes.Given as goal
 
 abbrev pub invariant-loop-i : goal.invariant-loop-i

@@ -1,4 +1,4 @@
-use Rattle.std.proofs.Common.{refl, arith, rules}
+use Rattle.std.proofs.Common.{refl, arith}
 use Rattle.replays.specs.Values.{classes}
 use Rattle.replays.proofs.values.class.Goals as goal
 

@@ -1,4 +1,4 @@
-use Rattle.std.proofs.Common.{ap, ◌∙◌, rules}
+use Rattle.std.proofs.Common.{ap, ◌∙◌}
 use Rattle.replays.specs.Values.{stirred}
 use Rattle.replays.proofs.values.draw.Goals as goal
 

@@ -1,7 +1,7 @@
-use Rattle.std.proofs.Common.{◌-◌, length, arith, rules}
+use Rattle.std.proofs.Common.{arith}
 use lib.Ieee.{nan}
 use Rattle.replays.specs.Values.{value_at}
-use Rattle.replays.specs.FilledLaws.{Filled, filled_none, filled_more, filled-all}
+use Rattle.replays.specs.FilledLaws.{filled_none, filled_more, filled-all}
 use Rattle.replays.proofs.values.fill.Goals as goal
 
 pub loop-i-init : goal.loop-i-init

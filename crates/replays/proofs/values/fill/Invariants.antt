@@ -1,7 +1,7 @@
-use Rattle.std.proofs.Common.{◌-◌, length, arith, rules}
+use Rattle.std.proofs.Common.{◌-◌, length}
 use lib.Ieee.{nan}
 use Rattle.replays.specs.Values.{value_at}
-use Rattle.replays.specs.FilledLaws.{Filled, filled_none, filled_more, filled-all}
+use Rattle.replays.specs.FilledLaws.{Filled}
 use Rattle.replays.proofs.values.fill.Given as goal
 
 abbrev pub invariant-loop-i : goal.invariant-loop-i

@@ -1,6 +1,6 @@
-use Rattle.std.proofs.Common.{◌-◌, length, arith, rules}
+use Rattle.std.proofs.Common.{arith}
 use Rattle.replays.specs.Values.{byte_at}
-use Rattle.replays.specs.FilledLaws.{Filled, filled_none, filled_more, filled-all}
+use Rattle.replays.specs.FilledLaws.{filled_none, filled_more, filled-all}
 use Rattle.replays.proofs.values.fill_bytes.Goals as goal
 
 pub loop-i-init : goal.loop-i-init

@@ -1,6 +1,6 @@
-use Rattle.std.proofs.Common.{◌-◌, length, arith, rules}
+use Rattle.std.proofs.Common.{◌-◌, length}
 use Rattle.replays.specs.Values.{byte_at}
-use Rattle.replays.specs.FilledLaws.{Filled, filled_none, filled_more, filled-all}
+use Rattle.replays.specs.FilledLaws.{Filled}
 use Rattle.replays.proofs.values.fill_bytes.Given as goal
 
 abbrev pub invariant-loop-i : goal.invariant-loop-i

@@ -1,7 +1,7 @@
-use Rattle.std.proofs.Common.{◌-◌, length, pos, ◌∙◌, arith, w64, rules}
+use Rattle.std.proofs.Common.{pos, ◌∙◌, arith, w64}
 use mir.ValLaws.{to_z-of_z}
 use Rattle.replays.specs.Values.{integer_at}
-use Rattle.replays.specs.FilledLaws.{Filled, filled_none, filled_more, filled-all}
+use Rattle.replays.specs.FilledLaws.{filled_none, filled_more, filled-all}
 use Rattle.replays.proofs.values.fill_integers.Goals as goal
 
 pub loop-i-init : goal.loop-i-init

@@ -1,7 +1,6 @@
-use Rattle.std.proofs.Common.{◌-◌, length, pos, ◌∙◌, arith, w64, rules}
-use mir.ValLaws.{to_z-of_z}
+use Rattle.std.proofs.Common.{◌-◌, length, pos}
 use Rattle.replays.specs.Values.{integer_at}
-use Rattle.replays.specs.FilledLaws.{Filled, filled_none, filled_more, filled-all}
+use Rattle.replays.specs.FilledLaws.{Filled}
 use Rattle.replays.proofs.values.fill_integers.Given as goal
 
 abbrev pub invariant-loop-i : goal.invariant-loop-i

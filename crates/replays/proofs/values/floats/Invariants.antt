@@ -1,8 +1,7 @@
-use Rattle.std.proofs.Common.{◌+◌, ◌-◌, ◌%◌, ◌^◌, length, ap, ◌∙◌, arith, rules}
-use lib.Ieee.{nan, binary64, of_bits}
-use Rattle.replays.specs.Words.{word_of}
+use Rattle.std.proofs.Common.{◌-◌, length}
+use lib.Ieee.{nan}
 use Rattle.replays.specs.Values.{float_at}
-use Rattle.replays.specs.FilledLaws.{Filled, filled_none, filled_more, filled-all}
+use Rattle.replays.specs.FilledLaws.{Filled}
 use Rattle.replays.proofs.values.floats.Given as goal
 
 abbrev pub invariant-loop-i : goal.invariant-loop-i

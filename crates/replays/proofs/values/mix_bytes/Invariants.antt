@@ -1,6 +1,6 @@
-use Rattle.std.proofs.Common.{◌≡◌, ℕ, ◌-◌, ◌≤◌, length, ap, ◌∙◌, arith, rules}
-use Rattle.lists.specs.Tab.{times, times_none, times_more}
-use Rattle.replays.specs.Words.{mixed, mixed_number}
+use Rattle.std.proofs.Common.{◌≡◌, ◌-◌, ◌≤◌, length}
+use Rattle.lists.specs.Tab.{times}
+use Rattle.replays.specs.Words.{mixed_number}
 use Rattle.replays.proofs.values.mix_bytes.Given as goal
 
 abbrev pub invariant-loop-i : goal.invariant-loop-i

@@ -1,6 +1,5 @@
-use Rattle.std.proofs.Common.{◌≡◌, ℕ, ◌-◌, ◌≤◌, length, ap, ◌∙◌, arith, rules}
-use Rattle.lists.specs.Tab.{times, times_none, times_more}
-use Rattle.replays.specs.Words.{mixed}
+use Rattle.std.proofs.Common.{◌≡◌, ◌-◌, ◌≤◌, length}
+use Rattle.lists.specs.Tab.{times}
 use Rattle.replays.specs.Values.{mixed_float}
 use Rattle.replays.proofs.values.mix_floats.Given as goal
 

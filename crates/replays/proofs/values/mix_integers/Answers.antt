@@ -1,4 +1,4 @@
-use Rattle.std.proofs.Common.{◌≡◌, ℕ, ◌-◌, ◌≤◌, length, get_or, pos, ap, ◌∙◌, arith, w64, of_z, rules}
+use Rattle.std.proofs.Common.{◌≡◌, ℕ, length, get_or, pos, ap, ◌∙◌, arith, w64, of_z, rules}
 use mir.ValLaws.{to_z-of_z}
 use Rattle.lists.specs.Tab.{times, times_none, times_more}
 use Rattle.replays.specs.Words.{mixed}
@@ -14,7 +14,7 @@ pub loop-i-preserved : goal.loop-i-preserved
 loop-i-preserved c =
     let l = c.loop-i in
     let a = c.args in
-    (omega arith, times_more l.i (λ i. mixed_integer a.s.now i) a.h l.invariant.1 (c.mix-g.ensures ∙ ap (mixed l.g) (c.integer_word.ensures ∙ ap (of_z w64) {y = get_or a.s.now l.i (pos 0)} (to_z-of_z w64 (get_or a.s.now l.i (pos 0)) (record { sfits = c.integer_word-arg-1.given })))))
+    (omega arith, times_more l.i (λ i. mixed_integer a.s.now i) a.h l.invariant.1 (c.mix-g.ensures ∙ ap (mixed l.g) (c.integer_word.ensures ∙ ap (of_z w64) {y = get_or a.s.now l.i (pos 0)} (to_z-of_z w64 (get_or a.s.now l.i (pos 0)) (search rules)))))
 
 pub returns : goal.returns
 returns c =

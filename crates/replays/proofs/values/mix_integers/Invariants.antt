@@ -1,7 +1,5 @@
-use Rattle.std.proofs.Common.{◌≡◌, ℕ, ◌-◌, ◌≤◌, length, get_or, pos, ap, ◌∙◌, arith, w64, of_z, rules}
-use mir.ValLaws.{to_z-of_z}
-use Rattle.lists.specs.Tab.{times, times_none, times_more}
-use Rattle.replays.specs.Words.{mixed}
+use Rattle.std.proofs.Common.{◌≡◌, ◌-◌, ◌≤◌, length}
+use Rattle.lists.specs.Tab.{times}
 use Rattle.replays.specs.Values.{mixed_integer}
 use Rattle.replays.proofs.values.mix_integers.Given as goal
 

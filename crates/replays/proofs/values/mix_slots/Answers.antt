@@ -1,4 +1,4 @@
-use Rattle.std.proofs.Common.{◌≡◌, ℕ, ◌-◌, ◌≤◌, length, ap, ◌∙◌, arith, rules}
+use Rattle.std.proofs.Common.{◌≡◌, ℕ, length, ap, ◌∙◌, arith}
 use Rattle.lists.specs.Tab.{times, times_none, times_more}
 use Rattle.replays.specs.Words.{mixed_number}
 use Rattle.replays.proofs.values.mix_slots.Goals as goal

@@ -1,4 +1,4 @@
-use Rattle.std.proofs.Common.{refl, rules}
+use Rattle.std.proofs.Common.{refl}
 use Rattle.replays.specs.Values.{kept_bits, set_bits}
 use Rattle.replays.proofs.values.shaped.Goals as goal
 

@@ -1,4 +1,4 @@
-use Rattle.std.proofs.Common.{◌≡◌, ℕ, ◌+◌, ◌*◌, ap, ◌∙◌, rules}
+use Rattle.std.proofs.Common.{◌≡◌, ℕ, ◌+◌, ◌*◌, ap, ◌∙◌}
 use lib.Ieee.{Float, binary64, of_bits}
 use Rattle.replays.specs.Values.{stirred, drawn, class_of, shaped_bits, pattern_of, value_at}
 use Rattle.replays.proofs.values.value.Goals as goal

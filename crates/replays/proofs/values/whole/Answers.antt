@@ -1,4 +1,4 @@
-use Rattle.std.proofs.Common.{pos, ap, ◌∙◌, arith, w64, rules}
+use Rattle.std.proofs.Common.{pos, ap, ◌∙◌, arith, w64}
 use mir.ValLaws.{to_z_pos}
 use Rattle.replays.proofs.values.whole.Goals as goal
 

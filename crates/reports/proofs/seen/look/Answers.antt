@@ -1,5 +1,4 @@
 use Rattle.reports.specs.Seen.{look-raised, look-kept}
-use borrow.Author.Rules.{rules}
 use Rattle.reports.proofs.seen.look.Goals as goal
 
 pub returns-then-c : goal.returns-then-c

@@ -1,11 +1,8 @@
-use Prim.Native.Nat.{◌+◌, ◌-◌, ◌≤◌}
 use native.Mathlib.Omega.{arith}
 use mathlib.Core.Path.{◌≡◌, ◌∙◌}
-use lib.ListN.{length, get_or}
-use lib.Ieee.{nan}
-use Rattle.lists.specs.Tab.{times, times_none, times_more}
-use Rattle.reports.specs.Loops.{look, look_at}
-use borrow.Author.Rules.{rules}
+use lib.ListN.{length}
+use Rattle.lists.specs.Tab.{times_none, times_more}
+use Rattle.reports.specs.Loops.{look_at}
 use Rattle.reports.proofs.seen.look_numbers.Goals as goal
 
 pub loop-k-init : goal.loop-k-init

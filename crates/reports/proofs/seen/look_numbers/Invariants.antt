@@ -1,11 +1,9 @@
 use Prim.Native.Nat.{◌+◌, ◌-◌, ◌≤◌}
-use native.Mathlib.Omega.{arith}
-use mathlib.Core.Path.{◌≡◌, ◌∙◌}
+use mathlib.Core.Path.{◌≡◌}
 use lib.ListN.{length, get_or}
 use lib.Ieee.{nan}
-use Rattle.lists.specs.Tab.{times, times_none, times_more}
-use Rattle.reports.specs.Loops.{look, look_at}
-use borrow.Author.Rules.{rules}
+use Rattle.lists.specs.Tab.{times}
+use Rattle.reports.specs.Loops.{look}
 use Rattle.reports.proofs.seen.look_numbers.Given as goal
 
 abbrev pub invariant-loop-k : goal.invariant-loop-k

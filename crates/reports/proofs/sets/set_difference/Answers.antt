@@ -1,6 +1,5 @@
 use native.Mathlib.Omega.{arith}
 use mathlib.Core.Path.{ap, ◌∙◌}
-use borrow.Author.Rules.{rules}
 use Rattle.reports.specs.declared.ReportAnswer.TheVariants.{Given}
 use Rattle.reports.specs.Loops.{look_differences}
 use Rattle.reports.specs.Sets.{difference-refused, difference-given}

@@ -1,7 +1,6 @@
 use mathlib.Core.Path.{sym, ap, ◌∙◌}
 use native.Mathlib.Omega.{arith}
 use borrow.Author.Tests.{eqb-true, eq-eqb}
-use borrow.Author.Rules.{rules}
 use Rattle.shifts.specs.Rows.{image}
 use Rattle.shifts.proofs.Generators.{image-below, image-read}
 use Rattle.shifts.proofs.rows.agrees_at.Goals as goal

@@ -1,10 +1,5 @@
-use mathlib.Core.Bool.{true≢false}
-use mathlib.Core.Path.{◌≡◌, refl, sym}
+use mathlib.Core.Path.{◌≡◌}
 use Prim.Native.Nat.{ℕ, ◌-◌, ◌≤◌, ◌<◌}
-use native.Mathlib.Omega.{arith}
-use borrow.Author.Count.{below_more}
-use borrow.Author.Rules.{rules}
-use Rattle.lists.specs.Tests.{not-both}
 use Rattle.shifts.specs.Rows.{image}
 use Rattle.shifts.proofs.rows.agrees_from.Given as goal
 

@@ -1,10 +1,8 @@
 use mathlib.Core.Bool.{true≢false}
 use mathlib.Core.Path.{◌≡◌, refl, sym}
-use Prim.Native.Nat.{ℕ, ◌-◌, ◌≤◌, ◌<◌}
 use native.Mathlib.Omega.{arith}
 use lib.ListN.{get_or}
 use borrow.Author.Count.{below_more}
-use borrow.Author.Rules.{rules}
 use Rattle.lists.specs.Tests.{not-both}
 use Rattle.shifts.specs.Loops.{Commutes}
 use Rattle.shifts.proofs.rows.all_commute.Goals as goal

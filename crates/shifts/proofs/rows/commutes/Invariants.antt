@@ -1,14 +1,7 @@
-use mathlib.Core.Bool.{true≢false}
-use mathlib.Core.Path.{◌≡◌, refl, sym, ap, ◌∙◌}
+use mathlib.Core.Path.{◌≡◌}
 use Prim.Native.Nat.{ℕ, ◌-◌, ◌≤◌, ◌<◌}
-use native.Mathlib.Omega.{arith}
 use lib.ListN.{get_or}
-use borrow.Author.Tests.{eqb-true, eq-eqb, not-true, not-false}
-use borrow.Author.Count.{below_none, below_more}
-use borrow.Author.Rules.{rules}
-use Rattle.lists.specs.Tests.{not-both}
 use Rattle.shifts.specs.Rows.{image}
-use Rattle.shifts.proofs.Generators.{image-below, image-read}
 use Rattle.shifts.proofs.rows.commutes.Given as goal
 
 abbrev pub invariant-loop-a : goal.invariant-loop-a

@@ -1,11 +1,5 @@
-use mathlib.Core.Bool.{true≢false}
-use mathlib.Core.Path.{◌≡◌, sym}
-use Prim.Native.Nat.{ℕ, ◌+◌, ◌-◌, ◌≤◌, ◌<◌}
-use native.Mathlib.Omega.{arith}
-use borrow.Author.Count.{below_none}
-use borrow.Author.Rules.{rules}
-use Rattle.lists.specs.Tests.{not-both}
-use Rattle.tables.proofs.Loops.{four-more, all_of_lem}
+use mathlib.Core.Path.{◌≡◌}
+use Prim.Native.Nat.{ℕ, ◌-◌, ◌≤◌, ◌<◌}
 use Rattle.shifts.specs.Rows.{image}
 use Rattle.shifts.proofs.rows.is_after.Given as goal
 

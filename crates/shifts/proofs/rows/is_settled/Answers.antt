@@ -1,7 +1,6 @@
 use mathlib.Core.Bool.{true≢false}
 use mathlib.Core.Path.{refl, sym}
 use native.Mathlib.Omega.{arith}
-use borrow.Author.Tests.{not-true, not-false}
 use Rattle.lists.specs.Tests.{not-both}
 use Rattle.shifts.proofs.Generators.{right-below, commutes-same}
 use Rattle.shifts.proofs.rows.is_settled.Goals as goal

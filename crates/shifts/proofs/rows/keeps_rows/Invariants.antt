@@ -1,10 +1,4 @@
-use mathlib.Core.Bool.{true≢false}
-use mathlib.Core.Path.{refl, sym}
 use Prim.Native.Nat.{ℕ, ◌-◌, ◌≤◌, ◌<◌}
-use native.Mathlib.Omega.{arith}
-use borrow.Author.Count.{below_more}
-use borrow.Author.Rules.{rules}
-use Rattle.lists.specs.Tests.{not-both}
 use Rattle.shifts.specs.Loops.{KeepsAt}
 use Rattle.shifts.proofs.rows.keeps_rows.Given as goal
 

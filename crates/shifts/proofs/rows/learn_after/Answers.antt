@@ -1,6 +1,5 @@
 use mathlib.Core.Path.{refl}
 use native.Mathlib.Omega.{arith}
-use borrow.Author.Rules.{rules}
 use Rattle.lists.specs.Tests.{not-both}
 use Rattle.shifts.specs.Loops.{shift-after}
 use Rattle.shifts.proofs.Generators.{known-linked, mark_composed}

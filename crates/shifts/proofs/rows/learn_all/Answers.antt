@@ -1,12 +1,8 @@
 use mathlib.Core.Bool.{true≢false}
-use mathlib.Core.Path.{◌≡◌, refl, sym}
-use Prim.Native.Nat.{ℕ, ◌-◌, ◌≤◌, ◌<◌}
+use mathlib.Core.Path.{refl, sym}
 use native.Mathlib.Omega.{arith}
-use lib.ListN.{length}
 use borrow.Author.Count.{below_more}
-use borrow.Author.Rules.{rules}
 use Rattle.lists.specs.Tests.{not-both}
-use Rattle.shifts.specs.Loops.{Made, Known}
 use Rattle.shifts.proofs.Generators.{made_more, known_start}
 use Rattle.shifts.proofs.rows.learn_all.Goals as goal
 

@@ -1,13 +1,7 @@
-use mathlib.Core.Bool.{true≢false}
-use mathlib.Core.Path.{◌≡◌, refl, sym}
+use mathlib.Core.Path.{◌≡◌}
 use Prim.Native.Nat.{ℕ, ◌-◌, ◌≤◌, ◌<◌}
-use native.Mathlib.Omega.{arith}
 use lib.ListN.{length}
-use borrow.Author.Count.{below_more}
-use borrow.Author.Rules.{rules}
-use Rattle.lists.specs.Tests.{not-both}
 use Rattle.shifts.specs.Loops.{Made, Known}
-use Rattle.shifts.proofs.Generators.{made_more, known_start}
 use Rattle.shifts.proofs.rows.learn_all.Given as goal
 
 abbrev pub invariant-loop-u : goal.invariant-loop-u

@@ -1,14 +1,7 @@
-use mathlib.Core.Path.{◌≡◌, ap, ◌∙◌}
+use mathlib.Core.Path.{◌≡◌}
 use Prim.Native.Nat.{ℕ, ◌-◌, ◌≤◌, ◌<◌}
-use native.Mathlib.Omega.{arith}
-use lib.ListN.{length, get_or, set, length-set}
-use lib.Seq.{get_or-set_other, get_or-set_same}
-use borrow.Author.Count.{below_none, below_more}
-use borrow.Author.Rules.{rules}
-use Rattle.tables.specs.Conditions.{index_at, read}
-use Rattle.shifts.specs.Rows.{image}
+use lib.ListN.{length, get_or}
 use Rattle.shifts.specs.Loops.{right_of}
-use Rattle.shifts.proofs.Generators.{image-below, image-read}
 use Rattle.shifts.proofs.rows.shift_right.Given as goal
 
 abbrev pub invariant-loop-a : goal.invariant-loop-a

@@ -1,9 +1,4 @@
-use mathlib.Core.Path.{refl}
 use Prim.Native.Nat.{◌-◌, ◌≤◌, ◌<◌}
-use native.Mathlib.Omega.{arith}
-use borrow.Author.Rules.{rules}
-use borrow.Author.Tests.{not-true}
-use Rattle.lists.specs.Tests.{not-both}
 use Rattle.shifts.specs.Loops.{Made, Known}
 use Rattle.shifts.proofs.rows.spread.Given as goal
 

@@ -1,10 +1,7 @@
 use mathlib.Core.Bool.{false}
-use mathlib.Core.Path.{◌≡◌, sym, ◌∙◌}
-use Prim.Native.Nat.{ℕ, ◌≤◌, ◌<◌, ◌-◌}
+use mathlib.Core.Path.{sym, ◌∙◌}
 use native.Mathlib.Omega.{arith}
 use borrow.Author.Count.{below_none, below_more}
-use borrow.Author.Rules.{rules}
-use Rattle.shifts.specs.Rows.{rows_of}
 use Rattle.tables.specs.Shifts.{is_null, has_null}
 use Rattle.tables.proofs.Loops.{one-passed, all_failed}
 use Rattle.shifts.proofs.rules.has_null.Goals as goal

@@ -1,12 +1,8 @@
 use mathlib.Core.Bool.{false}
-use mathlib.Core.Path.{◌≡◌, sym, ◌∙◌}
+use mathlib.Core.Path.{◌≡◌}
 use Prim.Native.Nat.{ℕ, ◌≤◌, ◌<◌, ◌-◌}
-use native.Mathlib.Omega.{arith}
-use borrow.Author.Count.{below_none, below_more}
-use borrow.Author.Rules.{rules}
 use Rattle.shifts.specs.Rows.{rows_of}
-use Rattle.tables.specs.Shifts.{is_null, has_null}
-use Rattle.tables.proofs.Loops.{one-passed, all_failed}
+use Rattle.tables.specs.Shifts.{is_null}
 use Rattle.shifts.proofs.rules.has_null.Given as goal
 
 abbrev pub invariant-loop-t : goal.invariant-loop-t

@@ -1,13 +1,10 @@
 use mathlib.Core.Bool.{true}
-use mathlib.Core.Path.{◌≡◌, sym, ap, ◌∙◌}
-use Prim.Native.Nat.{ℕ, ◌≤◌, ◌<◌, ◌-◌}
+use mathlib.Core.Path.{sym, ap, ◌∙◌}
 use native.Mathlib.Omega.{arith}
 use lib.Dec.{eqb}
-use borrow.Author.Tests.{not-true, not-false}
 use borrow.Author.Count.{below_none, below_more}
-use borrow.Author.Rules.{rules}
-use Rattle.shifts.specs.Rows.{rows_of, row_is, row_read}
-use Rattle.tables.specs.Shifts.{row, is_null}
+use Rattle.shifts.specs.Rows.{row_is, row_read}
+use Rattle.tables.specs.Shifts.{is_null}
 use Rattle.tables.proofs.Loops.{all-passed, one_failed}
 use Rattle.shifts.proofs.rules.is_null.Goals as goal
 

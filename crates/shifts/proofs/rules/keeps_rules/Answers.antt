@@ -1,8 +1,7 @@
 use mathlib.Core.Path.{refl, sym, ◌∙◌}
 use Prim.Native.Nat.{◌<◌}
 use native.Mathlib.Omega.{arith}
-use borrow.Author.Tests.{eq-eqb, ne_eqb, not-true, not-false}
-use borrow.Author.Rules.{rules}
+use borrow.Author.Tests.{eq-eqb, ne_eqb}
 use Rattle.lists.specs.Tests.{refuted, not-both, same_test}
 use Rattle.tables.specs.Compact.{ShiftTables, shift_tables, shifts_of, fit-within}
 use Rattle.tables.specs.Conditions.{read}

@@ -1,11 +1,8 @@
 use mathlib.Core.Bool.{true}
 use mathlib.Core.Path.{◌≡◌, sym, ap, ap₂, ◌∙◌}
-use Prim.Native.Nat.{ℕ, ◌≤◌, ◌<◌, ◌-◌}
 use native.Mathlib.Omega.{arith}
 use lib.Dec.{eqb}
-use borrow.Author.Tests.{not-true, not-false}
 use borrow.Author.Count.{below_none, below_more}
-use borrow.Author.Rules.{rules}
 use Rattle.lists.specs.Digits.{in_row}
 use Rattle.tables.specs.Compact.{ShiftTables, shift_tables, shifts_of, perms_is, p2s_is, s2pp_is, nsym_is}
 use Rattle.tables.specs.Shifts.{Shifts, row, p2s_at, s2pp_at, nsym_at, nsym_lands}

@@ -1,16 +1,9 @@
 use mathlib.Core.Bool.{true}
-use mathlib.Core.Path.{◌≡◌, sym, ap, ap₂, ◌∙◌}
+use mathlib.Core.Path.{◌≡◌}
 use Prim.Native.Nat.{ℕ, ◌≤◌, ◌<◌, ◌-◌}
-use native.Mathlib.Omega.{arith}
 use lib.Dec.{eqb}
-use borrow.Author.Tests.{not-true, not-false}
-use borrow.Author.Count.{below_none, below_more}
-use borrow.Author.Rules.{rules}
-use Rattle.lists.specs.Digits.{in_row}
-use Rattle.tables.specs.Compact.{ShiftTables, shift_tables, shifts_of, perms_is, p2s_is, s2pp_is, nsym_is}
-use Rattle.tables.specs.Shifts.{Shifts, row, p2s_at, s2pp_at, nsym_at, nsym_lands}
-use Rattle.tables.specs.Conditions.{read}
-use Rattle.tables.proofs.Loops.{all-passed, one_failed}
+use Rattle.tables.specs.Compact.{shift_tables, shifts_of}
+use Rattle.tables.specs.Shifts.{Shifts, row, p2s_at, s2pp_at, nsym_at}
 use Rattle.shifts.proofs.rules.nsym_lands.Given as goal
 
 abbrev pub invariant-loop-a : goal.invariant-loop-a

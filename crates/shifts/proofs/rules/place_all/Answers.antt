@@ -1,8 +1,6 @@
 use mathlib.Core.Bool.{true≢false}
 use mathlib.Core.Path.{◌≡◌, refl, sym, subst}
-use Prim.Native.Nat.{◌-◌, ◌≤◌}
 use native.Mathlib.Omega.{arith}
-use borrow.Author.Rules.{rules}
 use Rattle.lists.specs.Tests.{not-both}
 use Rattle.tables.specs.Conditions.{read}
 use Rattle.shifts.specs.Placing.{Placed, Spread}

@@ -1,12 +1,5 @@
-use mathlib.Core.Bool.{true≢false}
-use mathlib.Core.Path.{◌≡◌, refl, sym, subst}
 use Prim.Native.Nat.{◌-◌, ◌≤◌}
-use native.Mathlib.Omega.{arith}
-use borrow.Author.Rules.{rules}
-use Rattle.lists.specs.Tests.{not-both}
-use Rattle.tables.specs.Conditions.{read}
-use Rattle.shifts.specs.Placing.{Placed, Spread}
-use Rattle.shifts.proofs.Placing.{none-placed, placed-fresh, placed-more}
+use Rattle.shifts.specs.Placing.{Placed}
 use Rattle.shifts.proofs.rules.place_all.Given as goal
 
 abbrev pub invariant-loop-p : goal.invariant-loop-p

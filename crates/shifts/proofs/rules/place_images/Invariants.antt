@@ -1,16 +1,5 @@
-use mathlib.Core.Bool.{true≢false}
-use mathlib.Core.Path.{◌≡◌, refl, sym, ap, ◌∙◌, subst}
-use Prim.Native.Nat.{◌+◌, ◌-◌, ◌≤◌, ◌<◌}
-use native.Mathlib.Omega.{arith}
-use lib.ListN.{get_or, set}
-use borrow.Author.Tests.{eqb-true, eq-eqb, not-true, not-false}
-use borrow.Author.Rules.{rules}
-use Rattle.lists.specs.Tests.{not-both}
-use Rattle.tables.specs.Conditions.{index_at, read}
-use Rattle.shifts.specs.Rows.{image}
+use Prim.Native.Nat.{◌-◌, ◌≤◌}
 use Rattle.shifts.specs.Placing.{Placing}
-use Rattle.shifts.proofs.Placing.{none-placing, placing-more, placing-twice}
-use Rattle.shifts.proofs.Generators.{image-below, image-read}
 use Rattle.shifts.proofs.rules.place_images.Given as goal
 
 abbrev pub invariant-loop-t : goal.invariant-loop-t

@@ -1,4 +1,3 @@
-use borrow.Author.Rules.{rules}
 use Rattle.tables.specs.Conditions.{index_at}
 use Rattle.tables.proofs.Integers.{read_index}
 use Rattle.tables.proofs.index.entry.Goals as goal

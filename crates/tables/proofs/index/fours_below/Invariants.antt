@@ -1,16 +1,9 @@
-use mathlib.Core.Bool.{true, true≢false}
-use mathlib.Core.Path.{◌≡◌, sym, ◌∙◌}
-use Prim.Native.Nat.{ℕ, ◌+◌, ◌-◌, ◌≤◌, ◌<◌}
-use native.Mathlib.Omega.{arith}
+use mathlib.Core.Bool.{true}
+use mathlib.Core.Path.{◌≡◌}
+use Prim.Native.Nat.{ℕ, ◌-◌, ◌≤◌, ◌<◌}
 use lib.ListN.{length, get_or}
-use borrow.Author.Count.{below_none}
-use borrow.Author.Rules.{rules}
-use Rattle.lists.specs.Tests.{not-both}
 use Rattle.tables.specs.Conditions.{below}
 use lib.IntN.{pos}
-use mir.Syntax.{w64}
-use mir.ValLaws.{to_z-of_z}
-use Rattle.tables.proofs.Loops.{four-more, all_of_lem}
 use Rattle.tables.proofs.index.fours_below.Given as goal
 
 abbrev pub invariant-loop-i : goal.invariant-loop-i

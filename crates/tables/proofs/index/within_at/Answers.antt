@@ -1,5 +1,4 @@
 use mathlib.Core.Path.{◌≡◌, sym, ◌∙◌}
-use borrow.Author.Rules.{rules}
 use Rattle.tables.specs.Conditions.{below}
 use Rattle.tables.proofs.Integers.{handed}
 use Rattle.tables.proofs.index.within_at.Goals as goal

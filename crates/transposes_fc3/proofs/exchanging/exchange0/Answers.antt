@@ -3,7 +3,6 @@ use Rattle.places.specs.Moves.{order}
 use Rattle.blocks.specs.Permuted.{permuted}
 use Rattle.orbits.specs.Moved.{exchanged}
 use Rattle.transposes_fc3.specs.Nines.{permuted_0}
-use borrow.Author.Rules.{rules}
 use Rattle.transposes_fc3.proofs.exchanging.exchange0.Goals as goal
 
 pub returns : goal.returns

@@ -1,7 +1,6 @@
 use Rattle.places.specs.Moves.{order}
 use Rattle.blocks.specs.Permuted.{permuted}
 use Rattle.orbits.specs.InnerLaws.{flipped, swapped-flipped}
-use borrow.Author.Rules.{rules}
 use Rattle.transposes_fc3.proofs.exchanging.exchange2.Goals as goal
 
 pub returns-then-a-b : goal.returns-then-a-b

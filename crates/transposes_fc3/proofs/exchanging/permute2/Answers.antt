@@ -1,6 +1,5 @@
 use native.Mathlib.Omega.{arith}
 use Rattle.transposes_fc3.specs.Nines.{nines_are}
-use borrow.Author.Rules.{rules}
 use Rattle.transposes_fc3.proofs.exchanging.permute2.Goals as goal
 
 pub index_of-requires : goal.index_of-requires

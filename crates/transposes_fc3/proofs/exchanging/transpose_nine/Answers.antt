@@ -1,7 +1,6 @@
 use mathlib.Core.Path.{ap, ◌∙◌}
 use Rattle.blocks.specs.Block.{put_block}
 use Rattle.blocks.specs.Block9.{transposed9}
-use borrow.Author.Rules.{rules}
 use Rattle.transposes_fc3.proofs.exchanging.transpose_nine.Goals as goal
 
 pub returns : goal.returns

@@ -2,7 +2,6 @@ use mathlib.Core.Path.{sym, ◌∙◌}
 use Rattle.places.specs.Moves.{order4}
 use Rattle.blocks.specs.Permuted.{permuted}
 use Rattle.transposes_fc4.specs.Pairs.{from_pairs, same-positions}
-use borrow.Author.Rules.{rules}
 use Rattle.transposes_fc4.proofs.exchanging.exchange.Goals as goal
 
 pub returns-then-first_two : goal.returns-then-first_two

@@ -1,7 +1,6 @@
 use Rattle.places.specs.Moves.{order4}
 use Rattle.blocks.specs.Permuted.{permuted}
 use Rattle.orbits.specs.InnerLaws.{flipped, swapped-flipped}
-use borrow.Author.Rules.{rules}
 use Rattle.transposes_fc4.proofs.exchanging.exchange_nines.Goals as goal
 
 pub returns-then-a-b : goal.returns-then-a-b

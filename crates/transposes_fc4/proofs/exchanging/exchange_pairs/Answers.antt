@@ -1,7 +1,6 @@
 use mathlib.Core.Path.{sym}
 use Rattle.transposes_fc4.specs.Pairs.{from_pairs}
 use Rattle.orbits.specs.InnerLaws.{flipped, swapped-flipped}
-use borrow.Author.Rules.{rules}
 use Rattle.transposes_fc4.proofs.exchanging.exchange_pairs.Goals as goal
 
 pub returns-then-b-a : goal.returns-then-b-a

@@ -1,6 +1,5 @@
 use native.Mathlib.Omega.{arith}
 use Rattle.transposes_fc4.specs.Runs.{runs_are}
-use borrow.Author.Rules.{rules}
 use Rattle.transposes_fc4.proofs.exchanging.permute_nines.Goals as goal
 
 pub index_of-requires : goal.index_of-requires

@@ -1,9 +1,8 @@
-use Prim.Native.Nat.{◌+◌, ◌≤◌, ◌<◌, ◌-◌}
+use Prim.Native.Nat.{◌+◌, ◌<◌}
 use native.Mathlib.Omega.{arith}
 use mathlib.Core.Path.{◌≡◌}
 use lib.ListN.{length, get_or, length-set}
-use borrow.Author.Rules.{rules}
-use Rattle.transposes_fc4.specs.Pairs.{from_pairs, Permuted, none-traded, one-traded, all-permuted}
+use Rattle.transposes_fc4.specs.Pairs.{from_pairs, none-traded, one-traded, all-permuted}
 use Rattle.transposes_fc4.proofs.exchanging.permute_pairs.Goals as goal
 
 pub loop-n-init : goal.loop-n-init

@@ -1,9 +1,5 @@
-use Prim.Native.Nat.{◌+◌, ◌≤◌, ◌<◌, ◌-◌}
-use native.Mathlib.Omega.{arith}
-use mathlib.Core.Path.{◌≡◌}
-use lib.ListN.{length, get_or, length-set}
-use borrow.Author.Rules.{rules}
-use Rattle.transposes_fc4.specs.Pairs.{from_pairs, Permuted, none-traded, one-traded, all-permuted}
+use Prim.Native.Nat.{◌≤◌, ◌-◌}
+use Rattle.transposes_fc4.specs.Pairs.{from_pairs, Permuted}
 use Rattle.transposes_fc4.proofs.exchanging.permute_pairs.Given as goal
 
 abbrev pub invariant-loop-n : goal.invariant-loop-n

@@ -1,6 +1,5 @@
 use mathlib.Core.Path.{ap, ap₂, ◌∙◌}
 use Rattle.blocks.specs.Block.{put_block}
-use borrow.Author.Rules.{rules}
 use Rattle.transposes_fc4.proofs.exchanging.swap_blocks.Goals as goal
 
 pub returns : goal.returns

@@ -1,7 +1,6 @@
 use mathlib.Core.Path.{ap, ◌∙◌}
 use Rattle.tables.specs.Compact.{shift_tables}
 use Rattle.transposes_fc4.specs.Loops.{pairs4, two_legs}
-use borrow.Author.Rules.{rules}
 use Rattle.transposes_fc4.proofs.legs.exchange_legs.Goals as goal
 
 pub pairs_of-m-requires : goal.pairs_of-m-requires

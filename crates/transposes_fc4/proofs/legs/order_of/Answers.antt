@@ -1,5 +1,4 @@
 use Rattle.transposes_fc4.specs.Rows.{order_is}
-use borrow.Author.Rules.{rules}
 use Rattle.transposes_fc4.proofs.legs.order_of.Goals as goal
 
 pub returns : goal.returns

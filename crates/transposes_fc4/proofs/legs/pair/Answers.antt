@@ -2,7 +2,6 @@ use mathlib.Core.Path.{sym, ap, ◌∙◌}
 use Rattle.tables.specs.Compact.{shift_tables}
 use Rattle.orbits.specs.HalfShift.{rep-read}
 use Rattle.transposes_fc4.specs.Loops.{plane4, pair-stays, pair-moves, pair_pos, pair-first, pair-second, pair_found}
-use borrow.Author.Rules.{rules}
 use Rattle.transposes_fc4.proofs.legs.pair.Goals as goal
 
 pub row_of-first-requires : goal.row_of-first-requires

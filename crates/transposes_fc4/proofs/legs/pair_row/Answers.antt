@@ -1,7 +1,6 @@
 use mathlib.Core.Path.{ap₂}
 use lib.ListN.{get_or}
 use native.Mathlib.Omega.{arith}
-use borrow.Author.Rules.{rules}
 use Rattle.transposes_fc4.proofs.legs.pair_row.Goals as goal
 
 pub index_of-requires : goal.index_of-requires

@@ -1,11 +1,8 @@
-use Prim.Native.Nat.{◌*◌, ◌≤◌, ◌-◌}
+use Prim.Native.Nat.{◌*◌}
 use native.Mathlib.Omega.{arith}
 use mathlib.Core.Path.{◌≡◌, refl, ◌∙◌}
-use lib.ListN.{length}
-use Rattle.lists.specs.Tab.{times, times_none, times_more}
-use Rattle.tables.specs.Compact.{shift_tables}
-use Rattle.transposes_fc4.specs.Loops.{plane4, pairs4, pairs_small}
-use borrow.Author.Rules.{rules}
+use Rattle.lists.specs.Tab.{times_none, times_more}
+use Rattle.transposes_fc4.specs.Loops.{pairs4, pairs_small}
 use Rattle.transposes_fc4.proofs.legs.pairs.Goals as goal
 
 pub overflow_mul-end : goal.overflow_mul-end

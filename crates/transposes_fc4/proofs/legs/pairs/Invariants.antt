@@ -1,11 +1,9 @@
 use Prim.Native.Nat.{◌*◌, ◌≤◌, ◌-◌}
-use native.Mathlib.Omega.{arith}
-use mathlib.Core.Path.{◌≡◌, refl, ◌∙◌}
+use mathlib.Core.Path.{◌≡◌}
 use lib.ListN.{length}
-use Rattle.lists.specs.Tab.{times, times_none, times_more}
+use Rattle.lists.specs.Tab.{times}
 use Rattle.tables.specs.Compact.{shift_tables}
-use Rattle.transposes_fc4.specs.Loops.{plane4, pairs4, pairs_small}
-use borrow.Author.Rules.{rules}
+use Rattle.transposes_fc4.specs.Loops.{plane4}
 use Rattle.transposes_fc4.proofs.legs.pairs.Given as goal
 
 abbrev pub invariant-loop-q : goal.invariant-loop-q

@@ -1,13 +1,11 @@
-use Prim.Native.Nat.{ℕ, ◌≤◌, ◌<◌, ◌-◌}
 use native.Mathlib.Omega.{arith}
-use mathlib.Core.Path.{◌≡◌, refl, ap, ◌∙◌}
-use lib.ListN.{length, get_or, length-set}
+use mathlib.Core.Path.{refl, ap, ◌∙◌}
+use lib.ListN.{get_or, length-set}
 use borrow.Author.Count.{below_none}
-use borrow.Author.Rules.{rules}
 use Rattle.lists.specs.Tab.{fill_more, is_tab}
 use Rattle.blocks.specs.Permuted.{permuted}
 use Rattle.positions.specs.Positions.{permutation_at}
-use Rattle.transposes_fc4.specs.Rows.{first_pairs, taken_to, first_in_lem}
+use Rattle.transposes_fc4.specs.Rows.{taken_to, first_in_lem}
 use Rattle.transposes_fc4.proofs.legs.pairs_by.Goals as goal
 
 pub loop-n-init : goal.loop-n-init

@@ -1,6 +1,5 @@
 use mathlib.Core.Path.{ap, ◌∙◌}
 use Rattle.transposes_fc4.specs.Rows.{taken_to, row_below}
-use borrow.Author.Rules.{rules}
 use Rattle.transposes_fc4.proofs.legs.pairs_of.Goals as goal
 
 pub pair_row-requires : goal.pair_row-requires

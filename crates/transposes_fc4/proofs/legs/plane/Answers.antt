@@ -1,12 +1,7 @@
-use mathlib.Core.Bool.{false}
-use Prim.Native.Nat.{◌+◌, ◌*◌, ◌≤◌, ◌-◌}
 use native.Mathlib.Omega.{arith}
 use mathlib.Core.Path.{◌≡◌, refl, ◌∙◌}
-use lib.ListN.{length}
-use Rattle.lists.specs.Tab.{times, times_none, times_more}
-use Rattle.tables.specs.Compact.{shift_tables}
-use Rattle.transposes_fc4.specs.Loops.{line4, plane4}
-use borrow.Author.Rules.{rules}
+use Rattle.lists.specs.Tab.{times_none, times_more}
+use Rattle.transposes_fc4.specs.Loops.{plane4}
 use Rattle.transposes_fc4.proofs.legs.plane.Goals as goal
 
 pub loop-k-init : goal.loop-k-init

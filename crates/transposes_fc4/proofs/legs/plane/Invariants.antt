@@ -1,12 +1,10 @@
 use mathlib.Core.Bool.{false}
 use Prim.Native.Nat.{◌+◌, ◌*◌, ◌≤◌, ◌-◌}
-use native.Mathlib.Omega.{arith}
-use mathlib.Core.Path.{◌≡◌, refl, ◌∙◌}
+use mathlib.Core.Path.{◌≡◌}
 use lib.ListN.{length}
-use Rattle.lists.specs.Tab.{times, times_none, times_more}
+use Rattle.lists.specs.Tab.{times}
 use Rattle.tables.specs.Compact.{shift_tables}
-use Rattle.transposes_fc4.specs.Loops.{line4, plane4}
-use borrow.Author.Rules.{rules}
+use Rattle.transposes_fc4.specs.Loops.{line4}
 use Rattle.transposes_fc4.proofs.legs.plane.Given as goal
 
 abbrev pub invariant-loop-k : goal.invariant-loop-k

@@ -1,6 +1,5 @@
 use Rattle.orbits.specs.HalfShift.{prim_small, read-tables, rep-read}
 use Rattle.transposes_fc4.specs.Loops.{in_runs, found_in, found-now, found-met}
-use borrow.Author.Rules.{rules}
 use Rattle.transposes_fc4.proofs.legs.trade.Goals as goal
 
 pub block4-b-requires : goal.block4-b-requires

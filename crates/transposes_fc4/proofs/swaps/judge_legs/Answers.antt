@@ -1,6 +1,5 @@
 use mathlib.Core.Path.{sym, ◌∙◌}
 use Rattle.transposes_fc4.specs.Guard.{legs_bad, legs_fine}
-use borrow.Author.Rules.{rules}
 use Rattle.transposes_fc4.proofs.swaps.judge_legs.Goals as goal
 
 pub returns-then-any_leg_above : goal.returns-then-any_leg_above

@@ -1,5 +1,4 @@
 use Rattle.transposes_fc4.specs.Guard.{is_one_lem, is_two, is_later}
-use borrow.Author.Rules.{rules}
 use Rattle.transposes_fc4.proofs.swaps.with_bad_leg.Goals as goal
 
 pub returns-then-n-eq1 : goal.returns-then-n-eq1

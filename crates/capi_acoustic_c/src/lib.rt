@@ -1,0 +1,49 @@
+// What C calls of capi_acoustic: each export calls the function of that name there and states its clauses. A library for other crates exports nothing itself.
+#![tactic(auto)]
+
+ghost use Rattle.std.specs.Prelude.{◌≡◌};
+ghost use Rattle.tables.specs.Limits.{limit3};
+ghost use Rattle.tables.specs.Compact.{shift_tables};
+ghost use Rattle.tables.specs.Numbered.{numbered_with};
+ghost use Rattle.places.specs.Places.{perms3};
+ghost use Rattle.orbits.specs.Symmetric.{mean6};
+ghost use Rattle.acoustic.specs.Acoustic.{perm_trans_symmetrize_full, perm_trans_symmetrize_compact};
+ghost use Rattle.acoustic.specs.Numbered.{numbered_both};
+
+// A full set of third order without drift and alike.
+#[unsafe(no_mangle)]
+pub extern "C" fn gf_perm_trans_symmetrize_fc3(
+    fc3: &mut [f64],
+    drift: &mut [f64],
+    num_atom: usize,
+    level: usize,
+) -> u8
+    ensures { (result, fc3.new, drift.new)
+        ≡ numbered_with (perm_trans_symmetrize_full limit3 2 mean6 perms3 fc3.old num_atom drift.old level) }
+{
+    capi_acoustic::gf_perm_trans_symmetrize_fc3(fc3, drift, num_atom, level)
+}
+
+// A compact set of third order whose read-out is without drift and alike.
+#[unsafe(no_mangle)]
+pub extern "C" fn gf_perm_trans_symmetrize_compact_fc3(
+    fc3: &mut [f64],
+    p2s: &[i64],
+    s2pp: &[i64],
+    nsym_list: &[i64],
+    perms: &[i64],
+    done: &mut [u8],
+    drift: &mut [f64],
+    n_satom: usize,
+    n_patom: usize,
+    num_trans: usize,
+    level: usize,
+) -> u8
+    ensures { let T = shift_tables p2s.now s2pp.now nsym_list.now perms.now n_satom n_patom num_trans in
+        (result, fc3.new, done.new, drift.new)
+        ≡ numbered_both (perm_trans_symmetrize_compact limit3 2 mean6 perms3 fc3.old T done.old drift.old level) }
+{
+    capi_acoustic::gf_perm_trans_symmetrize_compact_fc3(
+        fc3, p2s, s2pp, nsym_list, perms, done, drift, n_satom, n_patom, num_trans, level,
+    )
+}
