@@ -9,7 +9,7 @@ MAJOR := $(firstword $(subst ., ,$(VERSION)))
 shared = target/lib/libgullyfork.so.$(MAJOR)
 static = target/staticlib/libcapi.a
 headers := $(wildcard include/*.h)
-sources := crates.txt $(headers) bindings/library $(wildcard bindings/c/*) $(shell find crates -type d -name must-fail -prune -o -type f -print)
+sources := crates.txt $(headers) bindings/library $(wildcard bindings/c/*) $(shell find crates -type d \( -name must-fail -o -name out \) -prune -o -type f -print)
 edited = $(sort $(patsubst crates/%/must-fail/,%,$(wildcard crates/*/must-fail/)) $(patsubst edits/%/,%,$(wildcard edits/*/)))
 # what a desk runs; the library is linked into them, so that they need neither it nor the kit nor a compiler
 programs = target/bin/roll target/bin/verify
@@ -36,12 +36,12 @@ check: $(shared) ## runs the tests beside the gate: C, installation, deliveries,
 	bindings/python/test
 	tests/documents/run
 
-gate: ## runs the gate, which proves everything from nothing and tries every wrong edit, and writes target/gate.log
+gate: ## runs the gate, which wants every crate proved and every wrong edit of crates/ refused, and writes target/gate.log
 	tests/gate
 
 fmt: ## formats the crates and, if there is a cargo, the Rust binding
 	bindings/kit
-	rt fmt
+	for crate in crates/*/; do (cd "$$crate" && rt fmt) || exit 1; done
 	if command -v cargo >/dev/null; then cd bindings/rust && cargo fmt; fi
 
 edits: ## tries every wrong edit beside the gate too, which takes hours; CRATE=NAME tries those of one crate
@@ -74,7 +74,7 @@ uninstall: ## takes away what install put there
 wheel: $(shared) ## writes the Python package, target/wheel/gullyfork-*.whl
 	bindings/python/build
 
-clean: ## removes target/, everything that was proved and built
-	rm -rf target
+clean: ## removes target/ and the crates' out/, everything that was proved and built here
+	rm -rf target crates/*/out
 
 .PHONY: all help check gate fmt edits docs dist install uninstall wheel clean

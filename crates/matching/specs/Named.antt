@@ -12,7 +12,7 @@ use Rattle.lists.specs.Tests.{and_fst, and_snd, not-both}
 use Rattle.tables.specs.declared.Answer.TheVariants.{Done}
 use Rattle.distances.specs.declared.Cell.{Cell}
 use Rattle.distances.specs.declared.Distance.{Distance}
-use Rattle.distances.specs.declared.Distance.TheVariants.{Near, Far, NoNumber as None}
+use Rattle.distances.specs.declared.Distance.TheVariants.{Near, Far, NoNumber as NoDistance}
 use Rattle.distances.specs.Near.{is_none, near_by, near, distance}
 use Rattle.matching.specs.declared.cells.Pair.{Pair}
 use Rattle.matching.specs.declared.cells.Matching.{Matching}
@@ -37,13 +37,13 @@ Before i j a b = (i < a) ⊎ ((i ≡ a) × (j < b))
 -- p was tried, its distance is no number, and that of no pair tried before it is
 pub record FirstTried (dist : ℕ → ℕ → Distance) (n : ℕ) (p : Pair) : Type 0 where
   pub tried : Tried dist n p.position p.slot
-  pub none : dist p.position p.slot ≡ None
-  pub first : (i j : ℕ) → Tried dist n i j → Before i j p.position p.slot → dist i j ≡ None → ⊥
+  pub none : dist p.position p.slot ≡ NoDistance
+  pub first : (i j : ℕ) → Tried dist n i j → Before i j p.position p.slot → dist i j ≡ NoDistance → ⊥
 
-is_none_lem : (d : Distance) → is_none d ≡ true → d ≡ None
+is_none_lem : (d : Distance) → is_none d ≡ true → d ≡ NoDistance
 is_none_lem Near e = absurd (false≢true e)
 is_none_lem Far e = absurd (false≢true e)
-is_none_lem None e = refl
+is_none_lem NoDistance e = refl
 
 module _ (dist : ℕ → ℕ → Distance) (n : ℕ) where
   abbrev slots_at : ℕ → List ℤ
@@ -57,7 +57,7 @@ module _ (dist : ℕ → ℕ → Distance) (n : ℕ) where
   taken_le i = let l = lowest_le (length (slots_at i)) (takes (near_by dist) (slots_at i) i) in omega (arith, length_slots dist n i)
 
   -- a slot that takes a position is not one below which none does, and is near
-  module _ (i j : ℕ) (t : Tried dist n i j) (e : dist i j ≡ None) where
+  module _ (i j : ℕ) (t : Tried dist n i j) (e : dist i j ≡ NoDistance) where
     blank-here : no_number_at dist (slots_at i) i j ≡ true
     blank-here = rw (t.free, e)
 
@@ -116,7 +116,7 @@ module _ (dist : ℕ → ℕ → Distance) (n : ℕ) where
       passes : no_number_at dist (slots_at i) i j ≡ true
       passes = ap (no_number_at dist (slots_at i) i) r ∙ lowest-passes (slot_for dist (slots_at i) i) (no_number_at dist (slots_at i) i) (omega (arith, r, below))
 
-      earlier : (a b : ℕ) → Tried dist n a b → dist a b ≡ None → Before a b i j → ⊥
+      earlier : (a b : ℕ) → Tried dist n a b → dist a b ≡ NoDistance → Before a b i j → ⊥
       earlier a b t e (inl h) = not-both (has_here a b t e) (lowest_fails n has a (omega (arith, h, q)))
       earlier a b t e (inr (p, h)) =
           let m : none_at dist (slots_at a) a ≤ b = not-before a b t e in
@@ -127,7 +127,7 @@ module _ (dist : ℕ → ℕ → Distance) (n : ℕ) where
   unfolding first_none
   named-first l = is_first_lem (lowest n has) (none_at dist (slots_at (lowest n has)) (lowest n has)) l refl refl
 
-  pub none_tried : n ≤ (first_none dist n).position → (i j : ℕ) → Tried dist n i j → dist i j ≡ None → ⊥
+  pub none_tried : n ≤ (first_none dist n).position → (i j : ℕ) → Tried dist n i j → dist i j ≡ NoDistance → ⊥
   unfolding first_none
   none_tried l i j t e = not-both (has_here i j t e) (lowest_fails n has i (omega (arith, l, t.position)))
 
@@ -180,7 +180,7 @@ module _ (slots : List ℤ) (cell : Cell) (positions rotated : List Float) (n : 
       subst (FirstTried dist n) q (named-first dist n (ltb-true (first_none dist n).position n c))
 
   -- after a plain false none that was tried is
-  pub names-none : answer ≡ NotMatched → (i j : ℕ) → Tried dist n i j → dist i j ≡ None → ⊥
+  pub names-none : answer ≡ NotMatched → (i j : ℕ) → Tried dist n i j → dist i j ≡ NoDistance → ⊥
   names-none e =
       let c = by_plain (all_filled (matched_up_to (near cell positions rotated) n)) (ltb (first_none dist n).position n) (first_none dist n) (answer_is ∙ e) in
       none_tried dist n (ltb-false (first_none dist n).position n c)
