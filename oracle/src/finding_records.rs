@@ -84,10 +84,10 @@ fn refused() -> Vec<Finding> {
         calls.push(Finding { pos: vec![0.5; length], ..base.clone() });
         calls.push(Finding { rot_pos: vec![0.5; length], ..base.clone() });
     }
-    for (length, num_pos) in [(0, 2), (8, 2), (10, 2), (8, 1024), (8, 1025)] {
+    for (length, num_pos) in [(0, 2), (8, 2), (10, 2), (8, 1025)] {
         calls.push(Finding { lattice: vec![1.0; length], num_pos, ..base.clone() });
     }
-    for (length, num_pos) in [(0, 2), (2, 2), (4, 2), (2, 1024), (2, 1025)] {
+    for (length, num_pos) in [(0, 2), (2, 2), (4, 2), (2, 1025)] {
         calls.push(Finding { periodic: vec![1; length], num_pos, ..base.clone() });
     }
     calls
