@@ -1,1 +1,11 @@
 pub mod Signs
+pub mod CellsOutcomeLaws
+pub mod Named
+pub mod FindingOutcomeLaws
+pub mod Laws
+pub mod Sheet
+pub mod SearchLaws
+pub mod BijectionLaws
+pub mod GroupsLaws
+pub mod RestLaws
+pub mod SheetsLaws

@@ -1,9 +1,7 @@
 pub mod Matching
 pub mod Slots
 pub mod Search
-pub mod CellsOutcomeLaws
 pub mod Bijection
-pub mod Named
 pub mod Sheets
 pub mod Counts
 pub mod Groups
@@ -11,6 +9,3 @@ pub mod Chains
 pub mod StepLaws
 pub mod Rest
 pub mod FindPermutation
-pub mod FindingOutcomeLaws
-pub mod Laws
-pub mod Sheet

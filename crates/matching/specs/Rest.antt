@@ -9,8 +9,8 @@ use Rattle.matching.specs.Matching.{is_filled}
 use Rattle.matching.specs.Slots.{slot_at}
 use Rattle.matching.specs.Bijection.{Bijection}
 use Rattle.matching.specs.Counts.{count_le}
-use Rattle.matching.specs.Groups.{Held, Partial, marked, TooFewSlots, stuck-group, all_held}
-use Rattle.matching.specs.Chains.{Ready, Searched}
+use Rattle.matching.specs.Groups.{Held, Partial, marked, TooFewSlots, all_held}
+use Rattle.matching.specs.Chains.{Ready}
 
 -- whether slot j holds position i
 pub record HoldsAt (slots : List ℤ) (j i : ℕ) (r : Bool) : Type 0 where
@@ -94,7 +94,7 @@ module _ (is_near : ℕ → ℕ → Bool) (n : ℕ) (slots : List ℤ) (P : Part
   placed_already marks e = record { partial = λ _. P; placed_it = λ _. e; kept = λ _ p q. q; at_home = λ _. (refl, refl); group = λ e. absurd (true≢false e) }
 
   module _ (small : n ≤ 1024) (out : Held n slots i → ⊥) where
-    none : (k : ℕ) → marked (replicate n 0) k ≡ false
+    pub none : (k : ℕ) → marked (replicate n 0) k ≡ false
     none k = ap (λ x. eqb x 1) (no-marks n k)
 
     pub starts : Ready is_near n slots (replicate n 0) i n
@@ -108,15 +108,6 @@ module _ (is_near : ℕ → ℕ → Bool) (n : ℕ) (slots : List ℤ) (P : Part
       };
       fresh = none i;
       deep = count_le n (λ k. not (marked (replicate n 0) k));
-    }
-
-    pub placed-now : (r : Bool) (new : List ℤ) (marks : List ℕ) → Searched is_near n slots (replicate n 0) i r new marks → PlacedOne is_near n slots i r new marks
-    placed-now r new marks S = record {
-      partial = λ e. (S.found e).partial;
-      placed_it = λ e. (S.found e).placed;
-      kept = λ e. (S.found e).kept;
-      at_home = λ e. absurd (out e);
-      group = λ e. stuck-group is_near n slots marks i P S.marks_are h S.met out (λ p hp m. (S.stuck e).settled p hp m (none p));
     }
 
 -- ---- all positions

@@ -1,6 +1,5 @@
 -- Sheets 8, 9 and 10 of document 01, and values of document 02, A.3 and A.9, by computation, whatever the slots held. Assumes nothing.
 use Rattle.std.specs.Prelude.{◌≡◌, refl, Bool, true, false, List, [], ◌∷◌, ℤ, pos, negsuc, Float}
-use Rattle.std.proofs.Common.{inl, not-suc-le-zero, lit<}
 use Rattle.std.specs.Float.{nan, inf, binary64}
 use Rattle.std.specs.Float.Ieee.{of_bits, add, sub, mul, lt, is_nan, round}
 use Rattle.lists.specs.Tab.{times}
@@ -12,9 +11,8 @@ use Rattle.distances.specs.Near.{squares, distance2, distance}
 use Rattle.matching.specs.declared.cells.Matching.TheVariants.{Matched, NotMatched, NoNumber}
 use Rattle.lists.specs.Lowest.{lowest}
 use Rattle.matching.specs.Matching.{match_one, placed_to, matched_up_to, slot_for, none_at, has_none, first_none, all_filled, judged_matching, searched, answered, compute_permutation}
-use Rattle.matching.specs.Named.{names-first}
 
-abbrev zero64 : Float
+abbrev pub zero64 : Float
 zero64 = of_bits binary64 0
 
 abbrev one64 : Float
@@ -23,7 +21,7 @@ one64 = of_bits binary64 0x3ff0_0000_0000_0000
 abbrev half64 : Float
 half64 = of_bits binary64 0x3fe0_0000_0000_0000
 
-abbrev eighth : Float
+abbrev pub eighth : Float
 eighth = of_bits binary64 0x3fc0_0000_0000_0000
 
 -- along all three axes
@@ -77,14 +75,6 @@ pub first-named : (old old' : ℤ)
     ≡ (NoNumber (record { position = 0; slot = 0 }), negsuc 0 ∷ pos 0 ∷ [])
 unfolding compute_permutation judged_matching answered searched matched_up_to placed_to times match_one lowest slot_for none_at has_none first_none all_filled all_of distance distance2 squares of_bits add sub mul lt is_nan nearest_whole sqrt round
 first-named old old' = refl
-
--- By the law: the pair of position 1, whose distance is no number either, cannot be named.
-pub not_the_second : (old old' : ℤ)
-    → (compute_permutation (old ∷ old' ∷ []) (unit_cell eighth) (at_x zero64 (at_x nan [])) (at_x nan (at_x zero64 [])) 2).0 ≡ NoNumber (record { position = 1; slot = 0 }) → ⊥
-unfolding judged_matching placed_to times distance distance2 squares of_bits add sub mul lt is_nan nearest_whole sqrt round
-not_the_second old old' e =
-    (names-first (old ∷ old' ∷ []) (unit_cell eighth) (at_x zero64 (at_x nan [])) (at_x nan (at_x zero64 [])) 2 refl (record { position = 1; slot = 0 }) e).first 0 0
-    (record { position = lit< tt; slot = lit< tt; free = refl; none-lower = λ k h. absurd (not-suc-le-zero h) }) (inl (lit< tt)) refl
 
 -- Position 0 takes slot 0, and slot 1, which is NaN, is not tried for it; position 1 tries slot 1 only.
 pub untried_not-named : (old old' : ℤ)

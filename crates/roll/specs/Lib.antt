@@ -6,7 +6,6 @@ pub mod NumberLaws
 pub mod Rendering
 pub mod HoldingLaws
 pub mod ListingLaws
-pub mod Laws
 pub mod Samples
 pub mod ReadCalls
 pub mod StepLaws
@@ -17,6 +16,3 @@ pub mod Laid
 pub mod StoringLaws
 pub mod AppendingLaws
 pub mod AppendLaws
-pub mod Walked
-pub mod Desks
-pub mod AppendSamples

@@ -1,14 +1,9 @@
 pub mod Register
 pub mod Walk
 pub mod Chains
-pub mod Laws
-pub mod EndLaws
 pub mod Former
 pub mod RetireAll
 pub mod Steps
 pub mod PlacingLaws
 pub mod MemberLaws
 pub mod Linked
-pub mod AddedLaws
-pub mod RetireLaws
-pub mod Samples

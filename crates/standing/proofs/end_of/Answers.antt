@@ -4,7 +4,7 @@ use native.Mathlib.Omega.{arith}
 use Rattle.roll.specs.StartLaws.{start_first, next_start}
 use Rattle.standing.specs.Walk.{record_of, inside}
 use Rattle.standing.specs.Chains.{carried}
-use Rattle.standing.specs.EndLaws.{carried_none, carried-more}
+use Rattle.standing.proofs.EndLaws.{carried_none, carried-more}
 use Rattle.standing.proofs.end_of.Goals as goal
 
 pub loop-i-init : goal.loop-i-init

@@ -1,6 +1,6 @@
 use native.Mathlib.Omega.{arith}
 use borrow.Author.Tests.{not-true, not-false}
-use Rattle.standing.specs.EndLaws.{says_unknown, says_retired, says_current}
+use Rattle.standing.proofs.EndLaws.{says_unknown, says_retired, says_current}
 use Rattle.standing.proofs.follow.Goals as goal
 
 pub look_up-f-requires : goal.look_up-f-requires

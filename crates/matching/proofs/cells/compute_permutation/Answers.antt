@@ -3,7 +3,7 @@ use native.Mathlib.Omega.{arith}
 use lib.ListN.{length}
 use Rattle.distances.specs.Near.{distance}
 use Rattle.matching.specs.Matching.{searched}
-use Rattle.matching.specs.CellsOutcomeLaws.{accepted, refused, done}
+use Rattle.matching.proofs.CellsOutcomeLaws.{accepted, refused, done}
 use Rattle.matching.proofs.cells.compute_permutation.Goals as goal
 
 pub fill-requires : goal.fill-requires

@@ -4,7 +4,7 @@ use Prim.Native.Nat.{ℕ}
 use lib.IntN.{negsuc}
 use lib.ListN.{length, replicate}
 use Rattle.distances.specs.Near.{near, distance}
-use Rattle.matching.specs.FindingOutcomeLaws.{greedy-left, greedy-told, greedy-length, greedy-ready, from-greedy, found-greedy, found-one, found_none}
+use Rattle.matching.proofs.FindingOutcomeLaws.{greedy-left, greedy-told, greedy-length, greedy-ready, from-greedy, found-greedy, found-one, found_none}
 use Rattle.matching.proofs.finding.find.Goals as goal
 
 pub fill-m-requires : goal.fill-m-requires

@@ -1,7 +1,7 @@
 use mathlib.Core.Path.{sym, ◌∙◌}
 use native.Mathlib.Omega.{arith}
 use lib.ListN.{length}
-use Rattle.matching.specs.FindingOutcomeLaws.{accepted, refused, finished}
+use Rattle.matching.proofs.FindingOutcomeLaws.{accepted, refused, finished}
 use Rattle.matching.proofs.finding.find_permutation.Goals as goal
 
 pub find-requires : goal.find-requires

@@ -1,6 +1,6 @@
 use mathlib.Core.Path.{sym, ◌∙◌}
 use Rattle.tables.specs.Answers.{is_done}
-use Rattle.matching.specs.FindingOutcomeLaws.{positions-refused, marks-wrong, marks-right}
+use Rattle.matching.proofs.FindingOutcomeLaws.{positions-refused, marks-wrong, marks-right}
 use Rattle.matching.proofs.finding.judge_finding.Goals as goal
 
 pub returns-then-is_refusal : goal.returns-then-is_refusal

@@ -1,6 +1,7 @@
 use mathlib.Core.Path.{◌≡◌, ap, ◌∙◌}
 use lib.ListN.{length, replicate, length-replicate}
-use Rattle.matching.specs.Rest.{placed_already, starts, placed-now}
+use Rattle.matching.specs.Rest.{placed_already, starts}
+use Rattle.matching.proofs.RestLaws.{placed-now}
 use Rattle.matching.proofs.rest.place_one.Goals as goal
 
 pub returns-then-is_held : goal.returns-then-is_held

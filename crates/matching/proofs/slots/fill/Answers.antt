@@ -3,7 +3,7 @@ use native.Mathlib.Omega.{arith}
 use lib.IntN.{negsuc}
 use lib.ListN.{length, length-replicate}
 use Rattle.distances.specs.Near.{distance}
-use Rattle.matching.specs.CellsOutcomeLaws.{all_found, not_found}
+use Rattle.matching.proofs.CellsOutcomeLaws.{all_found, not_found}
 use Rattle.matching.proofs.slots.fill.Goals as goal
 
 pub place_all-p-requires : goal.place_all-p-requires

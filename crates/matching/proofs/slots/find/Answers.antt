@@ -2,7 +2,8 @@ use mathlib.Core.Bool.{true, false}
 use Rattle.matching.specs.Slots.{slot_at, filled-stays-out}
 use Rattle.matching.specs.Matching.{is_filled, takes, no_number_at}
 use Rattle.distances.specs.Near.{is_near, is_none, near, distance}
-use Rattle.matching.specs.Search.{tried_as, First, first-none, first-noted, filled-not-blank, near-tried, none_tried, taken_is, noted_is}
+use Rattle.matching.specs.Search.{tried_as, First}
+use Rattle.matching.proofs.SearchLaws.{first-none, first-noted, filled-not-blank, near-tried, none_tried, taken_is, noted_is}
 use Rattle.tables.proofs.Integers.{handed}
 use borrow.Author.Count.{below_more}
 use mathlib.Core.Path.{◌≡◌, sym, ap, ◌∙◌, subst}

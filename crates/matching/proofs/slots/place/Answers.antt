@@ -3,7 +3,7 @@ use mir.ValLaws.{to_z_pos}
 use mir.Val.{to_z}
 use mir.Syntax.{w64}
 use Rattle.distances.specs.Near.{distance}
-use Rattle.matching.specs.Search.{place_at, place_out}
+use Rattle.matching.proofs.SearchLaws.{place_at, place_out}
 use native.Mathlib.Omega.{arith}
 use mathlib.Core.Path.{◌≡◌}
 use Rattle.matching.proofs.slots.place.Goals as goal

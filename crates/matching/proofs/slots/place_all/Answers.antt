@@ -1,6 +1,6 @@
 use Rattle.matching.specs.Slots.{still-filled, length-place}
 use Rattle.distances.specs.Near.{near, distance}
-use Rattle.matching.specs.Search.{pair-none, pair-more}
+use Rattle.matching.proofs.SearchLaws.{pair-none, pair-more}
 use Rattle.lists.specs.Tab.{times_none, times_more}
 use borrow.Author.Count.{below_none}
 use lib.ListN.{length}

@@ -1,7 +1,7 @@
 use mathlib.Core.Path.{sym, ◌∙◌}
 use Rattle.roll.specs.Format.{entry}
 use Rattle.roll.specs.NumberLaws.{Bytes}
-use Rattle.roll.specs.AppendLaws.{may_add, leaves-new, leaves-old}
+use Rattle.roll.proofs.AppendLaws.{may_add, leaves-new, leaves-old}
 use borrow.Author.Rules.{rules}
 use Rattle.roll.proofs.append.append.Goals as goal
 

@@ -3,7 +3,7 @@ use Prim.Native.Nat.{ℕ}
 use native.Mathlib.Omega.{arith}
 use lib.ListN.{take, drop}
 use Rattle.standing.specs.RetireAll.{add_all}
-use Rattle.standing.specs.Steps.{adds-first, adds-more, adds-last}
+use Rattle.standing.proofs.StepsLaws.{adds-first, adds-more, adds-last}
 use Rattle.standing.proofs.retire.add_all.Goals as goal
 
 pub loop-i-init : goal.loop-i-init

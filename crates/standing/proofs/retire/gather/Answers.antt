@@ -5,7 +5,8 @@ use lib.Seq.{length-take-le}
 use Rattle.roll.specs.StartLaws.{start_first, next_start}
 use Rattle.roll.specs.HoldingLaws.{is_sized}
 use Rattle.standing.specs.Walk.{record_of, inside}
-use Rattle.standing.specs.Steps.{waits_at, gathered_to, gathered-no, gathered-one}
+use Rattle.standing.specs.Steps.{waits_at, gathered_to}
+use Rattle.standing.proofs.StepsLaws.{gathered-no, gathered-one}
 use Rattle.standing.proofs.retire.gather.Goals as goal
 
 pub loop-i-init : goal.loop-i-init

@@ -4,7 +4,8 @@ use native.Mathlib.Omega.{arith}
 use Rattle.roll.specs.StartLaws.{told-no, told_yes}
 use Rattle.roll.specs.HoldingLaws.{is_sized, at-least-eight, count_is}
 use borrow.Author.Tests.{not-true, not-false}
-use Rattle.standing.specs.Steps.{not_7, not_9, not_11, not_8, may_add, the_list, no_add, many, count_small}
+use Rattle.standing.specs.Steps.{many}
+use Rattle.standing.proofs.StepsLaws.{not_7, not_9, not_11, not_8, may_add, the_list, no_add, count_small}
 use Rattle.standing.proofs.retire.judge.Goals as goal
 
 pub is_lawful-requires : goal.is_lawful-requires

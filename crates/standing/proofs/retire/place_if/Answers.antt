@@ -1,5 +1,5 @@
 use native.Mathlib.Omega.{arith}
-use Rattle.standing.specs.Steps.{put_in, left_out}
+use Rattle.standing.proofs.StepsLaws.{put_in, left_out}
 use Rattle.standing.proofs.retire.place_if.Goals as goal
 
 pub returns-then-wanted : goal.returns-then-wanted

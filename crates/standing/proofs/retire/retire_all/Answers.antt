@@ -1,5 +1,5 @@
 use native.Mathlib.Omega.{arith}
-use Rattle.standing.specs.Steps.{add-limits, retire_add, retire_not}
+use Rattle.standing.proofs.StepsLaws.{add-limits, retire_add, retire_not}
 use Rattle.standing.proofs.retire.retire_all.Goals as goal
 
 pub add_all-requires : goal.add_all-requires

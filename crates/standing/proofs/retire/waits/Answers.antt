@@ -1,6 +1,6 @@
 use mathlib.Core.Path.{◌∙◌}
 use native.Mathlib.Omega.{arith}
-use Rattle.standing.specs.Steps.{waits-retirement, waits-elsewhere, waits_open}
+use Rattle.standing.proofs.StepsLaws.{waits-retirement, waits-elsewhere, waits_open}
 use Rattle.standing.proofs.retire.waits.Goals as goal
 
 pub end_of-requires : goal.end_of-requires

@@ -17,9 +17,10 @@ use Rattle.distances.specs.declared.Distance.{Distance}
 use Rattle.distances.specs.Near.{near, near_by}
 use Rattle.matching.specs.declared.cells.Matching.{Matching}
 use Rattle.matching.specs.Matching.{is_matched, matched_up_to, all_filled, first_none, judged_matching, searched}
-use Rattle.matching.specs.CellsOutcomeLaws as cells
+use Rattle.matching.proofs.CellsOutcomeLaws as cells
 use Rattle.matching.specs.Slots.{Triples}
-use Rattle.matching.specs.Bijection.{Bijection, matched_is, placed-length, placed-each, placed-apart, placed-bijection}
+use Rattle.matching.specs.Bijection.{Bijection}
+use Rattle.matching.proofs.BijectionLaws.{matched_is, placed-length, placed-each, placed-apart, placed-bijection}
 use Rattle.matching.specs.Groups.{Held, Partial}
 use Rattle.matching.specs.declared.finding.Finding.{Finding}
 use Rattle.matching.specs.declared.finding.Finding.TheVariants.{Found, NoMatch, Refused}

@@ -23,16 +23,17 @@ use Rattle.roll.specs.AppendCalls.{passes}
 use Rattle.standing.specs.Register.{Register, blank, noted, noted_all, register_of, allowed, all_allowed, lawful, rule, stands_now}
 use Rattle.standing.specs.Walk.{record_of, entries_register, entries-many}
 use Rattle.standing.specs.Chains.{Sound, chain_end, carried, end_same, end_stays, linked_end, delivered_end, end_plus}
-use Rattle.standing.specs.Laws.{named, lawful-to, sound-roll, keeps_rules_lem, only_these}
+use Rattle.standing.proofs.Laws.{named, lawful-to, sound-roll, keeps_rules_lem, only_these}
 use Rattle.standing.specs.declared.Standing.{Standing}
 use Rattle.standing.specs.declared.Standing.TheVariants.{Unknown, Retired, Current}
 use Rattle.standing.specs.declared.retire.Judged.{Judged}
 use Rattle.standing.specs.declared.retire.Judged.TheVariants.{Add}
 use Rattle.standing.specs.RetireAll.{retirement, chain_end_of, waits, inserted, numbers_passing, to_retire, add_all, judged_retire, retire_after, retire_all}
-use Rattle.standing.specs.Steps.{waits_at, gathered_to, to_retire_is, Retirable, add_says, roll-there}
+use Rattle.standing.specs.Steps.{waits_at, gathered_to, Retirable}
+use Rattle.standing.proofs.StepsLaws.{to_retire_is, add_says, roll-there}
 use Rattle.standing.specs.MemberLaws.{Rising, delivered-by, members, rises}
 use Rattle.standing.specs.Linked.{Linked, linked_is}
-use Rattle.standing.specs.AddedLaws.{Named, Roomy, Added, added}
+use Rattle.standing.proofs.AddedLaws.{Named, Roomy, Added, added}
 
 -- ---- a register with the retirements of a list of sets
 

@@ -20,7 +20,8 @@ use Rattle.matching.specs.declared.cells.Matching.{Matching}
 use Rattle.matching.specs.declared.cells.Matching.TheVariants.{Matched, Refused}
 use Rattle.matching.specs.Matching.{match_one, placed_to, matched_up_to, all_filled, judged_matching, first_none, failed_by, searched, answered, compute_permutation}
 use Rattle.matching.specs.Slots.{Triples}
-use Rattle.matching.specs.Search.{pair_after, length_slots, pair-answers}
+use Rattle.matching.specs.Search.{pair_after}
+use Rattle.matching.proofs.SearchLaws.{length_slots, pair-answers}
 
 -- what is known of the counts and lengths of a call that is not refused
 pub record Accepted (lenSlots lenPos lenRot n : ℕ) : Type 0 where

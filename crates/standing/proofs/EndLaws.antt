@@ -7,7 +7,7 @@ use Rattle.roll.specs.Reading.{record_start, entry_at, count_of, is_roll, entrie
 use Rattle.standing.specs.Register.{Register, replaces, lawful, rule, answer}
 use Rattle.standing.specs.Walk.{record_of, register_after, lawful_to, Notes, entries-lawful}
 use Rattle.standing.specs.Chains.{Sound, chain_end, moved, carried, carried_is, end_zero, end_stays, end_goes, sound}
-use Rattle.standing.specs.Laws.{named}
+use Rattle.standing.proofs.Laws.{named}
 use Rattle.standing.specs.declared.Standing.{Standing}
 use Rattle.standing.specs.declared.Standing.TheVariants.{Unknown, Retired, Current}
 

@@ -10,8 +10,9 @@ use Rattle.roll.specs.HoldingLaws.{is_there}
 use Rattle.roll.specs.declared.append.Appended.TheVariants.{Count}
 use Rattle.roll.specs.AppendCalls.{judged_append, appended}
 use Rattle.roll.specs.AppendingLaws.{entries-count, answer-done}
-use Rattle.roll.specs.AppendLaws.{Grown, grown}
-use Rattle.roll.specs.Desks.{Desk, one_more as desk-more}
+use Rattle.roll.specs.AppendLaws.{Grown}
+use Rattle.roll.proofs.AppendLaws.{grown}
+use Rattle.roll.proofs.Desks.{Desk, one_more as desk-more}
 use Rattle.standing.specs.RetireAll.{retirement, add_all}
 
 -- ---- one retirement more

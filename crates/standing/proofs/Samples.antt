@@ -12,11 +12,12 @@ use Rattle.roll.specs.AppendCalls.{with_entry, passes, judged_append, appended}
 use Rattle.roll.specs.declared.append.Appended.TheVariants.{Count, Refused as NotAppended}
 use Rattle.standing.specs.Register.{blank, noted, noted_all, allowed, all_allowed, rule, answer, register_of, stands_now}
 use Rattle.standing.specs.Chains.{chain_end}
-use Rattle.standing.specs.Former.{former_stands_now, held_back, changes_just, was-retired}
+use Rattle.standing.specs.Former.{former_stands_now, held_back}
+use Rattle.standing.proofs.FormerLaws.{changes_just, was-retired}
 use Rattle.standing.specs.RetireAll.{waits, inserted, numbers_passing, to_retire, add_all, judged_retire, retire_all}
 use Rattle.standing.specs.MemberLaws.{Rising}
 use Rattle.standing.specs.Linked.{Linked, itself, earlier}
-use Rattle.standing.specs.RetireLaws.{just_linked, by-rising-number, answers-after}
+use Rattle.standing.proofs.RetireLaws.{just_linked, by-rising-number, answers-after}
 use Rattle.standing.specs.declared.Standing.TheVariants.{Unknown, Retired, Current, Refused}
 use Rattle.standing.specs.declared.retire.Judged.TheVariants.{Add}
 

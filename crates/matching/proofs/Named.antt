@@ -20,8 +20,8 @@ use Rattle.matching.specs.declared.cells.Matching.TheVariants.{Matched, NotMatch
 use Rattle.matching.specs.Matching.{is_filled, takes, placed_to, matched_up_to, all_filled, slot_for, no_number_at, none_at, has_none, first_none, failed_by, judged_matching, compute_permutation}
 use Rattle.lists.specs.Lowest.{lowest, lowest_le, lowest-passes, lowest_fails}
 use Rattle.matching.specs.Slots.{slot_at}
-use Rattle.matching.specs.Search.{length_slots}
-use Rattle.matching.specs.CellsOutcomeLaws.{ended}
+use Rattle.matching.proofs.SearchLaws.{length_slots}
+use Rattle.matching.proofs.CellsOutcomeLaws.{ended}
 
 -- The search tries slot j for position i: when it comes to i the slot is free, and no lower free slot is near i.
 pub record Tried (dist : ℕ → ℕ → Distance) (n i j : ℕ) : Type 0 where

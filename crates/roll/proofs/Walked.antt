@@ -16,7 +16,7 @@ use Rattle.roll.specs.HoldingLaws.{is_framed, is_roll_lem, former-framed}
 use Rattle.roll.specs.ReadCalls.{read_entry, holds_record, read_by, label_by, past_by}
 use Rattle.roll.specs.ReadLaws.{reads_record, reads-label, goes_next, reads_end}
 use Rattle.roll.specs.AppendCalls.{judged_append, appended}
-use Rattle.roll.specs.AppendLaws.{done_says, grown}
+use Rattle.roll.proofs.AppendLaws.{done_says, grown}
 use Rattle.roll.specs.declared.read.Item.{Item}
 use Rattle.roll.specs.declared.read.Item.TheVariants.{End}
 use Rattle.roll.specs.declared.append.Appended.TheVariants.{Count}

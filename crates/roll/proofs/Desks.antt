@@ -11,10 +11,10 @@ use Rattle.roll.specs.Reading.{trailer_at, entries_of, holds_roll}
 use Rattle.roll.specs.NumberLaws.{Bytes, bytes_cons, bytes-append, bytes_drop, bytes-four, bytes_fours}
 use Rattle.roll.specs.Rendering.{Fits}
 use Rattle.roll.specs.HoldingLaws.{is_roll_lem, bytes_take}
-use Rattle.roll.specs.Laws.{same_bytes}
+use Rattle.roll.proofs.Laws.{same_bytes}
 use Rattle.roll.specs.AppendCalls.{judged_append, appended}
 use Rattle.roll.specs.AppendingLaws.{records_are}
-use Rattle.roll.specs.AppendLaws.{done_says, left-new, grown}
+use Rattle.roll.proofs.AppendLaws.{done_says, left-new, grown}
 use Rattle.roll.specs.declared.append.Appended.TheVariants.{Count}
 
 -- a record as the appender takes it: numbers of 4 bytes, a label of bytes

@@ -16,7 +16,7 @@ use Rattle.matching.specs.Bijection.{Bijection, Taken}
 use Rattle.matching.specs.declared.finding.Finding.{Finding}
 use Rattle.matching.specs.declared.finding.Finding.TheVariants.{Found}
 use Rattle.matching.specs.FindPermutation.{judged_finding, ended, Result, Promise}
-use Rattle.matching.specs.Laws.{found_if_any}
+use Rattle.matching.proofs.Laws.{found_if_any}
 
 abbrev cell9 : Cell
 cell9 = unit_cell (of_bits binary64 0x3fc8_0000_0000_0000)

@@ -9,9 +9,9 @@ use Rattle.roll.specs.Format.{record_ruled, joined, starts_from, starts_of, in_f
 use Rattle.roll.specs.Reading.{four_at, trailer_at, count_of, listed, entry_at, size_at, record_start, ruled_at, follow, framed, is_roll, entries_of, holds_roll}
 use Rattle.tables.specs.declared.Refusal.TheVariants.{NotARoll, NoRoom}
 use Rattle.roll.specs.NumberLaws.{Bytes, bytes_of}
-use Rattle.roll.specs.Laws.{comes_over}
-use Rattle.roll.specs.Walked.{walked, walk}
-use Rattle.roll.specs.Desks.{Given, Desk, Appends, two-desks}
+use Rattle.roll.proofs.Laws.{comes_over}
+use Rattle.roll.proofs.Walked.{walked, walk}
+use Rattle.roll.proofs.Desks.{Given, Desk, Appends, two-desks}
 use Rattle.roll.specs.Samples.{first, second, empty, one, older, older_is}
 use Rattle.roll.specs.AppendCalls.{with_entry, passes, judged_append, appended}
 use Rattle.roll.specs.declared.read.Item.TheVariants.{Record, End}

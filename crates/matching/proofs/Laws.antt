@@ -12,8 +12,10 @@ use Rattle.tables.specs.declared.Answer.TheVariants.{Done, Refused as RefusedBy}
 use Rattle.distances.specs.declared.Cell.{Cell}
 use Rattle.distances.specs.Near.{near}
 use Rattle.matching.specs.Matching.{is_matched, judged_matching, compute_permutation}
-use Rattle.matching.specs.Bijection.{Bijection, matched-placed}
-use Rattle.matching.specs.Groups.{TooFewSlots, no-bijection}
+use Rattle.matching.specs.Bijection.{Bijection}
+use Rattle.matching.proofs.BijectionLaws.{matched-placed}
+use Rattle.matching.specs.Groups.{TooFewSlots}
+use Rattle.matching.proofs.GroupsLaws.{no-bijection}
 use Rattle.matching.specs.declared.finding.Finding.{Finding}
 use Rattle.matching.specs.declared.finding.Finding.TheVariants.{Found, NoMatch, Refused}
 use Rattle.matching.specs.FindPermutation.{judged_finding, ended, Ends, Result, Answered, Promise}

@@ -1,0 +1,5 @@
+pub mod Laws
+pub mod AppendLaws
+pub mod Walked
+pub mod Desks
+pub mod AppendSamples

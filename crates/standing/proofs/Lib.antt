@@ -1,0 +1,7 @@
+pub mod Laws
+pub mod EndLaws
+pub mod AddedLaws
+pub mod RetireLaws
+pub mod Samples
+pub mod StepsLaws
+pub mod FormerLaws
