@@ -17,7 +17,8 @@ use Rattle.tables.specs.Lengths.{set_blocks, set_length, block_rooms}
 use Rattle.tables.specs.Limits.{limit3, limit_level}
 use Rattle.tables.specs.Shifts.{Shifts, ruled}
 use Rattle.tables.specs.Full.{judged_full, done_full, alone-done}
-use Rattle.tables.specs.Compact.{ShiftTables, shifts_of, table_lengths, tables_out_of_range, judged_entries, judged_tables, Compact, judged_compact, done-tables}
+use Rattle.tables.specs.Compact.{ShiftTables, shifts_of, table_lengths, tables_out_of_range, judged_entries, judged_tables, Compact, judged_compact}
+use Rattle.tables.proofs.CompactLaws.{done-tables}
 use Rattle.places.specs.Places.{size, in_block, full_shifts}
 use Rattle.orbits.specs.Symmetric.{symmetrized}
 use Rattle.audits.specs.Guard.{Ready, full_tables, whole-shifts, ready-whole}

@@ -15,7 +15,8 @@ use Rattle.tables.specs.Conditions.{any_above}
 use Rattle.tables.specs.Lengths.{set_blocks, set_length, block_rooms}
 use Rattle.tables.specs.Limits.{limit4, limit_level}
 use Rattle.tables.specs.Full.{judged_full, done_full, alone-done, full-passes, right-with}
-use Rattle.tables.specs.Compact.{ShiftTables, shifts_of, judged_compact, done-tables}
+use Rattle.tables.specs.Compact.{ShiftTables, shifts_of, judged_compact}
+use Rattle.tables.proofs.CompactLaws.{done-tables}
 use Rattle.places.specs.Places.{size, full_shifts, perms4}
 use Rattle.orbits.specs.Symmetric.{symmetrized}
 use Rattle.audits.specs.Guard.{full_tables, ready-whole}

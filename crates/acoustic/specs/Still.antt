@@ -23,12 +23,13 @@ use Rattle.tables.specs.Answers.{is_refusal, after-done}
 use Rattle.tables.specs.Limits.{limit3}
 use Rattle.tables.specs.Shifts.{Shifts, Laws}
 use Rattle.tables.specs.Compact.{ShiftTables, shifts_of, TablesFit}
-use Rattle.places.specs.Places.{Leg, Legs, read_out, at, stored, address, size, in_block, permute_legs, perms3, full_shifts, length-fill, same-read_out, stored-place, address_below}
+use Rattle.places.specs.Places.{Leg, Legs, read_out, at, stored, address, size, in_block, permute_legs, perms3, full_shifts, length-fill, stored-place, address_below}
+use Rattle.places.proofs.PlacesLaws.{same-read_out}
 use Rattle.places.specs.Permutations.{Permutation, six-group, taken_legs}
 use Rattle.orbits.specs.Blockwise.{block-below}
 use Rattle.orbits.specs.Transposed.{in_block_pos}
 use Rattle.orbits.specs.Symmetric.{symmetrized, mean6}
-use Rattle.orbits.specs.Mean.{symmetrized_is_mean}
+use Rattle.orbits.proofs.MeanLaws.{symmetrized_is_mean}
 use Rattle.grid.specs.Grid.{on_grid, steps_up, steps_down, Steps, grid-steps, grid-few}
 use Rattle.grid.specs.ExactLaws.{whole-steps}
 use Rattle.lines.specs.Sums3x3.{inverse}

@@ -14,7 +14,8 @@ use Rattle.tables.specs.Conditions.{any_above, any_wrong, nat, below, out_of_ran
 use Rattle.tables.specs.Lengths.{set_blocks, set_length}
 use Rattle.tables.specs.Shifts.{Shifts, Laws}
 use Rattle.tables.specs.Full.{judged_full, done_full}
-use Rattle.tables.specs.Compact.{ShiftTables, shift_tables, shifts_of, TablesFit, table_lengths, judged_entries, judged_tables, judged_compact, done-tables, judged_set}
+use Rattle.tables.specs.Compact.{ShiftTables, shift_tables, shifts_of, TablesFit, table_lengths, judged_entries, judged_tables, judged_compact, judged_set}
+use Rattle.tables.proofs.CompactLaws.{done-tables}
 use Rattle.lists.specs.Digits.{times_power}
 use Rattle.places.specs.Places.{size, in_block}
 use Rattle.blocks.specs.Block.{fits}

@@ -19,7 +19,8 @@ use Rattle.tables.specs.Full.{full-passes}
 use Rattle.tables.specs.Compact.{ShiftTables, shifts_of, judged_set}
 use Rattle.places.specs.Places.{Leg, Fit, in_block}
 use Rattle.places.specs.WholeLaws.{full_shifts, read_out-whole, size_whole}
-use Rattle.places.specs.Addresses.{stored_block, read_out2}
+use Rattle.places.specs.Addresses.{stored_block}
+use Rattle.places.proofs.AddressesLaws.{read_out2}
 use Rattle.places.specs.ReadOuts.{Tables, tables as tables_of, stored_in, stored_in_lem}
 use Rattle.lists.specs.Floats.{plus_zero}
 use Rattle.lines.specs.Sums3x3.{Sums, zeros, sum_in, more, sum_in_lem}

@@ -7,7 +7,8 @@ use Rattle.tables.specs.declared.Refusal.TheVariants.{CountAboveLimit}
 use Rattle.tables.specs.Answers.{is_refusal, after, is_done, after_refusal, after-done, passed}
 use Rattle.tables.specs.Lengths.{set_length2}
 use Rattle.tables.specs.Limits.{limit2, limit_level}
-use Rattle.tables.specs.Compact.{ShiftTables, shifts_of, done_compact}
+use Rattle.tables.specs.Compact.{ShiftTables, shifts_of}
+use Rattle.tables.proofs.CompactLaws.{done_compact}
 use Rattle.fc2_compact.specs.Passes.{transposed, averaged_compact}
 use Rattle.fc2_compact.specs.Compact.{judged2, judged_levels, symmetrized_compact, set_index_permutation_symmetry_compact_fc, perm_trans_symmetrize_compact_fc}
 use Rattle.fc2_compact.specs.Code.{Ready}

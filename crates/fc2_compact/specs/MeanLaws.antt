@@ -11,7 +11,8 @@ use Rattle.lists.specs.Floats.{add_commutes}
 use Rattle.lists.specs.Elements.{pick, pick-pick, straight, pick-straight}
 use Rattle.lists.specs.Tab.{tab, tab_from}
 use Rattle.tables.specs.Shifts.{Shifts, Laws}
-use Rattle.places.specs.Places.{Leg, Legs, at, read_out, size, length-fill, same-read_out, read_out-fill}
+use Rattle.places.specs.Places.{Leg, Legs, at, read_out, size, length-fill}
+use Rattle.places.proofs.PlacesLaws.{same-read_out, read_out-fill}
 use Rattle.places.specs.Permutations.{permute_legs, Permutation, taken_legs}
 use Rattle.places.specs.Moves.{order2, source-stored}
 use Rattle.lines.specs.Sums3x3.{half}

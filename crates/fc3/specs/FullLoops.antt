@@ -22,7 +22,8 @@ use Rattle.orbits.specs.Transposed.{counterpart}
 use Rattle.orbits.specs.AtBlockLaws.{whole-block, whole-counterpart}
 use Rattle.orbits.specs.Groups.{group_blocks, mean_block, spread_block, Distinct}
 use Rattle.orbits.specs.Symmetric.{symmetrized}
-use Rattle.orbits.specs.GroupLoop.{worked, first_visit, is_first, visit-first, visit-later, lowest-leaves}
+use Rattle.orbits.specs.GroupLoop.{worked, first_visit, is_first, visit-first, visit-later}
+use Rattle.orbits.proofs.GroupLoopLaws.{lowest-leaves}
 use Rattle.fc3.specs.Mean.{mean6, Blocks6}
 use Rattle.fc3.specs.Loops.{plain3, six-same}
 use Rattle.fc3.specs.Symmetrize.{set_permutation_symmetry_fc3}

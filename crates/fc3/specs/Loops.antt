@@ -14,7 +14,8 @@ use Rattle.tables.specs.declared.Answer.{Answer}
 use Rattle.tables.specs.declared.Answer.TheVariants.{Done}
 use Rattle.tables.specs.Answers.{is_refusal, after, is_done, refused_call, done_call}
 use Rattle.tables.specs.Conditions.{Readable, index_at, read}
-use Rattle.tables.specs.Compact.{ShiftTables, shifts_of, Compact, judged_compact, done_compact, p2s_is}
+use Rattle.tables.specs.Compact.{ShiftTables, shifts_of, Compact, judged_compact, p2s_is}
+use Rattle.tables.proofs.CompactLaws.{done_compact}
 use Rattle.tables.specs.Lengths.{set_length, set_length3}
 use Rattle.places.specs.Places.{size}
 use Rattle.places.specs.Permutations.{perms3, six-group}
@@ -25,7 +26,8 @@ use Rattle.orbits.specs.AtBlockLaws.{counterpart-at, stored-own}
 use Rattle.orbits.specs.Groups.{group_blocks, mean_block, spread_block}
 use Rattle.orbits.specs.Spread.{set_all}
 use Rattle.orbits.specs.Symmetric.{symmetrized}
-use Rattle.orbits.specs.GroupLoop.{State, worked, marked_visit, marked-leaves}
+use Rattle.orbits.specs.GroupLoop.{State, worked, marked_visit}
+use Rattle.orbits.proofs.GroupLoopLaws.{marked-leaves}
 use Rattle.fc3.specs.Mean.{mean6, Blocks6}
 use Rattle.fc3.specs.Symmetrize.{set_permutation_symmetry_compact_fc3}
 

@@ -13,7 +13,8 @@ use Rattle.tables.specs.declared.Answer.{Answer}
 use Rattle.tables.specs.declared.Answer.TheVariants.{Done}
 use Rattle.tables.specs.Answers.{is_refusal, after, is_done, refused_call, done_call}
 use Rattle.tables.specs.Full.{judged_full, done_full}
-use Rattle.tables.specs.Compact.{ShiftTables, shifts_of, Compact, judged_compact, done_compact}
+use Rattle.tables.specs.Compact.{ShiftTables, shifts_of, Compact, judged_compact}
+use Rattle.tables.proofs.CompactLaws.{done_compact}
 use Rattle.tables.specs.Lengths.{set_blocks, block_rooms}
 use Rattle.places.specs.Places.{size}
 use Rattle.places.specs.Permutations.{perms4, twenty_four_group}
@@ -21,7 +22,8 @@ use Rattle.places.specs.WholeLaws.{full_shifts, whole-laws, size_whole}
 use Rattle.orbits.specs.Groups.{group_blocks, mean_block, spread_block}
 use Rattle.orbits.specs.Spread.{set_all}
 use Rattle.orbits.specs.Symmetric.{symmetrized}
-use Rattle.orbits.specs.GroupLoop.{State, worked, marked_visit, marked-leaves}
+use Rattle.orbits.specs.GroupLoop.{State, worked, marked_visit}
+use Rattle.orbits.proofs.GroupLoopLaws.{marked-leaves}
 use Rattle.fc4.specs.Mean24.{mean24}
 use Rattle.fc4.specs.Mean.{Blocks24, times-front}
 use Rattle.fc4.specs.Blocks.{blocks_in, marks_in}

@@ -10,11 +10,12 @@ use Rattle.std.specs.Float.Ieee.{nan}
 use Rattle.lists.specs.Elements.{All, all_map, map_same, pick, pick-pick}
 use Rattle.lists.specs.Members.{In, in_all}
 use Rattle.tables.specs.Shifts.{Shifts, Laws}
-use Rattle.places.specs.Places.{Leg, Legs, stored, address, at, read_out, size, length-fill, stored-place, address_below, same-read_out}
+use Rattle.places.specs.Places.{Leg, Legs, stored, address, at, read_out, size, length-fill, stored-place, address_below}
+use Rattle.places.proofs.PlacesLaws.{same-read_out}
 use Rattle.places.specs.Permutations.{permute_legs, Permutation, taken_legs, Group, perms3, perms4, six-group, twenty_four_group}
 use Rattle.places.specs.WholeLaws.{full_shifts, whole-laws}
 use Rattle.orbits.specs.Symmetric.{symmetrized, mean6}
-use Rattle.orbits.specs.Mean.{symmetrized_is_mean}
+use Rattle.orbits.proofs.MeanLaws.{symmetrized_is_mean}
 use Rattle.grid.specs.Grid.{on_grid}
 use Rattle.laws.specs.Means.{mean6-same, mean24-same, SameTotals}
 use Rattle.fc4.specs.Mean24.{mean24}

@@ -8,7 +8,8 @@ use Rattle.tables.specs.Answers.{is_refusal, after, after-done}
 use Rattle.tables.specs.Lengths.{set_blocks}
 use Rattle.tables.specs.Full.{judged_full, alone-done}
 use Rattle.tables.specs.Limits.{limit3, limit4}
-use Rattle.tables.specs.Compact.{ShiftTables, shifts_of, judged_set, judged_compact, done_compact}
+use Rattle.tables.specs.Compact.{ShiftTables, shifts_of, judged_set, judged_compact}
+use Rattle.tables.proofs.CompactLaws.{done_compact}
 use Rattle.places.specs.Places.{size, length-fill}
 use Rattle.places.specs.WholeLaws.{full_shifts, whole-laws}
 use Rattle.places.specs.Permutations.{Group, perms3, perms4, six-group, twenty_four_group}

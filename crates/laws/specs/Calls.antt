@@ -8,7 +8,8 @@ use Rattle.tables.specs.declared.Answer.{Answer}
 use Rattle.tables.specs.declared.Answer.TheVariants.{Done}
 use Rattle.tables.specs.Answers.{is_refusal, after, after-done}
 use Rattle.tables.specs.Shifts.{Laws}
-use Rattle.tables.specs.Compact.{ShiftTables, shifts_of, done-tables}
+use Rattle.tables.specs.Compact.{ShiftTables, shifts_of}
+use Rattle.tables.proofs.CompactLaws.{done-tables}
 use Rattle.tables.specs.Limits.{limit3, limit4}
 use Rattle.places.specs.Places.{size, length-fill}
 use Rattle.places.specs.Permutations.{perms3, perms4}

@@ -21,8 +21,10 @@ use Rattle.tables.specs.Conditions.{any_above}
 use Rattle.tables.specs.Full.{judged_full}
 use Rattle.tables.specs.Limits.{limit2, limit_level}
 use Rattle.tables.specs.Shifts.{Shifts, Laws, row, p2s_at, s2pp_at, nsym_at}
-use Rattle.tables.specs.Compact.{ShiftTables, shifts_of, judged_set, judged_compact, done_compact}
-use Rattle.places.specs.Places.{Leg, atom, dir, Fit, Legs, stored, shift, at, read_out, size, length-fill, read_out-fill}
+use Rattle.tables.specs.Compact.{ShiftTables, shifts_of, judged_set, judged_compact}
+use Rattle.tables.proofs.CompactLaws.{done_compact}
+use Rattle.places.specs.Places.{Leg, atom, dir, Fit, Legs, stored, shift, at, read_out, size, length-fill}
+use Rattle.places.proofs.PlacesLaws.{read_out-fill}
 use Rattle.places.specs.WholeLaws.{full_shifts, whole-laws, stored-whole}
 use Rattle.places.specs.Permutations.{permute_legs, perms2, two-group}
 use Rattle.lines.specs.Sums3x3.{half}

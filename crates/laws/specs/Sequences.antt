@@ -6,7 +6,8 @@ use Rattle.std.proofs.Math.Path.{ap}
 use mathlib.Core.List.{List, [], ◌∷◌}
 use Rattle.tables.specs.Shifts.{Shifts, Laws}
 use Rattle.lists.specs.Elements.{All, pick, pick-pick, length-pick, all-pick}
-use Rattle.places.specs.Places.{Leg, Legs, read_out, size, same-read_out}
+use Rattle.places.specs.Places.{Leg, Legs, read_out, size}
+use Rattle.places.proofs.PlacesLaws.{same-read_out}
 use Rattle.places.specs.Permutations.{permute_legs, Permutation, taken_legs}
 
 -- ---- any calls

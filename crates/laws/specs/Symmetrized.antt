@@ -10,11 +10,14 @@ use Rattle.tables.specs.declared.Answer.TheVariants.{Done}
 use Rattle.tables.specs.Answers.{is_refusal, after-done}
 use Rattle.tables.specs.Shifts.{Shifts, Laws}
 use Rattle.tables.specs.Limits.{limit3, limit4}
-use Rattle.tables.specs.Compact.{ShiftTables, shifts_of, judged_compact, done_compact}
-use Rattle.places.specs.Places.{Leg, Legs, read_out, size, length-fill, same-read_out}
+use Rattle.tables.specs.Compact.{ShiftTables, shifts_of, judged_compact}
+use Rattle.tables.proofs.CompactLaws.{done_compact}
+use Rattle.places.specs.Places.{Leg, Legs, read_out, size, length-fill}
+use Rattle.places.proofs.PlacesLaws.{same-read_out}
 use Rattle.places.specs.Permutations.{permute_legs, Group, perms3, perms4, six-group, twenty_four_group}
 use Rattle.orbits.specs.Symmetric.{symmetrized, symmetric}
-use Rattle.orbits.specs.Mean.{IsMean, symmetrized_is_mean, mean_unique}
+use Rattle.orbits.specs.Mean.{IsMean, mean_unique}
+use Rattle.orbits.proofs.MeanLaws.{symmetrized_is_mean}
 use Rattle.fc3.specs.Mean.{mean6}
 use Rattle.fc3.specs.Symmetrize.{set_permutation_symmetry_compact_fc3}
 use Rattle.fc4.specs.Mean24.{mean24}

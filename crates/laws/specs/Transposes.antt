@@ -11,10 +11,12 @@ use Rattle.lists.specs.Elements.{pick, straight, pick-straight}
 use Rattle.tables.specs.Answers.{is_refusal, is_done, after_refusal, after-done}
 use Rattle.tables.specs.Shifts.{Shifts, Laws, NoHalfShift}
 use Rattle.tables.specs.Limits.{limit3}
-use Rattle.tables.specs.Compact.{ShiftTables, shifts_of, done_compact}
+use Rattle.tables.specs.Compact.{ShiftTables, shifts_of}
+use Rattle.tables.proofs.CompactLaws.{done_compact}
 use Rattle.places.specs.Places.{Leg, Fit, Legs, read_out, size, length-fill}
 use Rattle.places.specs.Permutations.{permute_legs, Permutation}
-use Rattle.places.specs.Moves.{order, moved, traded, transposed, read_out-transposed}
+use Rattle.places.specs.Moves.{order, moved, traded, transposed}
+use Rattle.places.proofs.MovesLaws.{read_out-transposed}
 use Rattle.transposes_fc3.specs.Fc3.{transposed_by, judged_transpose, transpose_compact_fc3}
 use Rattle.laws.specs.CallLists.{Kind, Exchanges, sequences}
 use Rattle.laws.specs.CallLists as lists

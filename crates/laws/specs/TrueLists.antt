@@ -12,10 +12,12 @@ use Rattle.tables.specs.declared.Answer.TheVariants.{Done}
 use Rattle.tables.specs.Answers.{is_refusal, after, is_done, after_refusal, after-done}
 use Rattle.tables.specs.Shifts.{Shifts, Laws}
 use Rattle.tables.specs.Limits.{limit2, limit3, limit4}
-use Rattle.tables.specs.Compact.{ShiftTables, shifts_of, judged_compact, done_compact}
+use Rattle.tables.specs.Compact.{ShiftTables, shifts_of, judged_compact}
+use Rattle.tables.proofs.CompactLaws.{done_compact}
 use Rattle.places.specs.Places.{Leg, Legs, read_out, size}
 use Rattle.places.specs.Permutations.{permute_legs}
-use Rattle.places.specs.Moves.{moved, length_moved, read_out-moved}
+use Rattle.places.specs.Moves.{moved, length_moved}
+use Rattle.places.proofs.MovesLaws.{read_out-moved}
 use Rattle.orbits.specs.Exchanging.{partner, exchanging, exchanging_permutes, exchanging-undone, exchanging-same}
 use Rattle.orbits.specs.TrueTransposes.{swapped, true_transpose, legs3, legs4, true_transpose_compact_fc2, true_transpose_compact_fc3, true_transpose_compact_fc4}
 use Rattle.laws.specs.CallLists.{Kind, Own, Law, Exchanges, sequences}

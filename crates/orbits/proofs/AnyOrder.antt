@@ -18,7 +18,8 @@ use Rattle.places.specs.Permutations.{Group}
 use Rattle.orbits.specs.Blockwise.{in_block}
 use Rattle.orbits.specs.Symmetric.{first_block}
 use Rattle.orbits.specs.SymmetrizerLaws.{imgs, groups, orbits}
-use Rattle.orbits.specs.Spread.{set_all, has, mean_of, spread, length-set_all, get_or-set_all, Groups, Orbits, fb_of, group-first}
+use Rattle.orbits.specs.Spread.{set_all, has, mean_of, spread, length-set_all, get_or-set_all, Groups, Orbits, fb_of}
+use Rattle.orbits.proofs.SpreadLaws.{group-first}
 use Rattle.orbits.specs.Groups.{group_blocks, spread_is, marked_are}
 use Rattle.orbits.specs.GroupLoop.{worked, first_visit, is_first}
 

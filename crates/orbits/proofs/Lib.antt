@@ -1,2 +1,7 @@
 pub mod Scatter
 pub mod AnyOrder
+pub mod SymmetricLaws
+pub mod SpreadLaws
+pub mod SymmetrizesLaws
+pub mod GroupLoopLaws
+pub mod MeanLaws

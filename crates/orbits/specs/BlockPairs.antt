@@ -13,7 +13,6 @@ use Rattle.std.specs.Float.Ieee.{nan}
 use borrow.Author.Tests.{eq-eqb, ne_eqb}
 use Rattle.lists.specs.Tab.{tab, length-tab, get_or-tab}
 use Rattle.blocks.specs.Block.{block, put_block, length-put_block, get_or-block, put-inside, put-outside}
-use Rattle.blocks.specs.Permuted.{permuted}
 use Rattle.orbits.specs.Counterparts.{Blocks, Paired, across, joined, worked_over}
 
 module _ (join : Float → Float → Float) (c : ℕ) (permuted : ℕ → ℕ) where

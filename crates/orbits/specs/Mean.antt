@@ -1,17 +1,16 @@
--- The mean of document 01, said by the read-out alone: `IsMean`, and the theorem `symmetrized_is_mean`. The first member of a
+-- The mean of document 01, said by the read-out alone: `IsMean`; the theorem `symmetrized_is_mean` stands in proofs/MeanLaws.antt. The first member of a
 -- group that the loops come to works the group out; of several values written to one place the last one counts. Assumes nothing.
-use Rattle.std.specs.Prelude.{◌≡◌, refl, ℕ, suc, ◌/◌, ◌≤◌}
+use Rattle.std.specs.Prelude.{◌≡◌, refl, ℕ, ◌/◌, ◌≤◌}
 use Rattle.std.proofs.Math.Path.{sym, ap}
 use Rattle.std.proofs.Common.{◌∙◌, le_antisymm}
 use mathlib.Core.List.{List, [], ◌∷◌, map}
 use Rattle.std.proofs.Math.ListN.{get_or}
-use Rattle.lists.specs.Members.{In, in_map, map_in}
-use Rattle.lists.specs.Elements.{straight}
+use Rattle.lists.specs.Members.{In}
 use Rattle.tables.specs.Shifts.{Shifts, Laws}
-use Rattle.places.specs.Places.{Leg, Legs, stored, legs_at, address, place, at, read_out, read_out-fill, place-address, stored-place}
+use Rattle.places.specs.Places.{Leg, Legs, stored, legs_at, address, place, at, read_out, place-address, stored-place}
 use Rattle.places.specs.Permutations.{permute_legs, taken_legs, Group}
 use Rattle.orbits.specs.Blockwise.{in_block}
-use Rattle.orbits.specs.Symmetric.{images, leader, leader_in, leader-first, leader-last, mean_at, symmetrized, images-stored}
+use Rattle.orbits.specs.Symmetric.{images, images-stored}
 
 -- the address at which the number for the legs stands, and the block in which it lies; blocks and addresses rise in loop order
 abbrev pub stands_at : Shifts → List Leg → ℕ
@@ -32,62 +31,13 @@ pub record IsMean {A : Type 0} (z : A) (mean : List A → A) (S : Shifts) (m : �
   -- the value is the mean of what the old set read out at all permutations of the legs so permuted
   pub value : read_out z S new xs ≡ mean (map (λ σ. read_out z S old (permute_legs σ (permute_legs τ xs))) os)
 
--- ---- the theorem
+-- ---- laws
 
-fuse : {A B C : Type 0} (f : B → C) (g : A → B) (l : List A) → map f (map g l) ≡ map (λ x. f (g x)) l
+pub fuse : {A B C : Type 0} (f : B → C) (g : A → B) (l : List A) → map f (map g l) ≡ map (λ x. f (g x)) l
 fuse f g [] = refl
 fuse f g (x ∷ xs) = ap (λ l. f (g x) ∷ l) (fuse f g xs)
 
 module _ {A : Type 0} (z : A) (mean : List A → A) (S : Shifts) (L : Laws S) (m : ℕ) (os : List (List ℕ)) (G : Group m os) (old : List A) (xs : List Leg) (p : Legs S m xs) where
-  abbrev qs : List ℕ
-  qs = images S os xs
-
-  abbrev q : ℕ
-  q = leader (in_block m) qs
-
-  member : (σ : List ℕ) → In σ os → In (stands_at S (permute_legs σ xs)) qs
-  member σ s = unfold images in in_map (λ σ. address S (stored S (permute_legs σ xs))) os σ s
-
-  start : In (stands_at S (permute_legs (straight (suc m)) xs)) qs
-  start = member (straight (suc m)) G.plain
-
-  found : (τ : List ℕ) × In τ os × (q ≡ stands_at S (permute_legs τ xs))
-  found =
-      let i = leader_in (in_block m) qs (stands_at S (permute_legs (straight (suc m)) xs)) start in
-      unfold images in map_in (λ σ. address S (stored S (permute_legs σ xs))) os q i
-
-  at-mean : (ys : List Leg) → images S os (legs_at S (place S m (stands_at S ys))) ≡ images S os ys
-      → mean_at z mean S m os old (stands_at S ys) ≡ mean (map (λ r. get_or old r z) (images S os ys))
-  unfolding mean_at
-  at-mean ys w = ap (λ l. mean (map (λ r. get_or old r z) l)) w
-
-  worth : (τ : List ℕ) → In τ os → q ≡ stands_at S (permute_legs τ xs)
-      → read_out z S (symmetrized z mean S m os old) xs ≡ mean (map (λ σ. read_out z S old (permute_legs σ (permute_legs τ xs))) os)
-  worth τ t e =
-      let ys = permute_legs τ xs in
-      let hy = taken_legs S m τ xs (G.each τ t) p in
-      let v : read_out z S (symmetrized z mean S m os old) xs ≡ mean_at z mean S m os old q =
-      unfold symmetrized in
-      (read_out-fill S L z m (λ ys. mean_at z mean S m os old (leader (in_block m) (images S os (legs_at S ys)))) xs p
-      ∙ ap (λ l. mean_at z mean S m os old (leader (in_block m) l)) (images-stored S L m os G xs p)) in
-      let w : images S os (legs_at S (place S m (stands_at S ys))) ≡ images S os ys =
-      ap (λ y. images S os (legs_at S y)) (place-address S m (stored S ys) (stored-place S L m ys hy)) ∙ images-stored S L m os G ys hy in
-      let r = at-mean ys w in
-      let s : map (λ r. get_or old r z) (images S os ys) ≡ map (λ σ. read_out z S old (permute_legs σ ys)) os =
-      unfold images read_out at in fuse (λ r. get_or old r z) (λ σ. address S (stored S (permute_legs σ ys))) os in
-      v ∙ ap (mean_at z mean S m os old) e ∙ r ∙ ap mean s
-
-  pub symmetrized_is_mean : IsMean z mean S m os old (symmetrized z mean S m os old) xs
-  symmetrized_is_mean =
-      let (τ, t, e) = found in
-      record {
-        τ = τ;
-        is_one = t;
-        first_member = λ σ s. rw (← e) (leader-first (in_block m) qs (stands_at S (permute_legs (straight (suc m)) xs)) start (stands_at S (permute_legs σ xs)) (member σ s));
-        last_writer = λ σ s f. rw (← e) (leader-last (in_block m) qs (stands_at S (permute_legs (straight (suc m)) xs)) start (stands_at S (permute_legs σ xs)) (member σ s) (f ∙ ap (λ a. a / in_block m) (sym e)));
-        value = worth τ t e;
-      }
-
   -- what the old set read out at all permutations of the legs permuted by τ is told by the address of those legs
   reads_at : (τ : List ℕ) → In τ os
       → map (λ σ. read_out z S old (permute_legs σ (permute_legs τ xs))) os ≡ map (λ r. get_or old r z) (images S os (legs_at S (place S m (stands_at S (permute_legs τ xs)))))

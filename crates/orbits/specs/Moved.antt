@@ -12,7 +12,8 @@ use Rattle.tables.specs.declared.Answer.TheVariants.{Done}
 use Rattle.tables.specs.Answers.{is_refusal, after, is_done, refused_call, done_call}
 use Rattle.tables.specs.Shifts.{Shifts, Laws}
 use Rattle.tables.specs.Limits.{limit2}
-use Rattle.tables.specs.Compact.{ShiftTables, shifts_of, judged_compact, done_compact}
+use Rattle.tables.specs.Compact.{ShiftTables, shifts_of, judged_compact}
+use Rattle.tables.proofs.CompactLaws.{done_compact}
 use Rattle.places.specs.Places.{size}
 use Rattle.places.specs.Moves.{order, order2, order4, moved, traded}
 use Rattle.blocks.specs.Block.{block, put_block}

@@ -1,8 +1,8 @@
 -- The symmetrizers, for every rank at once: what each place holds afterwards, and that all permutations of any legs then read out the same.
 -- `os` lists the permutations of the legs, in the order of the sum's terms; `mean` makes one number of those reads. Assumes nothing.
-use Rattle.std.specs.Prelude.{◌≡◌, ℕ, ◌/◌, ◌≤◌, get_or, Float}
+use Rattle.std.specs.Prelude.{◌≡◌, ℕ, ◌/◌, get_or, Float}
 use Rattle.std.proofs.Math.Path.{sym, ap}
-use Rattle.std.proofs.Common.{◌∙◌, eqb-true, eq-eqb}
+use Rattle.std.proofs.Common.{◌∙◌, eq-eqb}
 use mathlib.Core.List.{List, [], ◌∷◌, map}
 use Rattle.std.proofs.Math.Dec.{eqb}
 use Rattle.std.specs.Float.{nan, binary64}
@@ -10,8 +10,9 @@ use Rattle.std.specs.Float.Ieee.{div, of_bits}
 use Rattle.tables.specs.Shifts.{Shifts, Laws}
 use Rattle.lists.specs.Floats.{sum_from}
 use Rattle.lists.specs.Elements.{pick, pick-pick, map_same}
-use Rattle.lists.specs.Members.{In, Sub, in_all, keep, in_keep, keep_in, in_map, map_in, map-sub, least, greatest, least_le, least_in, greatest_le, greatest_in, least-same, greatest-same}
-use Rattle.places.specs.Places.{Leg, Legs, stored, legs_at, address, place, read_out, fill, in_block, permute_legs, read_out-fill}
+use Rattle.lists.specs.Members.{In, Sub, in_all, keep, in_keep, keep_in, in_map, map_in, map-sub, least, greatest, least_in, greatest_in, least-same, greatest-same}
+use Rattle.places.specs.Places.{Leg, Legs, stored, legs_at, address, place, read_out, fill, in_block, permute_legs}
+use Rattle.places.proofs.PlacesLaws.{read_out-fill}
 use Rattle.places.specs.Permutations.{Permutation, taken_legs, Group}
 use Rattle.places.specs.Moves.{source, source-stored}
 
@@ -29,28 +30,14 @@ first_block c qs = least (map (λ q. q / c) qs)
 unfoldable pub leader : ℕ → List ℕ → ℕ
 leader c qs = greatest (keep (λ q. eqb (q / c) (first_block c qs)) qs)
 
--- It is one of the addresses, none of them lies in an earlier block, and none in its block is later.
+-- It is one of the addresses that lie in the first block.
 module _ (c : ℕ) (qs : List ℕ) (a : ℕ) (h : In a qs) where
-  leader-kept : In (leader c qs) (keep (λ q. eqb (q / c) (first_block c qs)) qs)
+  pub leader-kept : In (leader c qs) (keep (λ q. eqb (q / c) (first_block c qs)) qs)
   unfolding leader first_block
   leader-kept =
       let bs = map (λ q. q / c) qs in
       let (q, i, e) = map_in (λ q. q / c) qs (least bs) (least_in bs (a / c) (in_map (λ q. q / c) qs a h)) in
       greatest_in (keep (λ q. eqb (q / c) (least bs)) qs) q (in_keep (λ q. eqb (q / c) (least bs)) qs q i (eq-eqb (q / c) (least bs) (sym e)))
-
-  pub leader_in : In (leader c qs) qs
-  leader_in = (keep_in (λ q. eqb (q / c) (first_block c qs)) qs (leader c qs) leader-kept).0
-
-  pub leader-block : leader c qs / c ≡ first_block c qs
-  leader-block = eqb-true (leader c qs / c) (first_block c qs) (keep_in (λ q. eqb (q / c) (first_block c qs)) qs (leader c qs) leader-kept).1
-
-  pub leader-first : (q : ℕ) → In q qs → leader c qs / c ≤ q / c
-  leader-first q i = rw leader-block (unfold first_block in least_le (map (λ q. q / c) qs) (q / c) (in_map (λ q. q / c) qs q i))
-
-  pub leader-last : (q : ℕ) → In q qs → q / c ≡ leader c qs / c → q ≤ leader c qs
-  unfolding leader
-  leader-last q i e =
-      greatest_le (keep (λ q. eqb (q / c) (first_block c qs)) qs) q (in_keep (λ q. eqb (q / c) (first_block c qs)) qs q i (eq-eqb (q / c) (first_block c qs) (e ∙ leader-block)))
 
 module _ {A : Type 0} (z : A) (mean : List A → A) where
   -- the mean worked out from the legs at an address

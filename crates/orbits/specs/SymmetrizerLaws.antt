@@ -1,18 +1,16 @@
--- The symmetrizer's loop leaves the symmetrized set: `Spread`'s invariant at the addresses of a compact set. Assumes nothing.
+-- The groups of `Spread` at the addresses of a compact set. That the loop leaves the symmetrized set stands in proofs/SymmetrizesLaws.antt. Assumes nothing.
 use Rattle.std.specs.Prelude.{◌≡◌, ℕ, suc, ◌/◌, ◌<◌, List, map}
 use Rattle.std.proofs.Math.Path.{sym, ap}
 use Rattle.std.proofs.Common.{◌∙◌, lit<}
-use Rattle.std.proofs.Math.Seq.{ext_get_or}
 use Rattle.tables.specs.Shifts.{Shifts, Laws}
-use Rattle.lists.specs.Tab.{length-tab, get_or-tab}
 use Rattle.lists.specs.Elements.{pick, pick-map, straight, pick-straight}
 use Rattle.lists.specs.Digits.{times_power, room-mul, room_is_pos}
 use Rattle.lists.specs.Members.{In, in_map, map_in}
-use Rattle.places.specs.Places.{atom, Legs, Place, stored, legs_at, address, place, at, fill, size, size_rooms, stored-place, stored_opened, opened_legs, place-place, address-place, place-address, address_below}
+use Rattle.places.specs.Places.{atom, Legs, Place, stored, legs_at, address, place, size, size_rooms, stored-place, stored_opened, opened_legs, place-place, address-place, place-address, address_below}
 use Rattle.places.specs.Permutations.{permute_legs, taken_legs, Group}
 use Rattle.orbits.specs.Blockwise.{in_block, block_atoms, stored_atoms, opened_atoms, atoms-stored, atoms_opened, address-block, atoms-place}
-use Rattle.orbits.specs.Symmetric.{images, leader, mean_at, symmetrized, images-sub, images_sup, images-stored}
-use Rattle.orbits.specs.Spread.{Groups, Orbits, Written, finish, mean_of}
+use Rattle.orbits.specs.Symmetric.{images, images-sub, images_sup, images-stored}
+use Rattle.orbits.specs.Spread.{Groups, Orbits}
 
 module _ (S : Shifts) (L : Laws S) (m : ℕ) (os : List (List ℕ)) (G : Group m os) where
   abbrev pub imgs : ℕ → List ℕ
@@ -73,15 +71,3 @@ module _ (S : Shifts) (L : Laws S) (m : ℕ) (os : List (List ℕ)) (G : Group m
         rw (f, g, block-image q r σ hq hr s e)
         (in_map (λ a. a / in_block m) (imgs r) (address S (stored S (permute_legs σ (legs_at S (place S m r))))) (image_in r σ s));
   }
-
-  -- ---- the loop: after all blocks the set is the symmetrized one
-
-  module _ {A : Type 0} (z : A) (mean : List A → A) (old : List A) where
-    pub symmetrizes : (l : List A) → Written groups z mean old (times_power S.n_satom m S.n_patom) l
-        → l ≡ symmetrized z mean S m os old
-    unfolding symmetrized fill mean_of mean_at
-    symmetrizes l I =
-        ext_get_or z l (symmetrized z mean S m os old) (I.size_set ∙ sym (length-tab (size S m) _)) (λ q h.
-        let hq : q < size S m = rw I.size_set at h in
-        finish groups orbits z mean old l I q hq
-        ∙ sym (get_or-tab (size S m) (λ q. mean_at z mean S m os old (leader (in_block m) (images S os (legs_at S (place S m q))))) q z hq))

@@ -12,7 +12,7 @@ use Rattle.lists.specs.Digits.{quotient, horner, times_power, digits, room-mul, 
 use Rattle.tables.specs.Shifts.{Shifts, Laws}
 use Rattle.places.specs.Places.{Leg, atom, dir, Legs, Place, stored, legs_at, address, place, at, fill, size, size_rooms, stored-place, stored_opened, opened_legs, place-place, address-place, place-address, address_below}
 use Rattle.places.specs.Permutations.{permute_legs, Permutation, taken_legs}
-use Rattle.places.specs.Moves.{source, source-stored, stays}
+use Rattle.places.specs.Moves.{source, source-stored}
 use Rattle.blocks.specs.Permuted.{permuted}
 use Rattle.orbits.specs.Blockwise.{in_block, block_atoms, stored_atoms, opened_atoms, atoms_at, atoms-stored, atoms_opened, atoms_of_lem, dirs_stored, dirs_opened, dirs_of, address_is, address-block, block-below}
 use Rattle.orbits.specs.Counterparts.{Blocks, Paired, across, joined, all_worked}

@@ -1,16 +1,13 @@
 -- The address rule and the read-out spelled out at second, third and fourth order, and the numbers of blocks. Assumes nothing.
-use Rattle.std.specs.Prelude.{◌≡◌, ℕ, ◌+◌, ◌*◌, ◌≤◌, ◌<◌, List, [], ◌∷◌, map, length, Float}
-use Rattle.std.proofs.Math.Path.{refl, sym, ap}
-use Rattle.std.proofs.Common.{◌∙◌, mul-le-mul_left, mul-le-mul_right}
+use Rattle.std.specs.Prelude.{◌≡◌, ℕ, ◌+◌, ◌*◌, ◌≤◌, ◌<◌, List, [], ◌∷◌, map, length}
+use Rattle.std.proofs.Math.Path.{refl}
+use Rattle.std.proofs.Common.{mul-le-mul_left, mul-le-mul_right}
 use native.Mathlib.Omega.{arith}
-use Rattle.std.proofs.Math.ListN.{get_or}
-use Rattle.std.specs.Float.{nan}
 use Rattle.lists.specs.Elements.{Below}
 use Rattle.lists.specs.Digits.{horner, times_power, horner-below}
-use Rattle.blocks.specs.Block.{block, get_or-block}
 use Rattle.tables.specs.Lengths.{set_length2, set_length3, set_length4}
 use Rattle.tables.specs.Shifts.{Shifts, row, s2pp_at, nsym_at}
-use Rattle.places.specs.Places.{shift, stored, address, size, at, read_out}
+use Rattle.places.specs.Places.{address, size}
 
 -- ---- how many numbers a set has: n_patom × n_satom^m blocks of 9, 27 or 81
 
@@ -62,28 +59,6 @@ module _ (S : Shifts) (p j k l a b c d : ℕ) where
 -- the number of the stored block: that of s2pp[i] and of where row nsym_list[i] sends the other atoms
 unfoldable pub stored_block : Shifts → ℕ → List ℕ → ℕ
 stored_block S i js = horner S.n_satom (s2pp_at S i) (map (row S (nsym_at S i)) js)
-
-module _ (S : Shifts) (set : List Float) (i j k l a b c d : ℕ) (ha : a < 3) (hb : b < 3) (hc : c < 3) (hd : d < 3) where
-  pub read_out2 : read_out nan S set ((i, a) ∷ (j, b) ∷ []) ≡ get_or (block 9 (stored_block S i (j ∷ [])) set) (a * 3 + b) nan
-  unfolding read_out at stored shift stored_block
-  read_out2 =
-      ap (λ q. get_or set q nan) (address2-block S (s2pp_at S i) (row S (nsym_at S i) j) 0 0 a b 0 0)
-      ∙ sym (get_or-block 9 (stored_block S i (j ∷ [])) set (a * 3 + b) (omega arith))
-
-  pub read_out3 : read_out nan S set ((i, a) ∷ (j, b) ∷ (k, c) ∷ [])
-      ≡ get_or (block 27 (stored_block S i (j ∷ k ∷ [])) set) (a * 9 + b * 3 + c) nan
-  unfolding read_out at stored shift stored_block
-  read_out3 =
-      ap (λ q. get_or set q nan) (address3-block S (s2pp_at S i) (row S (nsym_at S i) j) (row S (nsym_at S i) k) 0 a b c 0)
-      ∙ sym (get_or-block 27 (stored_block S i (j ∷ k ∷ [])) set (a * 9 + b * 3 + c) (omega arith))
-
-  pub read_out4 : read_out nan S set ((i, a) ∷ (j, b) ∷ (k, c) ∷ (l, d) ∷ [])
-      ≡ get_or (block 81 (stored_block S i (j ∷ k ∷ l ∷ [])) set) (a * 27 + b * 9 + c * 3 + d) nan
-  unfolding read_out at stored shift stored_block
-  read_out4 =
-      ap (λ q. get_or set q nan)
-      (address4-block S (s2pp_at S i) (row S (nsym_at S i) j) (row S (nsym_at S i) k) (row S (nsym_at S i) l) a b c d)
-      ∙ sym (get_or-block 81 (stored_block S i (j ∷ k ∷ l ∷ [])) set (a * 27 + b * 9 + c * 3 + d) (omega arith))
 
 -- ---- block numbers are in bounds
 

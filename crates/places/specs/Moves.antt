@@ -1,15 +1,15 @@
 -- A compact set with its legs permuted: what every transpose leaves, at every rank. Assumes nothing.
-use Rattle.std.specs.Prelude.{◌≡◌, refl, Bool, not, ◌&&◌, length, get_or, eqb}
-use Rattle.std.proofs.Common.{sym, ◌∙◌, suc-ne-zero, arith}
+use Rattle.std.specs.Prelude.{◌≡◌, Bool, not, ◌&&◌, length, get_or, eqb}
+use Rattle.std.proofs.Common.{sym, ◌∙◌, suc-ne-zero}
 use Rattle.std.proofs.Math.Path.{ap}
 use Rattle.std.proofs.Math.Bool.{true, false, cond}
 use Prim.Native.Nat.{ℕ, zero, suc, ◌<◌}
 use mathlib.Core.List.{List, [], ◌∷◌}
 use Rattle.std.proofs.lemmas.Bool.{not-true}
 use Rattle.lists.specs.Tests.{not-both, refuted, says}
-use Rattle.lists.specs.Elements.{all-at, pick-map, straight, pick-straight}
+use Rattle.lists.specs.Elements.{all-at, pick-map, straight}
 use Rattle.tables.specs.Shifts.{Shifts, Laws, NoHalfShift, row, p2s_at, nsym_at, is_null, swaps-null}
-use Rattle.places.specs.Places.{Leg, atom, dir, Fit, Legs, Place, shift, stored, legs_at, at, read_out, fill, size, length-fill, stored-shift, opened_stored, stored-place, read_out-fill}
+use Rattle.places.specs.Places.{Leg, atom, dir, Fit, Legs, Place, shift, stored, legs_at, at, fill, size, length-fill, stored-shift, opened_stored}
 use Rattle.places.specs.Permutations.{taken_legs}
 pub use Rattle.places.specs.Permutations.{permute_legs, Permutation}
 
@@ -88,14 +88,6 @@ module _ (S : Shifts) (L : Laws S) where
       ap (λ l. stored S (permute_legs σ l)) (opened_stored S L x xs hx)
       ∙ ap (stored S) e ∙ stored-shift S L t (permute_legs σ (x ∷ xs)) (L.nsym_below (atom x) hx) (taken_legs S m σ (x ∷ xs) o p).1
 
-  module _ {A : Type 0} (z : A) where
-    -- a set moved by σ reads out what stood at the legs permuted by σ
-    pub read_out-moved : (m : ℕ) (σ : List ℕ) (set : List A) (xs : List Leg) → Permutation m σ → Legs S m xs
-        → read_out z S (moved z S m σ set) xs ≡ read_out z S set (permute_legs σ xs)
-    unfolding moved read_out
-    read_out-moved m σ set xs o p =
-        read_out-fill S L z m (λ ys. at z S set (source S σ ys)) xs p ∙ ap (at z S set) (source-stored m σ xs o p)
-
   -- without half shifts no block stays
   pub none_stays : NoHalfShift S → (p j : ℕ) → p < S.n_patom → j < S.n_satom → stays S p j ≡ false
   unfolding stays is_null
@@ -105,32 +97,12 @@ module _ (S : Shifts) (L : Laws S) where
       let null : is_null S (nsym_at S j) ≡ true = simp says (λ c hc. swaps-null S L nh (nsym_at S j) j (p2s_at S p) (L.nsym_below j hj) hj a b c hc) in
       not-both null (not-true (is_null S (nsym_at S j)) n))
 
-  -- ---- so without half shifts the Rust's transposes are the true ones
+  -- ---- the atoms of a place's legs
 
-  place-first : (m : ℕ) (ys : List Leg) → Place S m ys → atom (get_or ys 0 (0, 0)) < S.n_patom
+  pub place-first : (m : ℕ) (ys : List Leg) → Place S m ys → atom (get_or ys 0 (0, 0)) < S.n_patom
   place-first m [] p = absurd p
   place-first m (y ∷ ys) p = p.1
 
-  place_other : (m k : ℕ) (ys : List Leg) → k < m → Place S m ys → atom (get_or ys (suc k) (0, 0)) < S.n_satom
+  pub place_other : (m k : ℕ) (ys : List Leg) → k < m → Place S m ys → atom (get_or ys (suc k) (0, 0)) < S.n_satom
   place_other m k [] h p = absurd p
   place_other m k (y ∷ ys) h p = (all-at (Fit S) ys k (0, 0) p.3 (rw p.0 h)).0
-
-  module _ {A : Type 0} (z : A) (nh : NoHalfShift S) where
-    pub read_out-traded : (m k : ℕ) (σ : List ℕ) (set : List A) (xs : List Leg) → k < m → Permutation m σ → Legs S m xs
-        → read_out z S (traded z S m (suc k) σ set) xs ≡ read_out z S set (permute_legs σ xs)
-    unfolding traded read_out
-    read_out-traded m k σ set xs h o p =
-        let ys = stored S xs in
-        let hy = stored-place S L m xs p in
-        let e : stays S (atom (get_or ys 0 (0, 0))) (atom (get_or ys (suc k) (0, 0))) ≡ false =
-        none_stays nh (atom (get_or ys 0 (0, 0))) (atom (get_or ys (suc k) (0, 0))) (place-first m ys hy) (place_other m k ys h hy) in
-        read_out-fill S L z m (λ ys. cond (stays S (atom (get_or ys 0 (0, 0))) (atom (get_or ys (suc k) (0, 0)))) (at z S set ys) (at z S set (source S σ ys))) xs p
-        ∙ ap (λ b. cond b (at z S set ys) (at z S set (source S σ ys))) e ∙ ap (at z S set) (source-stored m σ xs o p)
-
-    pub read_out-transposed : (t : ℕ) (set : List A) (xs : List Leg) → Legs S 2 xs
-        → read_out z S (transposed z S t set) xs ≡ read_out z S set (permute_legs (order t) xs)
-    unfolding transposed order
-    read_out-transposed zero set xs p = read_out-traded 2 0 (order 0) set xs (omega arith) (refl, omega arith) p
-    read_out-transposed (suc zero) set xs p = read_out-traded 2 1 (order 1) set xs (omega arith) (refl, omega arith) p
-    read_out-transposed (suc (suc zero)) set xs p = read_out-moved z 2 (order 2) set xs (refl, omega arith) p
-    read_out-transposed (suc (suc (suc t))) set xs p = ap (read_out z S set) (sym (pick-straight (0, 0) 3 xs p.0))

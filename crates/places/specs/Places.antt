@@ -9,10 +9,9 @@ use Prim.Native.Nat.{ℕ, suc, ◌<◌}
 use Rattle.std.proofs.Math.Nat.{suc_inj}
 use mathlib.Core.List.{List, [], ◌∷◌, map}
 use Rattle.std.proofs.Math.ListN.{length, length-map}
-use Rattle.std.proofs.Math.Seq.{ext_get_or}
 use Rattle.tables.specs.Lengths.{set_length, set_rooms}
 use Rattle.tables.specs.Shifts.{Shifts, Laws, row, p2s_at, s2pp_at, nsym_at, nsym_shift, nsym_p2s}
-use Rattle.lists.specs.Tab.{tab, length-tab, get_or-tab}
+use Rattle.lists.specs.Tab.{tab, length-tab}
 use Rattle.lists.specs.Elements.{All, all_map, map_id, Below, pick, straight}
 use Rattle.lists.specs.Digits.{horner, times_power, rest, digits, length_digits, digits-below, horner-digits, rest_below, horner-below, rest_horner, digits-horner}
 
@@ -221,20 +220,6 @@ module _ (S : Shifts) (m : ℕ) where
       rw (atoms-legs_of (digits S.n_satom m b) (digits 3 m q) l, dirs_legs_of (digits S.n_satom m b) (digits 3 m q) l, horner-digits S.n_satom m b)
       (horner-digits 3 (suc m) q)
 
-  -- ---- so a set is a table over places
-
-  module _ {A : Type 0} (z : A) where
-    pub at_fill : (f : List Leg → A) (ys : List Leg) → Place S m ys → at z S (fill S m f) ys ≡ f ys
-    unfolding at fill
-    at_fill f ys p = get_or-tab (size S m) (λ q. f (place S m q)) (address S ys) z (address_below ys p) ∙ ap f (place-address ys p)
-
-    pub same_set_lem : (s t : List A) → length s ≡ size S m → length t ≡ size S m → ((ys : List Leg) → Place S m ys → at z S s ys ≡ at z S t ys) → s ≡ t
-    unfolding at
-    same_set_lem s t ls lt h =
-        ext_get_or z s t (ls ∙ sym lt) (λ i hi.
-        let l : i < size S m = rw ls at hi in
-        rw (address-place i l) at (h (place S m i) (place-place i l)))
-
   pub length-fill : {A : Type 0} (f : List Leg → A) → length (fill S m f) ≡ size S m
   unfolding fill
   length-fill f = length-tab (size S m) (λ q. f (place S m q))
@@ -281,15 +266,3 @@ module _ (S : Shifts) (L : Laws S) where
   unfolding legs_at
   opened_legs m [] p = absurd p
   opened_legs m (y ∷ ys) p = (ap suc p.0, ((L.p2s-below (atom y) p.1, p.2), p.3))
-
-  -- two sets are one where their read-outs are
-  module _ {A : Type 0} (z : A) where
-    pub same-read_out : (m : ℕ) (s t : List A) → length s ≡ size S m → length t ≡ size S m
-        → ((xs : List Leg) → Legs S m xs → read_out z S s xs ≡ read_out z S t xs) → s ≡ t
-    unfolding read_out
-    same-read_out m s t ls lt h =
-        same_set_lem S m z s t ls lt (λ ys p. rw (stored_opened m ys p) at (h (legs_at S ys) (opened_legs m ys p)))
-
-    pub read_out-fill : (m : ℕ) (f : List Leg → A) (xs : List Leg) → Legs S m xs → read_out z S (fill S m f) xs ≡ f (stored S xs)
-    unfolding read_out
-    read_out-fill m f xs p = at_fill S m z f (stored S xs) (stored-place m xs p)

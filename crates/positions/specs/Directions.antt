@@ -1,12 +1,11 @@
 -- What the table says (document 02, A.5): for a permutation and a position, where the four directions of the position stand after they are
 -- permuted so. The entry lies in the block, and no two positions have the same. Assumes nothing.
 use Rattle.std.specs.Prelude.{◌≡◌, refl, ℕ, ◌+◌, ◌*◌, ◌<◌, List, [], ◌∷◌, length, get_or}
-use Rattle.std.proofs.Common.{sym, ap, ◌∙◌, suc-ne-zero, arith, lit<}
+use Rattle.std.proofs.Common.{sym, ap, ◌∙◌, suc-ne-zero, arith}
 use Rattle.std.proofs.Math.Nat.{suc_inj}
 use Rattle.lists.specs.Elements.{pick}
 use Rattle.lists.specs.Digits.{horner, digits, digits-horner}
 use Rattle.blocks.specs.Permuted.{permuted}
-use Rattle.places.specs.Permutations.{perms4}
 use Rattle.positions.specs.Positions.{permutation_at, address_table, is_permutation_lem, permuted_in, at_entry}
 use Rattle.positions.specs.Inverses.{inverse_of, inverse-below, there, back}
 
@@ -72,8 +71,3 @@ entry-undoes s k hs hk =
 -- no position comes twice: with entry-below, the 81 entries of a permutation are the 81 positions in another order
 pub entry-once : (s k l : ℕ) → s < 24 → k < 81 → l < 81 → address_at s k ≡ address_at s l → k ≡ l
 entry-once s k l hs hk hl e = sym (entry-undone s k hs hk) ∙ ap (address_at (inverse_of s)) e ∙ entry-undone s l hs hl
-
--- the rule at the last permutation, which turns the four directions round
-pub last_entry : (a b c d : ℕ) → a < 3 → b < 3 → c < 3 → d < 3 → address_at 23 (address4 a b c d) ≡ address4 d c b a
-unfolding permutation_at perms4
-last_entry a b c d ha hb hc hd = entry_is_address 23 a b c d (lit< tt) ha hb hc hd

@@ -3,7 +3,8 @@ use Rattle.std.specs.Prelude.{◌≡◌, ℕ, List, length}
 use Rattle.std.proofs.Math.Path.{ap}
 use Rattle.std.proofs.Common.{◌∙◌}
 use Rattle.tables.specs.Shifts.{Shifts}
-use Rattle.places.specs.Places.{Leg, Legs, read_out, fill, size, length-fill, read_out-fill}
+use Rattle.places.specs.Places.{Leg, Legs, read_out, fill, size, length-fill}
+use Rattle.places.proofs.PlacesLaws.{read_out-fill}
 use Rattle.places.specs.WholeLaws.{full_shifts, whole-laws, stored-whole}
 
 module _ {A : Type 0} (z : A) where

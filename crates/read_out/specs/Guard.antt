@@ -9,7 +9,8 @@ use Rattle.tables.specs.declared.Answer.TheVariants.{Done}
 use Rattle.tables.specs.Answers.{is_refusal, is_done, after_refusal, after-done}
 use Rattle.tables.specs.Lengths.{set_length, set_rooms}
 use Rattle.tables.specs.Shifts.{Laws}
-use Rattle.tables.specs.Compact.{ShiftTables, shifts_of, done-tables}
+use Rattle.tables.specs.Compact.{ShiftTables, shifts_of}
+use Rattle.tables.proofs.CompactLaws.{done-tables}
 use Rattle.places.specs.ReadOuts.{Tables}
 use Rattle.orbits.specs.Blockwise.{in_block}
 use Rattle.read_out.specs.FullSet.{full_set}

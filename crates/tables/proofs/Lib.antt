@@ -1,3 +1,5 @@
 pub mod Integers
 pub mod Loops
 pub mod Rooms
+pub mod CompactLaws
+pub mod OneMoreLaws

@@ -2,18 +2,15 @@
 -- Assumes nothing.
 use Rattle.std.specs.Prelude.{◌≡◌, Bool, false, not, ◌||◌, List, [], ◌∷◌, map, ℕ, ◌+◌, ◌*◌, ◌≤◌, ℤ, pos, length}
 use Rattle.std.proofs.Math.Path.{sym}
-use Rattle.std.proofs.Common.{◌∙◌}
 use Rattle.std.proofs.Math.ListN.{get_or-map}
-use Rattle.std.proofs.lemmas.Bool.{not-false}
 use Rattle.lists.specs.Digits.{times_power, in_row}
-use Rattle.lists.specs.Elements.{All}
 use Rattle.tables.specs.declared.Answer.{Answer}
 use Rattle.tables.specs.declared.Answer.TheVariants.{Done}
 use Rattle.tables.specs.declared.Refusal.TheVariants.{CountAboveLimit, WrongLength, IndexOutOfRange, BadShiftTables}
-use Rattle.tables.specs.Answers.{refuse_if, passed}
-use Rattle.tables.specs.Conditions.{any_above, any_wrong, out_of_range, nat, index_at, IndexTable, or_false, not_above, not-wrong, read}
-use Rattle.tables.specs.Lengths.{set_blocks, set_length, block_rooms}
-use Rattle.tables.specs.Shifts.{Shifts, row, p2s_at, s2pp_at, nsym_at, ruled, Within, Laws, laws}
+use Rattle.tables.specs.Answers.{refuse_if}
+use Rattle.tables.specs.Conditions.{any_above, any_wrong, out_of_range, nat, index_at, IndexTable, or_false, not-wrong, read}
+use Rattle.tables.specs.Lengths.{set_blocks, set_length}
+use Rattle.tables.specs.Shifts.{Shifts, row, p2s_at, s2pp_at, nsym_at, ruled, Within, Laws}
 
 -- the shift tables as a call is given them
 pub record ShiftTables : Type 0 where
@@ -140,30 +137,4 @@ fit_of limit T nS nP nT hl hr =
       p2s-fit = record { has = l2; within = r2 };
       s2pp-fit = record { has = l3; within = r3 };
       nsym_fit = record { has = l4; within = r4 };
-    }
-
--- tables that are not refused
-pub done-tables : (limit : ℕ) (ls : List (ℕ × ℕ)) (T : ShiftTables) → judged_tables limit ls T ≡ Done
-    → All (λ l. l.0 ≡ l.1) ls × TablesFit limit T × Laws (shifts_of T)
-unfolding judged_tables judged_entries
-done-tables limit ls T e =
-    let (q1, e1) = passed _ _ _ e in
-    let (q2, e2) = passed _ _ _ e1 in
-    let (q3, e3) = passed _ _ _ e2 in
-    let (q6, e6) = passed _ _ _ e3 in
-    let (nS, (nP, (nT, _))) = not_above limit (T.n_satom ∷ (T.n_patom ∷ (T.num_trans ∷ []))) q1 in
-    let (hl, ht) = or_false (any_wrong ls) (any_wrong (table_lengths T)) q2 in
-    let F = fit_of limit T nS nP nT ht q3 in
-    (not-wrong ls hl, F, laws (shifts_of T) (fit-within T F) (not-false (ruled (shifts_of T)) q6))
-
--- a compact call that is not refused
-pub done_compact : (limit m lenSet k lenWork : ℕ) (T : ShiftTables) → judged_compact limit m lenSet k lenWork T ≡ Done → Compact limit m lenSet k lenWork T
-unfolding judged_compact
-done_compact limit m lenSet k lenWork T e =
-    let (l, F, L) = done-tables limit _ T e in
-    record {
-      set-length = l.0;
-      work-length = l.1.0 ∙ block_rooms T.n_patom T.n_satom k;
-      fit = F;
-      rules = L;
     }

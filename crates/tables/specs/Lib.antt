@@ -5,6 +5,5 @@ pub mod Lengths
 pub mod Shifts
 pub mod Full
 pub mod Compact
-pub mod OneMoreLaws
 pub mod Samples
 pub mod Numbered

@@ -13,7 +13,8 @@ use Rattle.lists.specs.Elements.{pick, pick-pick, straight, pick-straight}
 use Rattle.lists.specs.Digits.{horner, times_power, rest, digits}
 use Rattle.tables.specs.Shifts.{Shifts, Laws, p2s_at}
 use Rattle.tables.specs.Conditions.{index_at}
-use Rattle.tables.specs.Compact.{ShiftTables, shifts_of, done_compact, p2s_is}
+use Rattle.tables.specs.Compact.{ShiftTables, shifts_of, p2s_is}
+use Rattle.tables.proofs.CompactLaws.{done_compact}
 use Rattle.places.specs.Places.{Leg, size}
 use Rattle.places.specs.Permutations.{permute_legs, Permutation}
 use Rattle.places.specs.Moves.{order, stays, moved, transposed}

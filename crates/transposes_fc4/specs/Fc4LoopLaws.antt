@@ -11,7 +11,8 @@ use Rattle.tables.specs.Limits.{limit4}
 use Rattle.tables.specs.declared.Answer.{Answer}
 use Rattle.tables.specs.declared.Answer.TheVariants.{Done}
 use Rattle.tables.specs.Answers.{is_refusal, after, is_done, refused_call, done_call}
-use Rattle.tables.specs.Compact.{ShiftTables, shifts_of, judged_compact, done_compact}
+use Rattle.tables.specs.Compact.{ShiftTables, shifts_of, judged_compact}
+use Rattle.tables.proofs.CompactLaws.{done_compact}
 use Rattle.places.specs.Places.{Leg, size}
 use Rattle.places.specs.Permutations.{permute_legs}
 use Rattle.places.specs.Moves.{order4, transposed4}

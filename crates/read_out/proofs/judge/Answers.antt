@@ -2,7 +2,7 @@ use mathlib.Core.Path.{sym, ◌∙◌}
 use native.Mathlib.Nat.{le_trans}
 use Rattle.tables.specs.Lengths.{set_length}
 use Rattle.tables.specs.Compact.{ShiftTables, shift_tables}
-use Rattle.tables.specs.OneMoreLaws.{above_too, few-atoms, right_too, wrong-more}
+use Rattle.tables.proofs.OneMoreLaws.{above_too, few-atoms, right_too, wrong-more}
 use Rattle.read_out.specs.ReadOut.{judged_read_out}
 use Rattle.read_out.proofs.judge.Goals as goal
 

@@ -2,7 +2,7 @@ use mathlib.Core.Path.{sym, ◌∙◌}
 use native.Mathlib.Nat.{le_trans}
 use Rattle.tables.specs.Lengths.{set_blocks}
 use Rattle.tables.specs.Compact.{ShiftTables, shift_tables, judged_compact}
-use Rattle.tables.specs.OneMoreLaws.{above_too, few-atoms, right_too, wrong-more}
+use Rattle.tables.proofs.OneMoreLaws.{above_too, few-atoms, right_too, wrong-more}
 use Rattle.shifts.proofs.judge_compact.Goals as goal
 
 pub judge_set-a-requires : goal.judge_set-a-requires

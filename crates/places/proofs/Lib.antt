@@ -1,0 +1,3 @@
+pub mod PlacesLaws
+pub mod AddressesLaws
+pub mod MovesLaws
