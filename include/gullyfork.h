@@ -6,9 +6,9 @@
  *
  * WHICH CALL FOR WHICH TASK
  *   check the tables of a cell   gf_check_shift_tables; which rule is broken: gf_explain_shift_tables
- *   symmetrize a full set        sum rule and permutations: gf_perm_trans_symmetrize_fc, gf_perm_trans_symmetrize_fc3
+ *   symmetrize a full set        sum rule and permutations: gf_perm_trans_symmetrize_fc, gf_perm_trans_symmetrize_fc3, _fc4
  *                                permutations alone: gf_set_permutation_symmetry_fc3, _fc4
- *   symmetrize a compact set     sum rule and permutations: gf_perm_trans_symmetrize_compact_fc, gf_perm_trans_symmetrize_compact_fc3
+ *   symmetrize a compact set     sum rule and permutations: gf_perm_trans_symmetrize_compact_fc, gf_perm_trans_symmetrize_compact_fc3, _fc4
  *                                permutations alone: gf_set_permutation_symmetry_compact_fc3, _fc4
  *   look for faults before that  sum rule: gf_drift_report, gf_drift_report_fc3, _fc4, gf_drift_report_compact_fc2, _fc3, _fc4
  *                                orders of the same legs: gf_difference_report_fc2, _fc3, _fc4, gf_difference_report_compact_fc2, _fc3, _fc4
@@ -320,6 +320,41 @@ uint8_t gf_set_permutation_symmetry_compact_fc4(
     const int64_t *perms, size_t perms_len,
     uint8_t *done, size_t done_len,
     size_t n_satom, size_t n_patom, size_t num_trans);
+
+/*
+ * Symmetrizes a full set and takes its drift off: as gf_perm_trans_symmetrize_fc3, with legs 0, 1, 2 and 3 and the mean of the 24
+ * permutations of any four (atom, direction) pairs. Level 0 is gf_set_permutation_symmetry_fc4.
+ *   fc4    num_atom x num_atom x num_atom x num_atom x 81
+ *   done   num_atom x num_atom x num_atom x num_atom, work
+ *   drift  num_atom x num_atom x num_atom x 81, work
+ * Refusals: 1 (num_atom above 64, level above 1,000), 2.
+ */
+uint8_t gf_perm_trans_symmetrize_fc4(
+    double *fc4, size_t fc4_len,
+    uint8_t *done, size_t done_len,
+    double *drift, size_t drift_len,
+    size_t num_atom,
+    size_t level);
+
+/*
+ * Symmetrizes a compact set and takes its drift off: as gf_perm_trans_symmetrize_compact_fc3; the sum beside three atoms is taken where
+ * the first of them is the one that stands for the primitive cell's, the others shifted along. Level 0 is
+ * gf_set_permutation_symmetry_compact_fc4.
+ *   fc4    n_patom x n_satom x n_satom x n_satom x 81
+ *   done   n_patom x n_satom x n_satom x n_satom, work
+ *   drift  n_patom x n_satom x n_satom x 81, work
+ * Refusals: 1 (a count above 64, level above 1,000), 2, 3, 6.
+ */
+uint8_t gf_perm_trans_symmetrize_compact_fc4(
+    double *fc4, size_t fc4_len,
+    const int64_t *p2s, size_t p2s_len,
+    const int64_t *s2pp, size_t s2pp_len,
+    const int64_t *nsym_list, size_t nsym_list_len,
+    const int64_t *perms, size_t perms_len,
+    uint8_t *done, size_t done_len,
+    double *drift, size_t drift_len,
+    size_t n_satom, size_t n_patom, size_t num_trans,
+    size_t level);
 
 /* ---- check a set, bit for bit: audits. Sets are only read ---- */
 

@@ -478,6 +478,23 @@ static inline uint8_t gft_set_permutation_symmetry_compact_fc4(
            GF_LENGTH(done, n_patom * n_satom * n_satom * n_satom));
 }
 
+static inline uint8_t gft_perm_trans_symmetrize_fc4(
+    struct gf_set fc4, struct gf_bytes done, struct gf_set drift, size_t num_atom, size_t level, struct gf_why *why)
+{
+    const uint8_t answer = gf_perm_trans_symmetrize_fc4(GF_SLICE(fc4), GF_SLICE(done), GF_SLICE(drift), num_atom, level);
+    GF_SAY(GF_LENGTH(fc4, num_atom * num_atom * num_atom * num_atom * 81), GF_LENGTH(done, num_atom * num_atom * num_atom * num_atom),
+           GF_LENGTH(drift, num_atom * num_atom * num_atom * 81), GF_COUNT(num_atom, 64), GF_COUNT(level, 1000));
+}
+
+static inline uint8_t gft_perm_trans_symmetrize_compact_fc4(
+    struct gf_set fc4, const struct gf_tables *tables, struct gf_bytes done, struct gf_set drift, size_t level, struct gf_why *why)
+{
+    GF_OPEN(tables);
+    const uint8_t answer = gf_perm_trans_symmetrize_compact_fc4(GF_SLICE(fc4), GF_TABLES, GF_SLICE(done), GF_SLICE(drift), GF_COUNTS, level);
+    GF_SAY(GF_LENGTH(fc4, n_patom * n_satom * n_satom * n_satom * 81), GF_TABLES_SAID(64),
+           GF_LENGTH(done, n_patom * n_satom * n_satom * n_satom), GF_LENGTH(drift, n_patom * n_satom * n_satom * 81), GF_COUNT(level, 1000));
+}
+
 static inline uint8_t gft_transpose_compact_fc4(
     struct gf_set fc4, const struct gf_tables *tables, struct gf_bytes done, int64_t t_type, struct gf_why *why)
 {

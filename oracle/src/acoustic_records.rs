@@ -1,4 +1,4 @@
-//! Records of the symmetrizers of third order that take the drift off too: small sets, right and refused.
+//! Records of the symmetrizers of third and fourth order that take the drift off too: small sets, right and refused.
 use crate::call::{fit, refusal, Call, Lent};
 use crate::call_acoustic::Acoustic;
 use crate::groups;
@@ -9,16 +9,22 @@ use crate::spoil::{at_limits, spoil};
 use crate::values::{byte_sum, bytes, floats, sum, KINDS, LARGEST, MINUS_ZEROS, TINY};
 
 /// The most numbers of a set, marks, sums of the drift, entries of the tables.
-const MOST: [usize; 4] = [3500, 140, 500, 160];
+fn most(order: usize) -> [usize; 4] {
+    if order == 3 {
+        [3500, 140, 500, 160]
+    } else {
+        [10_400, 140, 2600, 160]
+    }
+}
 
 fn fits(call: &Acoustic) -> bool {
     let t = &call.tables;
     let entries = t.perms.len() + t.p2s.len() + t.s2pp.len() + t.nsym_list.len();
-    [call.set.len(), call.done.len(), call.drift.len(), entries].iter().zip(MOST).all(|(n, most)| *n <= most)
+    [call.set.len(), call.done.len(), call.drift.len(), entries].iter().zip(most(call.order)).all(|(n, most)| *n <= most)
 }
 
-/// The words of a record: how many follow; answer; sums of the set, of the marks and of the drift's slice after the call; the call (0: full, 1: compact);
-/// level; seed; kind; lengths of the three; n_satom or the atoms, n_patom, num_trans; lengths of perms, p2s, s2pp, nsym_list; their entries.
+/// The words of a record: how many follow; answer; sums of the set, of the marks and of the drift's slice after the call; the call (0: full, 1: compact,
+/// of fourth order 2 and 3); level; seed; kind; lengths of the three; n_satom or the atoms, n_patom, num_trans; lengths of perms, p2s, s2pp, nsym_list; their entries.
 fn record(mut call: Acoustic, seed: u64, kind: u64) -> Record {
     assert!(fits(&call), "no room for {call:?}");
     call.set = floats(call.set.len(), seed, kind);
@@ -32,7 +38,8 @@ fn record(mut call: Acoustic, seed: u64, kind: u64) -> Record {
     let t = &call.tables;
     let first = if call.compact { t.n_satom } else { call.atoms };
     let lists = [&t.perms, &t.p2s, &t.s2pp, &t.nsym_list];
-    let mut words = vec![answer as u64, sum(&call.set), byte_sum(&call.done), sum(&call.drift), call.compact as u64, call.level as u64, seed, kind];
+    let number = 2 * (call.order as u64 - 3) + call.compact as u64;
+    let mut words = vec![answer as u64, sum(&call.set), byte_sum(&call.done), sum(&call.drift), number, call.level as u64, seed, kind];
     words.extend([call.set.len(), call.done.len(), call.drift.len(), first, t.n_patom, t.num_trans].map(|n| n as u64));
     words.extend(lists.map(|l| l.len() as u64));
     words.extend(lists.into_iter().flatten().map(|x| *x as u64));
@@ -40,58 +47,65 @@ fn record(mut call: Acoustic, seed: u64, kind: u64) -> Record {
 }
 
 fn sized(mut call: Acoustic) -> Acoustic {
-    fit(&mut call, MOST[0] as u128);
+    let most = most(call.order)[0] as u128;
+    fit(&mut call, most);
     call
 }
 
-/// Full sets of 0 to 4 atoms, compact ones over groups with half shifts and without, one and two primitive atoms; every kind, levels 0 to 3.
-fn good(r: &mut Rng) -> Vec<(Acoustic, u64)> {
+/// Full sets of 0 to 4 atoms (3 of fourth order), compact ones over groups with half shifts and without, one and two primitive atoms, as far as there
+/// is room; every kind, levels 0 to 3.
+fn good(r: &mut Rng, order: usize) -> Vec<(Acoustic, u64)> {
     let mut calls = vec![];
     let kinds = (0..KINDS).chain([MINUS_ZEROS, TINY, LARGEST]);
     for (k, kind) in kinds.enumerate() {
-        for atoms in 0..=4 {
-            calls.push((sized(Acoustic::full(atoms, (k + atoms) % 4)), kind));
+        for atoms in 0..=7 - order {
+            calls.push((sized(Acoustic::full(order, atoms, (k + atoms) % 4)), kind));
         }
     }
     let z2 = cyclic(2);
     for (k, g) in [cyclic(1), cyclic(2), cyclic(3), cyclic(4), product(&z2, &z2)].iter().enumerate() {
         for n_patom in 1..=2 {
             for level in 0..4 {
-                let call = Acoustic::compact(tables(g, n_patom, Some(r)), level);
+                let call = Acoustic::compact(order, tables(g, n_patom, Some(r)), level);
                 calls.push((sized(call), (3 * k + level) as u64 % KINDS));
             }
         }
     }
-    calls.push((sized(Acoustic::full(2, 1000)), 0));
-    calls.push((sized(Acoustic::compact(tables(&z2, 2, Some(r)), 1000)), 0));
+    calls.push((sized(Acoustic::full(order, 2, 1000)), 0));
+    calls.push((sized(Acoustic::compact(order, tables(&z2, 5 - order, Some(r)), 1000)), 0));
+    calls.retain(|(call, _)| call.set.len() == call.stated());
     calls
 }
 
 /// Calls with one or two things wrong.
-fn spoilt(r: &mut Rng) -> Vec<(Acoustic, u64)> {
+fn spoilt(r: &mut Rng, order: usize) -> Vec<(Acoustic, u64)> {
     let mut calls = vec![];
     while calls.len() < 80 {
         let g = &groups::all()[r.below(4)];
         let n_patom = 1 + r.below(2);
-        let mut call = sized(if r.below(3) == 0 { Acoustic::full(1 + r.below(3), 1) } else { Acoustic::compact(tables(g, n_patom, Some(r)), 1) });
+        let full = r.below(3) == 0;
+        let mut call =
+            sized(if full { Acoustic::full(order, 1 + r.below(6 - order), 1) } else { Acoustic::compact(order, tables(g, n_patom, Some(r)), 1) });
+        let there_is_room = call.set.len() == call.stated();
         (0..1 + r.below(2)).for_each(|_| spoil(r, &mut call));
-        if fits(&call) && refusal(&mut call) > 0 {
+        if there_is_room && fits(&call) && refusal(&mut call) > 0 {
             calls.push((call, 0));
         }
     }
     calls
 }
 
-pub fn replay() -> Replay {
+pub fn replay(order: usize) -> Replay {
     let mut r = Rng::new(43);
-    let mut calls = good(&mut r);
-    calls.extend(spoilt(&mut r));
-    for call in [Acoustic::full(2, 1), Acoustic::compact(tables(&cyclic(2), 2, Some(&mut r)), 1)] {
+    let mut calls = good(&mut r, order);
+    calls.extend(spoilt(&mut r, order));
+    for call in [Acoustic::full(order, 2, 1), Acoustic::compact(order, tables(&cyclic(2), 5 - order, Some(&mut r)), 1)] {
         calls.extend(at_limits(&sized(call)).into_iter().map(|call| (call, 0)));
     }
     let records: Vec<Record> = calls.into_iter().enumerate().map(|(k, (call, kind))| record(call, 4300 + k as u64, kind)).collect();
-    let stdout = report("third order without drift", &records, 1);
-    Replay::new(records, stdout, 3)
+    let (title, pages) = if order == 3 { ("third order without drift", 3) } else { ("fourth order without drift", 1) };
+    let stdout = report(title, &records, 1);
+    Replay::new(records, stdout, pages)
 }
 
 #[cfg(test)]
@@ -100,9 +114,11 @@ mod tests {
 
     #[test]
     fn every_answer_is_recorded() {
-        let records = replay().records;
-        for (call, answers) in [(0, &[0, 1, 2][..]), (1, &[0, 1, 2, 3, 6][..])] {
-            assert!(answers.iter().all(|answer| records.iter().any(|r| r[5] == call && r[1] == *answer)), "{call}");
+        for (order, number) in [(3, 0), (4, 2)] {
+            let records = replay(order).records;
+            for (call, answers) in [(number, &[0, 1, 2][..]), (number + 1, &[0, 1, 2, 3, 6][..])] {
+                assert!(answers.iter().all(|answer| records.iter().any(|r| r[5] == call && r[1] == *answer)), "{call}");
+            }
         }
     }
 }

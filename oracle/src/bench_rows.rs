@@ -404,23 +404,29 @@ fn acoustic_line(b: &Bench, size: &str, mut call: Acoustic) {
     call.set = plain(&mut Rng::new(33), call.stated());
     let mut levels = [0, 1, 3].map(|level| fitted(Acoustic { level, ..call.clone() }));
     let [one, two, three] = &mut levels;
-    let mut full = Full { set: call.set.clone(), ..Full::new(3, call.atoms) };
-    let mut compact = Compact { set: call.set.clone(), ..fitted(Compact::new(Name::Symmetrize3, call.tables.clone())) };
+    let mut full = Full { set: call.set.clone(), ..fitted(Full::new(call.order, call.atoms)) };
+    let name = if call.order == 3 { Name::Symmetrize3 } else { Name::Symmetrize4 };
+    let mut compact = Compact { set: call.set.clone(), ..fitted(Compact::new(name, call.tables.clone())) };
     let mut symmetrize = || assert_eq!(if call.compact { std::hint::black_box(&mut compact).port() } else { std::hint::black_box(&mut full).port() }, 0);
     let mut runs = [one, two, three].map(|call| move || assert_eq!(std::hint::black_box(&mut *call).port(), 0));
     let [zero, once, thrice] = &mut runs;
     let [sym, zero, once, thrice] = turns(b, [&mut symmetrize, zero, once, thrice]).map(|t| t * 1e6);
-    let what = if call.compact { "perm_trans_symmetrize_compact_fc3" } else { "perm_trans_symmetrize_fc3" };
-    println!("| {what} | {size} | {sym:.1} | {zero:.1} | {once:.1} | {thrice:.1} | {:.2} | {:.2} |", once / sym, thrice / 3.0 / sym);
+    println!("| {} | {size} | {sym:.1} | {zero:.1} | {once:.1} | {thrice:.1} | {:.2} | {:.2} |", call.name(), once / sym, thrice / 3.0 / sym);
 }
 
 pub fn acoustics(b: &Bench) {
     println!("| call | size | symmetrizer, us | level 0, us | level 1, us | level 3, us | level 1 / symmetrizer | a level of three / symmetrizer |\n|---|---|---|---|---|---|---|---|");
     for n in [8, 16, 32, 64, 128] {
-        acoustic_line(b, &n.to_string(), Acoustic::full(n, 0));
+        acoustic_line(b, &n.to_string(), Acoustic::full(3, n, 0));
     }
     for [p, s] in [[2, 16], [1, 64], [2, 64], [4, 64], [2, 128]] {
-        acoustic_line(b, &format!("{p} × {s}"), Acoustic::compact(shifts(p, s), 0));
+        acoustic_line(b, &format!("{p} × {s}"), Acoustic::compact(3, shifts(p, s), 0));
+    }
+    for n in [4, 8, 16] {
+        acoustic_line(b, &n.to_string(), Acoustic::full(4, n, 0));
+    }
+    for [p, s] in [[1, 8], [1, 16], [2, 16]] {
+        acoustic_line(b, &format!("{p} × {s}"), Acoustic::compact(4, shifts(p, s), 0));
     }
 }
 

@@ -1,20 +1,19 @@
-//! The symmetrizers of third order that take the drift off too, which the Rust does not have: the mean over each leg's atom off every number, leg by
-//! leg, and then the Rust's mean of six.
+//! The symmetrizers of third and fourth order that take the drift off too, which the Rust does not have: the mean over each leg's atom off every
+//! number, leg by leg, and then the Rust's mean of six or 24.
 use crate::call::{bytes, floats, index, Call, Lent, Parts, ATOMS, LEVEL};
 use crate::call_audit::whole;
 use crate::rng::Rng;
 use crate::shift_records::damage;
 use crate::shifts::Tables;
-use crate::{c_names, fc3};
-
-pub const ORDER: usize = 3;
-const WIDTH: usize = 27;
+use crate::{c_names, fc3, fc4};
 
 #[derive(Clone, Debug)]
 pub struct Acoustic {
+    /// 3 or 4.
+    pub order: usize,
     pub compact: bool,
     pub set: Vec<f64>,
-    /// Only the compact call has it.
+    /// The full call of third order has none.
     pub done: Vec<u8>,
     pub drift: Vec<f64>,
     /// Of a compact set.
@@ -36,73 +35,93 @@ fn block(t: &Tables, atoms: &[usize]) -> usize {
     atoms[1..].iter().fold(t.s2pp[atoms[0]] as usize, |b, a| b * t.n_satom + t.row(row, *a))
 }
 
+/// The numbers of a block.
+fn width(order: usize) -> usize {
+    3usize.pow(order as u32)
+}
+
 /// The sums over a leg's atom, from 0.0 and rising, of the read-out, where the first of the other atoms is one that stands for the primitive cell's.
-fn sums(t: &Tables, set: &[f64], leg: usize) -> Vec<f64> {
-    let mut sums = vec![0.0; t.n_patom * t.n_satom * WIDTH];
-    for (k, sum) in sums.chunks_exact_mut(WIDTH).enumerate() {
+fn sums(t: &Tables, order: usize, set: &[f64], leg: usize) -> Vec<f64> {
+    let width = width(order);
+    let mut sums = vec![0.0; t.n_patom * t.n_satom.pow(order as u32 - 2) * width];
+    for (k, sum) in sums.chunks_exact_mut(width).enumerate() {
         for x in 0..t.n_satom {
-            let mut legs = atoms(t, ORDER - 1, k);
+            let mut legs = atoms(t, order - 1, k);
             legs.insert(leg, x);
-            let from = block(t, &legs) * WIDTH;
-            sum.iter_mut().zip(&set[from..from + WIDTH]).for_each(|(s, number)| *s += number);
+            let from = block(t, &legs) * width;
+            sum.iter_mut().zip(&set[from..from + width]).for_each(|(s, number)| *s += number);
         }
     }
     sums
 }
 
 /// Every number less the mean over a leg's atom.
-pub fn drift_off(t: &Tables, set: &mut [f64], leg: usize) {
-    let (sums, part) = (sums(t, set, leg), 1.0 / t.n_satom as f64);
-    for (k, numbers) in set.chunks_exact_mut(WIDTH).enumerate() {
-        let mut others = atoms(t, ORDER, k);
+pub fn drift_off(t: &Tables, order: usize, set: &mut [f64], leg: usize) {
+    let (sums, part, width) = (sums(t, order, set, leg), 1.0 / t.n_satom as f64, width(order));
+    for (k, numbers) in set.chunks_exact_mut(width).enumerate() {
+        let mut others = atoms(t, order, k);
         others.remove(leg);
-        let from = block(t, &others) * WIDTH;
-        numbers.iter_mut().zip(&sums[from..from + WIDTH]).for_each(|(number, sum)| *number -= sum * part);
+        let from = block(t, &others) * width;
+        numbers.iter_mut().zip(&sums[from..from + width]).for_each(|(number, sum)| *number -= sum * part);
     }
 }
 
 impl Acoustic {
     /// The call with these tables; every slice is empty.
-    pub fn compact(tables: Tables, level: usize) -> Acoustic {
-        Acoustic { compact: true, set: vec![], done: vec![], drift: vec![], tables, atoms: 0, level }
+    pub fn compact(order: usize, tables: Tables, level: usize) -> Acoustic {
+        Acoustic { order, compact: true, set: vec![], done: vec![], drift: vec![], tables, atoms: 0, level }
     }
 
-    pub fn full(atoms: usize, level: usize) -> Acoustic {
-        Acoustic { compact: false, set: vec![], done: vec![], drift: vec![], tables: whole(0), atoms, level }
+    pub fn full(order: usize, atoms: usize, level: usize) -> Acoustic {
+        Acoustic { order, compact: false, set: vec![], done: vec![], drift: vec![], tables: whole(0), atoms, level }
+    }
+
+    /// The C name without gf_.
+    pub fn name(&self) -> String {
+        format!("perm_trans_symmetrize{}_fc{}", if self.compact { "_compact" } else { "" }, self.order)
     }
 
     /// The length of the set by document 01.
     pub fn stated(&self) -> usize {
         let (first, others) = if self.compact { (self.tables.n_patom, self.tables.n_satom) } else { (self.atoms, self.atoms) };
-        first * others * others * WIDTH
+        first * others.pow(self.order as u32 - 1) * width(self.order)
     }
 
-    fn mean_of_six(&mut self) {
-        let t = &self.tables;
-        if self.compact {
-            fc3::set_permutation_symmetry_compact_fc3(&mut self.set, &t.p2s, &t.s2pp, &t.nsym_list, &t.perms, t.n_satom, t.n_patom);
-        } else {
-            fc3::set_permutation_symmetry_fc3(&mut self.set, self.atoms);
+    /// Of six, or of 24.
+    fn mean(&mut self) {
+        let (t, set) = (&self.tables, &mut self.set[..]);
+        let (p2s, s2pp, nsym, perms, s, p) = (&t.p2s, &t.s2pp, &t.nsym_list, &t.perms, t.n_satom, t.n_patom);
+        match (self.compact, self.order) {
+            (true, 3) => fc3::set_permutation_symmetry_compact_fc3(set, p2s, s2pp, nsym, perms, s, p),
+            (true, _) => fc4::set_permutation_symmetry_compact_fc4(set, p2s, s2pp, nsym, perms, s, p),
+            (false, 3) => fc3::set_permutation_symmetry_fc3(set, self.atoms),
+            (false, _) => fc4::set_permutation_symmetry_fc4(set, self.atoms),
         }
     }
 }
 
 impl Call for Acoustic {
     fn parts(&mut self) -> Parts<'_> {
-        let Acoustic { compact, set, done, drift, tables: t, atoms, level } = self;
+        let Acoustic { order, compact, set, done, drift, tables: t, atoms, level } = self;
         let mut counts: Vec<(&mut usize, usize)> = vec![(level, LEVEL)];
         let mut slices: Vec<Lent> = vec![];
-        let limit = ATOMS[ORDER];
+        let (limit, legs, width) = (ATOMS[*order], *order - 1, width(*order));
+        // a block, or a byte, for each of the atoms `first` with so many of n
+        let lengths = |first: usize, n: usize, others: usize, last: usize| [vec![first], vec![n; others], vec![last]].concat();
         if *compact {
             let (s, p, n) = (t.n_satom, t.n_patom, t.num_trans);
             counts.extend([(&mut t.n_satom, limit), (&mut t.n_patom, limit), (&mut t.num_trans, limit)]);
-            slices.extend([floats(set, &[p, s, s, WIDTH]), index(&mut t.p2s, &[p], s), index(&mut t.s2pp, &[s], p)]);
+            slices.extend([floats(set, &lengths(p, s, legs, width)), index(&mut t.p2s, &[p], s), index(&mut t.s2pp, &[s], p)]);
             slices.extend([index(&mut t.nsym_list, &[s], n), index(&mut t.perms, &[n, s], s)]);
-            slices.extend([bytes(done, &[p, s, s]).as_work(), floats(drift, &[p, s, WIDTH]).as_work()]);
+            slices.extend([bytes(done, &lengths(p, s, legs, 1)).as_work(), floats(drift, &lengths(p, s, legs - 1, width)).as_work()]);
         } else {
             let n = *atoms;
             counts.push((atoms, limit));
-            slices.extend([floats(set, &[n, n, n, WIDTH]), floats(drift, &[n, n, WIDTH]).as_work()]);
+            slices.push(floats(set, &lengths(n, n, legs, width)));
+            if *order == 4 {
+                slices.push(bytes(done, &lengths(n, n, legs, 1)).as_work());
+            }
+            slices.push(floats(drift, &lengths(n, n, legs - 1, width)).as_work());
         }
         Parts::new(counts, slices)
     }
@@ -115,15 +134,15 @@ impl Call for Acoustic {
         }
     }
 
-    /// Level 0 is the mean of six alone.
+    /// Level 0 is the mean alone.
     fn original(&mut self) -> u8 {
         let t = if self.compact { self.tables.clone() } else { whole(self.atoms) };
         if self.level == 0 {
-            self.mean_of_six();
+            self.mean();
         }
         for _ in 0..self.level {
-            (0..ORDER).for_each(|leg| drift_off(&t, &mut self.set, leg));
-            self.mean_of_six();
+            (0..self.order).for_each(|leg| drift_off(&t, self.order, &mut self.set, leg));
+            self.mean();
         }
         0
     }
@@ -133,13 +152,18 @@ impl Call for Acoustic {
         // SAFETY: slices by their pointers and lengths, no precondition.
         unsafe {
             if self.compact {
-                c_names::gf_perm_trans_symmetrize_compact_fc3(
+                let call = if self.order == 3 { c_names::gf_perm_trans_symmetrize_compact_fc3 } else { c_names::gf_perm_trans_symmetrize_compact_fc4 };
+                call(
                     set.as_mut_ptr(), set.len(), t.p2s.as_ptr(), t.p2s.len(), t.s2pp.as_ptr(), t.s2pp.len(), t.nsym_list.as_ptr(),
                     t.nsym_list.len(), t.perms.as_ptr(), t.perms.len(), done.as_mut_ptr(), done.len(), drift.as_mut_ptr(), drift.len(),
                     t.n_satom, t.n_patom, t.num_trans, self.level,
                 )
-            } else {
+            } else if self.order == 3 {
                 c_names::gf_perm_trans_symmetrize_fc3(set.as_mut_ptr(), set.len(), drift.as_mut_ptr(), drift.len(), self.atoms, self.level)
+            } else {
+                c_names::gf_perm_trans_symmetrize_fc4(
+                    set.as_mut_ptr(), set.len(), done.as_mut_ptr(), done.len(), drift.as_mut_ptr(), drift.len(), self.atoms, self.level,
+                )
             }
         }
     }
@@ -162,56 +186,68 @@ mod tests {
     use crate::wild::plain;
 
     /// The largest sum over a leg of the read-out, from the definition.
-    fn drift(t: &Tables, set: &[f64]) -> f64 {
-        let n = t.n_satom;
+    fn drift(t: &Tables, order: usize, set: &[f64]) -> f64 {
+        let (n, width, others) = (t.n_satom, width(order), order - 1);
+        let lines = n.pow(others as u32);
         let sum = |k: usize| {
-            let (leg, a, b, p) = (k / (n * n * WIDTH), k / (n * WIDTH) % n, k / WIDTH % n, k % WIDTH);
+            let (leg, line, p) = (k / (lines * width), k / width % lines, k % width);
             (0..n).fold(0.0, |sum, x| {
-                let mut atoms = vec![a, b];
+                let mut atoms: Vec<usize> = (0..others).map(|l| line / n.pow((others - 1 - l) as u32) % n).collect();
                 atoms.insert(leg, x);
-                sum + read_out(t, set, &[(atoms[0], p / 9), (atoms[1], p / 3 % 3), (atoms[2], p % 3)])
+                let legs: Vec<_> = atoms.iter().enumerate().map(|(l, a)| (*a, p / 3usize.pow((others - l) as u32) % 3)).collect();
+                sum + read_out(t, set, &legs)
             })
         };
-        report(&(0..ORDER * n * n * WIDTH).map(|k| (sum(k), [0; 2])).collect::<Vec<_>>(), [0; 2]).1
+        report(&(0..order * lines * width).map(|k| (sum(k), [0; 2])).collect::<Vec<_>>(), [0; 2]).1
     }
 
-    /// One level leaves rounding alone, with half shifts and without; without a turn over the first leg it does not.
+    /// One level leaves rounding alone, with half shifts and without; without a turn over the first leg it does not. (Of fourth order and two atoms
+    /// that a shift exchanges, the others' turns take the sums over the first leg off too.)
     #[test]
     fn no_drift_is_left() {
         let mut r = Rng::new(43);
-        for _ in 0..100 {
-            let mut call = Acoustic::compact(random_tables(&mut r, ORDER, 11_000), 1);
+        for order in [3; 100].into_iter().chain([4; 20]) {
+            let mut call = Acoustic::compact(order, random_tables(&mut r, order, 11_000), 1);
             fit(&mut call, u128::MAX);
             call.set = plain(&mut r, call.stated());
-            let mut two_legs = call.clone();
+            let mut other_legs = call.clone();
             call.original();
-            assert!(drift(&call.tables, &call.set) < 1e-12);
-            let t = two_legs.tables.clone();
-            (1..ORDER).for_each(|leg| drift_off(&t, &mut two_legs.set, leg));
-            two_legs.mean_of_six();
-            assert!(t.n_satom < 2 || drift(&t, &two_legs.set) > 1e-3);
+            assert!(drift(&call.tables, order, &call.set) < 1e-12);
+            let t = other_legs.tables.clone();
+            (1..order).for_each(|leg| drift_off(&t, order, &mut other_legs.set, leg));
+            other_legs.mean();
+            assert!(t.n_satom < order - 1 || drift(&t, order, &other_legs.set) > 1e-3);
         }
     }
 
-    /// Two atoms that a half shift exchanges; all directions have the same four numbers, so that every step is worked out by hand.
+    fn spread(numbers: &[f64], order: usize) -> Vec<f64> {
+        numbers.iter().flat_map(|x| vec![*x; width(order)]).collect()
+    }
+
+    /// Two atoms that a half shift exchanges; all directions have the same numbers, so that every step is worked out by hand.
     #[test]
     fn by_hand() {
-        let mut call = Acoustic::compact(tables(&cyclic(2), 1, None), 1);
+        let mut call = Acoustic::compact(3, tables(&cyclic(2), 1, None), 1);
         fit(&mut call, u128::MAX);
-        let spread = |four: [f64; 4]| four.iter().flat_map(|x| [*x; WIDTH]).collect::<Vec<_>>();
-        call.set = spread([16.0, 8.0, 4.0, 0.0]);
-        drift_off(&call.tables, &mut call.set, 0);
+        call.set = spread(&[16.0, 8.0, 4.0, 0.0], 3);
+        drift_off(&call.tables, 3, &mut call.set, 0);
         // over the first leg (0, 0) adds 16 and, of atom 1, what stands at (1, 1): 16; (0, 1) adds 8 and 4
-        assert_eq!(call.set, spread([8.0, 2.0, -2.0, -8.0]));
-        drift_off(&call.tables, &mut call.set, 1);
-        assert_eq!(call.set, spread([5.0, 5.0, -5.0, -5.0]));
-        drift_off(&call.tables, &mut call.set, 2);
-        assert_eq!(call.set, spread([0.0, 0.0, 0.0, 0.0]));
+        assert_eq!(call.set, spread(&[8.0, 2.0, -2.0, -8.0], 3));
+        drift_off(&call.tables, 3, &mut call.set, 1);
+        assert_eq!(call.set, spread(&[5.0, 5.0, -5.0, -5.0], 3));
+        drift_off(&call.tables, 3, &mut call.set, 2);
+        assert_eq!(call.set, spread(&[0.0, 0.0, 0.0, 0.0], 3));
         // a full set is its own read-out
-        let mut full = Acoustic::full(2, 1);
+        let mut full = Acoustic::full(3, 2, 1);
         fit(&mut full, u128::MAX);
-        full.set = (0..8).flat_map(|k| [(k * k) as f64; WIDTH]).collect();
-        drift_off(&whole(2), &mut full.set, 0);
-        assert_eq!(full.set, [-8.0, -12.0, -16.0, -20.0, 8.0, 12.0, 16.0, 20.0].iter().flat_map(|x| [*x; WIDTH]).collect::<Vec<_>>());
+        full.set = spread(&[0.0, 1.0, 4.0, 9.0, 16.0, 25.0, 36.0, 49.0], 3);
+        drift_off(&whole(2), 3, &mut full.set, 0);
+        assert_eq!(full.set, spread(&[-8.0, -12.0, -16.0, -20.0, 8.0, 12.0, 16.0, 20.0], 3));
+        // of fourth order what has no drift turns its sign with each atom
+        let mut fourth = Acoustic::compact(4, tables(&cyclic(2), 1, None), 1);
+        fit(&mut fourth, u128::MAX);
+        fourth.set[..81].fill(8.0);
+        fourth.original();
+        assert_eq!(fourth.set, spread(&[1.0, -1.0, -1.0, 1.0, -1.0, 1.0, 1.0, -1.0], 4));
     }
 }

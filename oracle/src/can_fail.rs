@@ -83,8 +83,9 @@ fn full_sets() {
         seen(|r| makers::full(r, order));
         seen(|r| makers::read_out(r, order));
     }
-    seen(|r| makers::acoustic(r, false));
-    seen(|r| makers::acoustic(r, true));
+    for (order, compact) in [(3, false), (3, true), (4, false), (4, true)] {
+        seen(|r| makers::acoustic(r, order, compact));
+    }
 }
 
 #[test]

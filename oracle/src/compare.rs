@@ -8,7 +8,7 @@ use crate::tally::Tally;
 use crate::{call_audit, call_report, call_tables, compare_agree, compare_common, compare_lists, compare_roll, compare_row_sums, compare_true, makers, port};
 
 /// Every public call, the lists of transposes, the read-outs of the true ones, the lists of swaps, whole rolls, older rolls, series of edits and the two ways to a full set, in the order in which they are compared.
-pub const CALLS: [&str; 74] = [
+pub const CALLS: [&str; 76] = [
     "nint",
     "round",
     "sqrt",
@@ -83,6 +83,8 @@ pub const CALLS: [&str; 74] = [
     "drift_report_fc4",
     "perm_trans_symmetrize_fc3",
     "perm_trans_symmetrize_compact_fc3",
+    "perm_trans_symmetrize_fc4",
+    "perm_trans_symmetrize_compact_fc4",
 ];
 
 /// Of nint, round and sqrt so many patterns are tried for each call of the others.
@@ -163,8 +165,10 @@ fn run(tally: &mut Tally, r: &mut Rng, count: u64) {
         "drift_report_compact_fc3" => beside(tally, r, count, |r| call_report::make(r, Family::Legs, 3, true)),
         "drift_report_compact_fc4" => beside(tally, r, count, |r| call_report::make(r, Family::Legs, 4, true)),
         "drift_report_fc4" => beside(tally, r, count, |r| call_report::make(r, Family::Legs, 4, false)),
-        "perm_trans_symmetrize_fc3" => beside(tally, r, count, |r| makers::acoustic(r, false)),
-        "perm_trans_symmetrize_compact_fc3" => beside(tally, r, count, |r| makers::acoustic(r, true)),
+        "perm_trans_symmetrize_fc3" => beside(tally, r, count, |r| makers::acoustic(r, 3, false)),
+        "perm_trans_symmetrize_compact_fc3" => beside(tally, r, count, |r| makers::acoustic(r, 3, true)),
+        "perm_trans_symmetrize_fc4" => beside(tally, r, count, |r| makers::acoustic(r, 4, false)),
+        "perm_trans_symmetrize_compact_fc4" => beside(tally, r, count, |r| makers::acoustic(r, 4, true)),
         _ => compare_lists::same_order(tally, r, count),
     }
 }

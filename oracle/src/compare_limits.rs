@@ -108,6 +108,11 @@ fn deltas(r: &mut Rng, order: usize, [num_atom, num_site_sym, num_disp]: [usize;
     }
 }
 
+fn acoustic(tallies: &mut Vec<Tally>, r: &mut Rng, mut call: Acoustic) {
+    call.set = plain(r, call.stated());
+    one(tallies, &call.name(), call);
+}
+
 fn third(tallies: &mut Vec<Tally>, r: &mut Rng) {
     for (n_patom, rows) in [(1, [16, 16]), (2, [16, 8])] {
         let t = over(r, n_patom, rows);
@@ -115,9 +120,7 @@ fn third(tallies: &mut Vec<Tally>, r: &mut Rng) {
         for t_type in 0..3 {
             one(tallies, "transpose_compact_fc3", compact(r, Name::Transpose3, t.clone(), t_type));
         }
-        let mut call = Acoustic::compact(t, 1);
-        call.set = plain(r, call.stated());
-        one(tallies, "perm_trans_symmetrize_compact_fc3", call);
+        acoustic(tallies, r, Acoustic::compact(3, t, 1));
     }
     one(tallies, "distribute_fc3", slabs(r, 3, 256));
     one(tallies, "rotate_delta_fc2s", deltas(r, 3, [256, 3, 2]));
@@ -127,7 +130,8 @@ fn third(tallies: &mut Vec<Tally>, r: &mut Rng) {
 fn fourth(tallies: &mut Vec<Tally>, r: &mut Rng) {
     let t = over(r, 1, [8, 8]);
     one(tallies, "set_permutation_symmetry_compact_fc4", compact(r, Name::Symmetrize4, t.clone(), 0));
-    one(tallies, "transpose_compact_fc4", compact(r, Name::Transpose4, t, 0));
+    one(tallies, "transpose_compact_fc4", compact(r, Name::Transpose4, t.clone(), 0));
+    acoustic(tallies, r, Acoustic::compact(4, t, 1));
     one(tallies, "distribute_fc4", slabs(r, 4, 64));
     one(tallies, "rotate_delta_fc3s", deltas(r, 4, [64, 2, 1]));
     one(tallies, "rotate_delta_fc3s", deltas(r, 4, [1, 1024, 1024]));

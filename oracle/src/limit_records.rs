@@ -67,7 +67,7 @@ fn a_limit_one_off_changes_an_answer() {
     for number in 0..2 {
         told("row sums", &of_call(&sums, 4, number), 1, vec![(5, ATOMS[2])]);
     }
-    let acoustic = acoustic_records::replay();
+    let acoustic = acoustic_records::replay(3);
     told("perm_trans_symmetrize_fc3", &of_call(&acoustic, 5, 0), 1, vec![(12, ATOMS[3]), (6, LEVEL)]);
     told("perm_trans_symmetrize_compact_fc3", &of_call(&acoustic, 5, 1), 1, [three([12, 13, 14], ATOMS[3]), vec![(6, LEVEL)]].concat());
     let read_out = read_out_records::replay();

@@ -87,7 +87,7 @@ fn parts(name: &str) -> Option<Vec<record::Replay>> {
             fc_records::replay(4),
             fc_records::true_replay(),
         ],
-        "sums" => vec![row_sums_records::replay(), acoustic_records::replay()],
+        "sums" => vec![row_sums_records::replay(), acoustic_records::replay(3)],
         "maps" => vec![fc2_records::distribute(), slab_records::distribute(), slab_records::deltas(), read_out_records::replay()],
         "reports" => vec![report_records::audits(), report_records::reports()],
         "roll" => vec![roll_records::replay(), retire_records::replay()],
@@ -147,7 +147,7 @@ fn bench(name: &str, patience: f64) -> Outcome {
     if name == "audits" {
         bench_rows::audits(&bench);
     }
-    if name == "acoustic" && port::has("perm_trans_symmetrize_compact_fc3") {
+    if name == "acoustic" && port::has("perm_trans_symmetrize_compact_fc4") {
         bench_rows::acoustics(&bench);
     }
     if known {

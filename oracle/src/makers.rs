@@ -1,6 +1,6 @@
 //! Random calls that are not refused: small for the most part, some larger.
 use crate::call::fit;
-use crate::call_acoustic::{Acoustic, ORDER};
+use crate::call_acoustic::Acoustic;
 use crate::call_compact::{Compact, Name};
 use crate::call_deltas::Deltas;
 use crate::call_distribute::Distribute;
@@ -75,10 +75,10 @@ pub fn full(r: &mut Rng, order: usize) -> Full {
     call
 }
 
-/// Of third order, with the drift off.
-pub fn acoustic(r: &mut Rng, compact: bool) -> Acoustic {
+/// With the drift off.
+pub fn acoustic(r: &mut Rng, order: usize, compact: bool) -> Acoustic {
     let most = most(r);
-    let mut call = if compact { Acoustic::compact(random_tables(r, ORDER, most), 0) } else { Acoustic::full(atoms(r, ORDER as u32), 0) };
+    let mut call = if compact { Acoustic::compact(order, random_tables(r, order, most), 0) } else { Acoustic::full(order, atoms(r, order as u32), 0) };
     call.set = fill(r, call.stated());
     fit(&mut call, u128::MAX);
     call.level = level(r, call.set.len());

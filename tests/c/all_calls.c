@@ -498,9 +498,9 @@ static void symmetrize_third_order(void) {
     CHECK(sheet5_holds(fc3) && cleared(S(done)));
 }
 
-static bool blocks_are(const double *set, const double *xs, size_t blocks) {
-    for (size_t k = 0; k < blocks * 27; k++) {
-        if (set[k] != xs[k / 27]) {
+static bool blocks_are(const double *set, const double *xs, size_t blocks, size_t width) {
+    for (size_t k = 0; k < blocks * width; k++) {
+        if (set[k] != xs[k / width]) {
             return false;
         }
     }
@@ -527,9 +527,9 @@ static void symmetrize_third_order_without_drift(void) {
     CHECK(gf_perm_trans_symmetrize_fc3(full, 215, S(drift), 2, 1) == GF_WRONG_LENGTH);
     CHECK(memcmp(full, before, sizeof full) == 0 && drift[107] != 0);
     CHECK(gf_perm_trans_symmetrize_fc3(S(full), S(drift), 2, 1) == GF_DONE);
-    CHECK(blocks_are(full, turned, 8) && all_are(S(drift), 0.0));
+    CHECK(blocks_are(full, turned, 8, 27) && all_are(S(drift), 0.0));
     CHECK(gf_perm_trans_symmetrize_fc3(S(full), S(drift), 2, 3) == GF_DONE); /* without drift and alike: as it was */
-    CHECK(blocks_are(full, turned, 8));
+    CHECK(blocks_are(full, turned, 8, 27));
     for (size_t k = 0; k < 108; k++) {
         two[k] = four[k / 27];
     }
@@ -712,6 +712,46 @@ static void fourth_order(void) {
     done[0] = 7;
     CHECK(gf_set_permutation_symmetry_compact_fc4(S(fc4), ONE, S(done), 1, 1, 1) == GF_DONE);
     CHECK(fc4[1] == 3 && fc4[3] == 3 && fc4[9] == 3 && fc4[27] == 3 && cleared(S(done)));
+}
+
+static void symmetrize_fourth_order_without_drift(void) {
+    /* of two atoms all that has no drift turns its sign with each atom */
+    const double turned[] = {1, -1, -1, 1, -1, 1, 1, -1, -1, 1, 1, -1, 1, -1, -1, 1};
+    double one[81], full[1296] = {0}, eight[648] = {0}, before[1296], drift[648];
+    uint8_t done[16];
+    memset(done, 7, sizeof done);
+    four_orders(one);
+    CHECK(gf_perm_trans_symmetrize_fc4(S(one), done, 1, drift, 81, 1, 0) == GF_DONE); /* level 0: the mean of 24 alone */
+    CHECK(one[1] == 3 && one[3] == 3 && one[9] == 3 && one[27] == 3 && done[0] == 0 && all_are(drift, 81, 0.0));
+    CHECK(gf_perm_trans_symmetrize_fc4(S(one), done, 1, drift, 81, 1, 1) == GF_DONE); /* an atom alone is all drift */
+    CHECK(all_are(S(one), 0.0));
+    for (size_t k = 1215; k < 1296; k++) {
+        full[k] = 16; /* block (1, 1, 1, 1) */
+    }
+    memcpy(before, full, sizeof full);
+    memset(done, 7, sizeof done);
+    count_up(S(drift));
+    CHECK(gf_perm_trans_symmetrize_fc4(S(full), S(done), S(drift), 65, 1) == GF_COUNT_ABOVE_LIMIT);
+    CHECK(gf_perm_trans_symmetrize_fc4(S(full), S(done), S(drift), 2, 1001) == GF_COUNT_ABOVE_LIMIT);
+    CHECK(gf_perm_trans_symmetrize_fc4(S(full), S(done), drift, 647, 2, 1) == GF_WRONG_LENGTH);
+    CHECK(gf_perm_trans_symmetrize_fc4(S(full), done, 15, S(drift), 2, 1) == GF_WRONG_LENGTH);
+    CHECK(gf_perm_trans_symmetrize_fc4(full, 1295, S(done), S(drift), 2, 1) == GF_WRONG_LENGTH);
+    CHECK(memcmp(full, before, sizeof full) == 0 && done[0] == 7 && drift[647] != 0);
+    CHECK(gf_perm_trans_symmetrize_fc4(S(full), S(done), S(drift), 2, 1) == GF_DONE);
+    CHECK(blocks_are(full, turned, 16, 81) && cleared(S(done)) && all_are(S(drift), 0.0));
+    CHECK(gf_perm_trans_symmetrize_fc4(S(full), S(done), S(drift), 2, 3) == GF_DONE); /* without drift and alike: as it was */
+    CHECK(blocks_are(full, turned, 16, 81));
+    for (size_t k = 0; k < 81; k++) {
+        eight[k] = 8; /* block (0, 0, 0, 0), and by the shift (1, 1, 1, 1) */
+    }
+    memcpy(before, eight, sizeof eight);
+    memset(done, 7, sizeof done);
+    CHECK(gf_perm_trans_symmetrize_compact_fc4(S(eight), TWO, done, 8, drift, 324, 2, 1, 2, 1001) == GF_COUNT_ABOVE_LIMIT);
+    CHECK(gf_perm_trans_symmetrize_compact_fc4(S(eight), TWO, done, 8, drift, 325, 2, 1, 2, 1) == GF_WRONG_LENGTH);
+    CHECK(gf_perm_trans_symmetrize_compact_fc4(S(eight), TWO, done, 7, drift, 324, 2, 1, 2, 1) == GF_WRONG_LENGTH);
+    CHECK(memcmp(eight, before, sizeof eight) == 0 && done[0] == 7);
+    CHECK(gf_perm_trans_symmetrize_compact_fc4(S(eight), TWO, done, 8, drift, 324, 2, 1, 2, 1) == GF_DONE);
+    CHECK(blocks_are(eight, turned, 8, 81) && cleared(done, 8) && all_are(drift, 324, 0.0));
 }
 
 /* set 7 is delivered with the label "AB", set 300 replaces it without a label: the roll that the appender makes of them */
@@ -1137,6 +1177,7 @@ int main(void) {
     slabs();
     rotated_deltas();
     fourth_order();
+    symmetrize_fourth_order_without_drift();
     append_roll();
     read_roll();
     older_roll();

@@ -119,6 +119,11 @@ CALL(set_permutation_symmetry_fc4, (r->full_len = FULL4, r->done_len = FULL4 / 8
      (SET(full), BYTES(done), r->num_atom, why))
 CALL(set_permutation_symmetry_compact_fc4, (r->set_len = COMPACT4, r->done_len = PAIRS * r->n_satom * r->n_satom), (S(set), T, S(done), N),
      (SET(set), TABLES, BYTES(done), why))
+CALL(perm_trans_symmetrize_fc4, (r->full_len = FULL4, r->done_len = FULL4 / 81, r->drift_len = FULL3 * 3),
+     (S(full), S(done), S(drift), r->num_atom, r->level), (SET(full), BYTES(done), SET(drift), r->num_atom, r->level, why))
+CALL(perm_trans_symmetrize_compact_fc4,
+     (r->set_len = COMPACT4, r->done_len = PAIRS * r->n_satom * r->n_satom, r->drift_len = PAIRS * r->n_satom * 81),
+     (S(set), T, S(done), S(drift), N, r->level), (SET(set), TABLES, BYTES(done), SET(drift), r->level, why))
 CALL(transpose_compact_fc4, (r->set_len = COMPACT4, r->done_len = PAIRS), (S(set), T, S(done), N, 0), (SET(set), TABLES, BYTES(done), 0, why))
 CALL(true_transpose_compact_fc4, (r->set_len = COMPACT4, r->done_len = PAIRS), (S(set), T, S(done), N, 0),
      (SET(set), TABLES, BYTES(done), 0, why))
@@ -235,6 +240,10 @@ static const struct call calls[] = {
     {NAMED(drift_report_fc3), 3, false, {LENGTH(full, "fc"), COUNT(num_atom, 256)}},
     {NAMED(set_permutation_symmetry_fc4), 4, false, {LENGTH(full, "fc4"), LENGTH(done, "done"), COUNT(num_atom, 64)}},
     {NAMED(set_permutation_symmetry_compact_fc4), 4, true, {LENGTH(set, "fc4"), TABLES_SAID(64), LENGTH(done, "done")}},
+    {NAMED(perm_trans_symmetrize_fc4), 4, false,
+     {LENGTH(full, "fc4"), LENGTH(done, "done"), LENGTH(drift, "drift"), COUNT(num_atom, 64), COUNT(level, 1000)}},
+    {NAMED(perm_trans_symmetrize_compact_fc4), 4, true,
+     {LENGTH(set, "fc4"), TABLES_SAID(64), LENGTH(done, "done"), LENGTH(drift, "drift"), COUNT(level, 1000)}},
     {NAMED(transpose_compact_fc4), 4, true, {LENGTH(set, "fc4"), TABLES_SAID(64), LENGTH(done, "done")}},
     {NAMED(true_transpose_compact_fc4), 4, true, {LENGTH(set, "fc4"), TABLES_SAID(64), LENGTH(done, "done")}},
     {NAMED(swap_pairs_compact_fc4), 4, true,

@@ -41,8 +41,8 @@ def read_out(fc, t):
 
 
 def drift_off(fc, t, leg):
-    """A set of third order less the mean over a leg's atom, from the definition: the sums from 0.0, the atom rising, times 1 / n, of the read-out,
-    where the first of the other atoms stands for the primitive cell's. t: None for a full set."""
+    """A set less the mean over a leg's atom, from the definition: the sums from 0.0, the atom rising, times 1 / n, of the read-out, where the
+    first of the other atoms stands for the primitive cell's. t: None for a full set."""
     full = fc if t is None else read_out(fc, t)
     p2s = np.arange(len(fc)) if t is None else t.p2s
     lines = np.moveaxis(full, leg, 0)[:, p2s]
@@ -53,16 +53,16 @@ def drift_off(fc, t, leg):
     with np.errstate(invalid="ignore", over="ignore"):
         if leg > 0:
             return fc - np.expand_dims(means, leg)
-        return fc - (means if t is None else means[t.s2pp[:, None], t.perms[t.nsym_list]])
+        return fc - (means if t is None else read_out(means, t))
 
 
-def without_drift(fc, t, level, mean_of_six):
-    """The symmetrizer of third order with the drift off, step by step; mean_of_six changes a set in place."""
+def without_drift(fc, t, level, mean):
+    """The symmetrizer of third or fourth order with the drift off, step by step; mean, over the orders of the legs, changes a set in place."""
     fc = fc.copy()
     for _ in range(max(level, 1)):
-        for leg in range(3 if level else 0):
+        for leg in range(fc.ndim // 2 if level else 0):
             fc = drift_off(fc, t, leg)
-        mean_of_six(fc)
+        mean(fc)
     return fc
 
 

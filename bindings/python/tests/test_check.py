@@ -106,7 +106,7 @@ class Checks(Room):
         fc4 = random(2, 2, 2, 2, 3, 3, 3, 3)
         out = self.judged(1, "sums over an atom that are not zero; numbers that change", fc4, "--symmetrize", self.path("out.npy"))
         self.assertRegex(out, r"drift .*over leg [0-3], atoms \d \d \d, [xyz]{4} \[proved\]")
-        self.assertRegex(out, r"symmetrizing .* \[proved; the drift by numpy\]")
+        self.assertRegex(out, r"symmetrizing .* \[proved\]")
         self.assertEqual(self.run_check(self.path("out.npy"))[0], 0)
         self.assertTrue(gf.audit_fc4(files.read(self.path("out.npy")).array).alike)
 

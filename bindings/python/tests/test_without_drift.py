@@ -1,4 +1,4 @@
-"""Third order without drift: the calls beside their steps in numpy, and beside phono3py's steps."""
+"""Third and fourth order without drift: the calls beside their steps in numpy, and third order beside phono3py's steps."""
 import unittest
 
 import numpy as np
@@ -17,59 +17,63 @@ SPOILED = [np.nan, np.inf, -np.inf, 1e308, -0.0]
 
 
 def drift(fc, t):
-    return gf.drift_report_compact_fc3(fc, t).value
+    return call("drift_report", fc, t)(fc).value
+
+
+def call(name, fc, t):
+    """The call for sets of this order, full ones where there are no tables: all that it takes after the set stays to be given."""
+    by_name = getattr(gf, f"{name}{'' if t is None else '_compact'}_fc{fc.ndim // 2}")
+    return by_name if t is None else lambda some, *more, **lent: by_name(some, t, *more, **lent)
+
+
+def sets():
+    """Random sets of both orders, full and compact, with the tables."""
+    for order in (3, 4):
+        for n in range(1, 5):
+            yield random(*[n] * order, *[3] * order, seed=n), None
+        for t in HALF + ODD:
+            yield random(t.n_patom, *[t.n_satom] * (order - 1), *[3] * order), t
 
 
 class WithoutDrift(unittest.TestCase):
-    def test_full(self):
+    def test_steps(self):
         """The same bits as the steps, also with numbers that are not finite; what is left is alike."""
         gf.perm_trans_symmetrize_fc3(np.zeros((0, 0, 0, 3, 3, 3)), 2)
-        for n in range(1, 5):
-            for level in range(4):
-                fc = random(n, n, n, 3, 3, 3, seed=n)
-                for x in [None, *SPOILED]:
-                    if x is not None:
-                        fc.flat[17 % fc.size] = x
-                    expected = without_drift(fc, None, level, gf.set_permutation_symmetry_fc3)
+        gf.perm_trans_symmetrize_fc4(np.zeros((0, 0, 0, 0, 3, 3, 3, 3)), 2)
+        for fc, t in sets():
+            mean = call("set_permutation_symmetry", fc, t)
+            for x in [None, *SPOILED]:
+                if x is not None:
+                    fc.flat[23 % fc.size] = x
+                for level in range(4 if fc.ndim == 6 else 3):
+                    expected = without_drift(fc, t, level, mean)
                     got = fc.copy()
-                    gf.perm_trans_symmetrize_fc3(got, level)
+                    call("perm_trans_symmetrize", fc, t)(got, level)
                     np.testing.assert_array_equal(got, expected)
-                    self.assertTrue(gf.audit_fc3(got).alike)
+                    self.assertTrue(call("audit", fc, t)(got).alike)
                     if level == 0:
-                        gf.set_permutation_symmetry_fc3(fc)
-                        self.assertTrue(same_bits(np.where(np.isnan(got), 0.0, got), np.where(np.isnan(fc), 0.0, fc)))
-
-    def test_compact(self):
-        for t in HALF + ODD:
-            for level in range(4):
-                fc = random(t.n_patom, t.n_satom, t.n_satom, 3, 3, 3, seed=level)
-                for x in [None, *SPOILED]:
-                    if x is not None:
-                        fc.flat[23 % fc.size] = x
-                    expected = without_drift(fc, t, level, lambda some: gf.set_permutation_symmetry_compact_fc3(some, t))
-                    got = fc.copy()
-                    gf.perm_trans_symmetrize_compact_fc3(got, t, level)
-                    np.testing.assert_array_equal(got, expected)
-                    self.assertTrue(gf.audit_compact_fc3(got, t).alike)
+                        mean(expected := fc.copy())
+                        self.assertTrue(same_bits(np.where(np.isnan(got), 0.0, got), np.where(np.isnan(expected), 0.0, expected)))
 
     def test_one_level_leaves_rounding(self):
-        for t in HALF + ODD:
-            fc = random(t.n_patom, t.n_satom, t.n_satom, 3, 3, 3)
-            full = gf.compact_to_full_fc3(fc, t)
-            gf.perm_trans_symmetrize_compact_fc3(fc, t)
-            gf.perm_trans_symmetrize_fc3(full)
-            self.assertLess(drift(fc, t), 1e-14)
-            self.assertLess(gf.drift_report_fc3(full).value, 1e-14)
-            np.testing.assert_allclose(gf.compact_to_full_fc3(fc, t), full, atol=1e-14)
+        for fc, t in sets():
+            if t is not None:
+                full = call("compact_to_full", fc, None)(fc, t)
+                call("perm_trans_symmetrize", fc, t)(fc)
+                call("perm_trans_symmetrize", full, None)(full)
+                self.assertLess(drift(fc, t), 1e-14)
+                self.assertLess(drift(full, None), 1e-14)
+                np.testing.assert_allclose(call("compact_to_full", fc, None)(fc, t), full, atol=1e-14)
 
     def test_where_sums_are_exact_a_clean_set_stays(self):
         """Whole numbers, and atoms whose number is a power of two."""
-        signs = np.array([1.0, -1.0, 1.0, -1.0])
-        whole = np.einsum("i,j,k,a,b,c->ijkabc", signs, signs, signs, *np.arange(1.0, 4.0)[None].repeat(3, 0))
-        for level in range(4):
-            fc = whole.copy()
-            gf.perm_trans_symmetrize_fc3(fc, level)
-            self.assertTrue(same_bits(fc, whole))
+        signs, directions = np.array([1.0, -1.0, 1.0, -1.0]), np.arange(1.0, 4.0)
+        for legs, letters in ((3, "i,j,k,a,b,c->ijkabc"), (4, "i,j,k,l,a,b,c,d->ijklabcd")):
+            whole = np.einsum(letters, *[signs] * legs, *[directions] * legs)
+            for level in range(4):
+                fc = whole.copy()
+                call("perm_trans_symmetrize", fc, None)(fc, level)
+                self.assertTrue(same_bits(fc, whole))
 
     def test_beside_phono3py(self):
         """Its steps leave drift in an even cell, and only there."""
@@ -100,21 +104,26 @@ class WithoutDrift(unittest.TestCase):
 
     def test_work_and_refusals(self):
         t = HALF[1]
-        fc = random(2, 4, 4, 3, 3, 3)
-        work, sums = np.full(32, 7, np.uint8), np.full((2, 4, 27), np.nan)
-        expected = fc.copy()
-        gf.perm_trans_symmetrize_compact_fc3(expected, t, 2)
-        gf.perm_trans_symmetrize_compact_fc3(fc, t, 2, work=work, drift=sums)
-        self.assertTrue(same_bits(fc, expected) and not work.any() and same_bits(sums, np.zeros((2, 4, 27))))
-        before = fc.copy()
-        for words, call in ((r"level: 1001, limit 1000", lambda: gf.perm_trans_symmetrize_compact_fc3(fc, t, 1001)),
-                            (r"level: 1001, limit 1000", lambda: gf.perm_trans_symmetrize_fc3(np.zeros((1, 1, 1, 3, 3, 3)), 1001)),
-                            (r"drift: shape \(215,\), asked for \(216,\)", lambda: gf.perm_trans_symmetrize_compact_fc3(fc, t, drift=np.empty(215))),
-                            (r"work: shape \(31,\), asked for \(32,\)", lambda: gf.perm_trans_symmetrize_compact_fc3(fc, t, work=work[:31])),
-                            (r"refusal 6", lambda: gf.perm_trans_symmetrize_compact_fc3(fc, gf.Tables(t.p2s, t.s2pp, [0] * 4, t.perms)))):
-            with self.assertRaisesRegex(gf.Refused, words):
-                call()
-        self.assertTrue(same_bits(fc, before))
+        bad = gf.Tables(t.p2s, t.s2pp, [0] * 4, t.perms)
+        for order in (3, 4):
+            fc = random(2, *[4] * (order - 1), *[3] * order)
+            marks, lent = 2 * 4 ** (order - 1), (2, *[4] * (order - 2), 3**order)
+            work, sums = np.full(marks, 7, np.uint8), np.full(lent, np.nan)
+            count = sums.size
+            expected, symmetrize = fc.copy(), call("perm_trans_symmetrize", fc, t)
+            symmetrize(expected, 2)
+            symmetrize(fc, 2, work=work, drift=sums)
+            self.assertTrue(same_bits(fc, expected) and not work.any() and same_bits(sums, np.zeros(lent)))
+            before, one = fc.copy(), np.zeros((1,) * order + (3,) * order)
+            for words, refused in (
+                    (r"level: 1001, limit 1000", lambda: symmetrize(fc, 1001)),
+                    (r"level: 1001, limit 1000", lambda: call("perm_trans_symmetrize", one, None)(one, 1001)),
+                    (rf"drift: shape \({count - 1},\), asked for \({count},\)", lambda: symmetrize(fc, drift=np.empty(count - 1))),
+                    (rf"work: shape \({marks - 1},\), asked for \({marks},\)", lambda: symmetrize(fc, work=work[:-1])),
+                    (r"refusal 6", lambda: call("perm_trans_symmetrize", fc, bad)(fc))):
+                with self.assertRaisesRegex(gf.Refused, words):
+                    refused()
+            self.assertTrue(same_bits(fc, before))
 
 
 if __name__ == "__main__":

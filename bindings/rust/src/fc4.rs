@@ -74,6 +74,88 @@ pub fn set_permutation_symmetry_compact_fc4_with(
     )))
 }
 
+/// Symmetrizes a full set of num_atom⁴ × 81 numbers and takes its drift off. Per level: of leg 0, then 1, then 2, then 3 the mean over that
+/// leg's atom is taken off every number; then the 24 orders of any four (atom, direction) pairs get their mean. Level 0 is
+/// [`set_permutation_symmetry_fc4`]. num_atom up to 64, level up to 1,000. Not in phonors.
+///
+/// ```
+/// use gullyfork::{fc4, Refusal};
+///
+/// let mut set = [0.0; 1296]; // two atoms
+/// set[1215] = 16.0; // block (1, 1, 1, 1), x x x x
+/// fc4::perm_trans_symmetrize_fc4(&mut set, 2, 1)?;
+/// assert_eq!([set[0], set[81], set[1215]], [1.0, -1.0, 1.0]);
+/// # Ok::<(), Refusal>(())
+/// ```
+pub fn perm_trans_symmetrize_fc4(fc4: &mut [f64], num_atom: usize, level: usize) -> Result<(), Refusal> {
+    let blocks = room(&[(num_atom, LIMIT); 3]);
+    let (mut done, mut drift) = (vec![0; blocks * num_atom.min(LIMIT)], vec![0.0; blocks * 81]);
+    perm_trans_symmetrize_fc4_with(fc4, &mut done, &mut drift, num_atom, level)
+}
+
+/// [`perm_trans_symmetrize_fc4`] with num_atom⁴ bytes and num_atom³ × 81 numbers of work memory.
+pub fn perm_trans_symmetrize_fc4_with(
+    fc4: &mut [f64],
+    done: &mut [u8],
+    drift: &mut [f64],
+    num_atom: usize,
+    level: usize,
+) -> Result<(), Refusal> {
+    answer(call!(gf_perm_trans_symmetrize_fc4(&mut fc4, &mut done, &mut drift, num_atom, level)))
+}
+
+/// Symmetrizes a compact set of n_patom × n_satom³ × 81 numbers and takes its drift off: as [`perm_trans_symmetrize_fc4`], with the sums
+/// over all atoms of the supercell of what the set reads out to, half shifts or not. Level 0 is
+/// [`set_permutation_symmetry_compact_fc4`]. Not in phonors.
+///
+/// ```
+/// use gullyfork::fc2::Drift;
+/// use gullyfork::{fc4, report, Refusal};
+///
+/// let t = (&[0][..], &[0; 3][..], &[0, 2, 1][..], &[0, 1, 2, 1, 2, 0, 2, 0, 1][..]);
+/// let mut set: Vec<f64> = (0..2187).map(|k| f64::from(k * k % 17)).collect();
+/// fc4::perm_trans_symmetrize_compact_fc4(&mut set, t.0, t.1, t.2, t.3, 3, 1, 1)?;
+/// let left = report::drift_report_compact_fc4(&set, t.0, t.1, t.2, t.3, 3, 1)?;
+/// assert!(matches!(left.drift, Drift::Still) || matches!(left.drift, Drift::Worst(x) if x < 1e-13));
+/// # Ok::<(), Refusal>(())
+/// ```
+#[allow(clippy::too_many_arguments)]
+pub fn perm_trans_symmetrize_compact_fc4(
+    fc4: &mut [f64],
+    p2s: &[i64],
+    s2pp: &[i64],
+    nsym_list: &[i64],
+    perms: &[i64],
+    n_satom: usize,
+    n_patom: usize,
+    level: usize,
+) -> Result<(), Refusal> {
+    let blocks = room(&[(n_patom, LIMIT), (n_satom, LIMIT), (n_satom, LIMIT)]);
+    let (mut done, mut drift) = (vec![0; blocks * n_satom.min(LIMIT)], vec![0.0; blocks * 81]);
+    let num_trans = rows(perms.len(), n_satom);
+    perm_trans_symmetrize_compact_fc4_with(fc4, p2s, s2pp, nsym_list, perms, &mut done, &mut drift, n_satom, n_patom, num_trans, level)
+}
+
+/// [`perm_trans_symmetrize_compact_fc4`] with n_patom × n_satom³ bytes and n_patom × n_satom² × 81 numbers of work memory.
+#[allow(clippy::too_many_arguments)]
+pub fn perm_trans_symmetrize_compact_fc4_with(
+    fc4: &mut [f64],
+    p2s: &[i64],
+    s2pp: &[i64],
+    nsym_list: &[i64],
+    perms: &[i64],
+    done: &mut [u8],
+    drift: &mut [f64],
+    n_satom: usize,
+    n_patom: usize,
+    num_trans: usize,
+    level: usize,
+) -> Result<(), Refusal> {
+    answer(call!(gf_perm_trans_symmetrize_compact_fc4(
+        &mut fc4, &p2s, &s2pp, &nsym_list, &perms, &mut done, &mut drift, n_satom, n_patom, num_trans, level
+    )))
+}
+
 /// Exchanges the first two of the four (atom, direction) pairs of every number of a compact set of n_patom × n_satom³ × 81 numbers, with type
 /// 0; any other type changes nothing. Blocks that a half shift exchanges stay, as in phonors.
 ///

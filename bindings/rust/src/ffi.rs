@@ -326,6 +326,36 @@ extern "C" {
         n_patom: usize,
         num_trans: usize,
     ) -> u8;
+    pub fn gf_perm_trans_symmetrize_fc4(
+        fc4: *mut f64,
+        fc4_len: usize,
+        done: *mut u8,
+        done_len: usize,
+        drift: *mut f64,
+        drift_len: usize,
+        num_atom: usize,
+        level: usize,
+    ) -> u8;
+    pub fn gf_perm_trans_symmetrize_compact_fc4(
+        fc4: *mut f64,
+        fc4_len: usize,
+        p2s: *const i64,
+        p2s_len: usize,
+        s2pp: *const i64,
+        s2pp_len: usize,
+        nsym_list: *const i64,
+        nsym_list_len: usize,
+        perms: *const i64,
+        perms_len: usize,
+        done: *mut u8,
+        done_len: usize,
+        drift: *mut f64,
+        drift_len: usize,
+        n_satom: usize,
+        n_patom: usize,
+        num_trans: usize,
+        level: usize,
+    ) -> u8;
     pub fn gf_transpose_compact_fc4(
         fc4: *mut f64,
         fc4_len: usize,

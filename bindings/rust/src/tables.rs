@@ -587,6 +587,48 @@ pub fn set_permutation_symmetry_compact_fc4(fc4: &mut [f64], tables: &Tables, do
     })
 }
 
+/// [`fc4::perm_trans_symmetrize_fc4`], with num_atom⁴ bytes and num_atom³ × 81 numbers of work memory.
+pub fn perm_trans_symmetrize_fc4(
+    fc4: &mut [f64],
+    done: &mut [u8],
+    drift: &mut [f64],
+    num_atom: usize,
+    level: usize,
+) -> Result<(), Refused> {
+    fc4::perm_trans_symmetrize_fc4_with(fc4, done, drift, num_atom, level).map_err(|r| {
+        let stated = [
+            length!(fc4, num_atom * num_atom * num_atom * num_atom * 81),
+            length!(done, num_atom * num_atom * num_atom * num_atom),
+            length!(drift, num_atom * num_atom * num_atom * 81),
+            count!(num_atom, 64),
+            count!(level, 1000),
+        ];
+        refused(r, "perm_trans_symmetrize_fc4", &stated)
+    })
+}
+
+/// [`fc4::perm_trans_symmetrize_compact_fc4`], with n_patom × n_satom³ bytes and n_patom × n_satom² × 81 numbers of work memory.
+pub fn perm_trans_symmetrize_compact_fc4(
+    fc4: &mut [f64],
+    tables: &Tables,
+    done: &mut [u8],
+    drift: &mut [f64],
+    level: usize,
+) -> Result<(), Refused> {
+    open!(tables, p2s, s2pp, nsym_list, perms, n_satom, n_patom, num_trans);
+    fc4::perm_trans_symmetrize_compact_fc4_with(fc4, p2s, s2pp, nsym_list, perms, done, drift, n_satom, n_patom, num_trans, level).map_err(
+        |r| {
+            let stated = [
+                length!(fc4, n_patom * n_satom * n_satom * n_satom * 81),
+                length!(done, n_patom * n_satom * n_satom * n_satom),
+                length!(drift, n_patom * n_satom * n_satom * 81),
+                count!(level, 1000),
+            ];
+            tables.refused(r, "perm_trans_symmetrize_compact_fc4", 64, &stated)
+        },
+    )
+}
+
 /// [`fc4::transpose_compact_fc4`], with n_patom × n_satom bytes of work memory.
 pub fn transpose_compact_fc4(fc4: &mut [f64], tables: &Tables, done: &mut [u8], t_type: i64) -> Result<(), Refused> {
     open!(tables, p2s, s2pp, nsym_list, perms, n_satom, n_patom, num_trans);

@@ -36,6 +36,9 @@ fn huge_counts_are_refused_before_memory_is_asked_for() {
     assert_eq!(fc3::rotate_delta_fc2s(&mut set, &[], &[], &[], &[], 1, HUGE, HUGE), above);
     assert_eq!(fc4::set_permutation_symmetry_fc4(&mut set, HUGE), above);
     assert_eq!(fc4::set_permutation_symmetry_compact_fc4(&mut set, &[], &[], &[], &[], HUGE, HUGE), above);
+    assert_eq!(fc4::perm_trans_symmetrize_fc4(&mut set, HUGE, 1), above);
+    assert_eq!(fc4::perm_trans_symmetrize_fc4(&mut set, 1, 1001), above);
+    assert_eq!(fc4::perm_trans_symmetrize_compact_fc4(&mut set, &[], &[], &[], &[], HUGE, 1, 1), above);
     assert_eq!(fc4::transpose_compact_fc4(&mut set, &[], &[], &[], &[], HUGE, HUGE, 0), above);
     assert_eq!(fc2::true_transpose_compact_fc2(&mut set, &[], &[], &[], &[], HUGE, 2), above);
     assert_eq!(fc3::true_transpose_compact_fc3(&mut set, &[], &[], &[], &[], 1, HUGE, 0), above);

@@ -296,22 +296,28 @@ fn compact_sets() {
     compact!(fc4::set_permutation_symmetry_compact_fc4_with, set_permutation_symmetry_compact_fc4(), "fc4" C4, 1024, 64,);
     compact!(fc4::transpose_compact_fc4_with, transpose_compact_fc4(|_| 0), "fc4" C4, 16, 64,);
     compact!(fc4::true_transpose_compact_fc4_with, true_transpose_compact_fc4(|_| 0), "fc4" C4, 16, 64,);
-    beside(
-        "perm_trans_symmetrize_compact_fc3",
-        Input { drift: vec![7.0; 16 * 27], ..input(C3, 0, 128) },
-        vec![lengths!("fc3" set, "done" done, "drift" drift), of_tables!(256), counts!(1000: level)],
-        |w| {
-            let (v, num_trans) = (w.clone(), w.perms.len() / w.s2pp.len());
-            let (set, done, drift) = (&mut w.set, &mut w.done, &mut w.drift);
-            said(fc3::perm_trans_symmetrize_compact_fc3_with(
-                set, &v.p2s, &v.s2pp, &v.nsym_list, &v.perms, done, drift, v.n_satom, v.n_patom, num_trans, v.level,
-            ))
-        },
-        |w| {
-            let v = w.clone();
-            said(tables::perm_trans_symmetrize_compact_fc3(&mut w.set, &v.tables()?, &mut w.done, &mut w.drift, v.level))
-        },
-    );
+    macro_rules! without_drift {
+        ($module:ident::$name:ident, $layer:ident, $what:literal $len:expr, $done:expr, $drift:expr, $limit:literal) => {
+            beside(
+                stringify!($layer),
+                Input { drift: vec![7.0; $drift], ..input($len, 0, $done) },
+                vec![lengths!($what set, "done" done, "drift" drift), of_tables!($limit), counts!(1000: level)],
+                |w| {
+                    let (v, num_trans) = (w.clone(), w.perms.len() / w.s2pp.len());
+                    let (set, done, drift) = (&mut w.set, &mut w.done, &mut w.drift);
+                    said($module::$name(
+                        set, &v.p2s, &v.s2pp, &v.nsym_list, &v.perms, done, drift, v.n_satom, v.n_patom, num_trans, v.level,
+                    ))
+                },
+                |w| {
+                    let v = w.clone();
+                    said(tables::$layer(&mut w.set, &v.tables()?, &mut w.done, &mut w.drift, v.level))
+                },
+            )
+        };
+    }
+    without_drift!(fc3::perm_trans_symmetrize_compact_fc3_with, perm_trans_symmetrize_compact_fc3, "fc3" C3, 128, 16 * 27, 256);
+    without_drift!(fc4::perm_trans_symmetrize_compact_fc4_with, perm_trans_symmetrize_compact_fc4, "fc4" C4, 1024, 128 * 81, 64);
     compact!(fc4::swap_pairs_compact_fc4_with, swap_pairs_compact_fc4(|w| w.leg_a, |w| w.leg_b), "fc4" C4, 16, 64, indices!(IndexOutOfRange: leg_a 4, leg_b 4));
 }
 
@@ -383,6 +389,13 @@ fn full_sets() {
         vec![lengths!("fc3" full, "drift" drift), counts!(256: num_atom), counts!(1000: level)],
         |w| said(fc3::perm_trans_symmetrize_fc3_with(&mut w.full, &mut w.drift, w.num_atom, w.level)),
         |w| said(tables::perm_trans_symmetrize_fc3(&mut w.full, &mut w.drift, w.num_atom, w.level)),
+    );
+    beside(
+        "perm_trans_symmetrize_fc4",
+        Input { drift: vec![7.0; 64 * 81], ..input(0, 256 * 81, 256) },
+        vec![lengths!("fc4" full, "done" done, "drift" drift), counts!(64: num_atom), counts!(1000: level)],
+        |w| said(fc4::perm_trans_symmetrize_fc4_with(&mut w.full, &mut w.done, &mut w.drift, w.num_atom, w.level)),
+        |w| said(tables::perm_trans_symmetrize_fc4(&mut w.full, &mut w.done, &mut w.drift, w.num_atom, w.level)),
     );
     beside(
         "set_permutation_symmetry_fc4",

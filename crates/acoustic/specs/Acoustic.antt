@@ -75,6 +75,13 @@ abbrev pub judged_full_levels : ℕ → ℕ → ℕ → ℕ → ℕ → ℕ → 
 judged_full_levels limit m lenSet lenDrift n level =
     refuse_if (ltb limit_level level) CountAboveLimit (judged_full limit m lenSet ((lenDrift, drift_length n n m) ∷ []) n)
 
+-- the same with work bytes, which a full set of fourth order needs
+abbrev pub judged_full_work : ℕ → ℕ → ℕ → ℕ → ℕ → ℕ → Answer
+judged_full_work limit m lenSet lenDone lenDrift n = judged_full limit m lenSet ((lenDone, set_blocks n n m) ∷ ((lenDrift, drift_length n n m) ∷ [])) n
+
+abbrev pub judged_full_work_levels : ℕ → ℕ → ℕ → ℕ → ℕ → ℕ → ℕ → Answer
+judged_full_work_levels limit m lenSet lenDone lenDrift n level = refuse_if (ltb limit_level level) CountAboveLimit (judged_full_work limit m lenSet lenDone lenDrift n)
+
 module _ (limit m : ℕ) (mean : List Float → Float) (os : List (List ℕ)) (set : List Float) where
   unfoldable pub perm_trans_symmetrize_compact : ShiftTables → List ℕ → List Float → ℕ → Answer × List Float × List ℕ × List Float
   perm_trans_symmetrize_compact T done drift level =
@@ -90,3 +97,13 @@ module _ (limit m : ℕ) (mean : List Float → Float) (os : List (List ℕ)) (s
   perm_trans_symmetrize_full n drift level =
       let a = judged_full_levels limit m (length set) (length drift) n level in
       (a, after a (perm_trans_symmetrized mean (full_shifts n) m os level set) set, after a (replicate (length drift) plus_zero) drift)
+
+  -- and one of fourth order does
+  unfoldable pub perm_trans_symmetrize_full_work : ℕ → List ℕ → List Float → ℕ → Answer × List Float × List ℕ × List Float
+  perm_trans_symmetrize_full_work n done drift level =
+      let a = judged_full_work_levels limit m (length set) (length done) (length drift) n level in (
+        a,
+        after a (perm_trans_symmetrized mean (full_shifts n) m os level set) set,
+        after a (replicate (length done) 0) done,
+        after a (replicate (length drift) plus_zero) drift,
+      )

@@ -173,12 +173,12 @@ module _ (mean : List Float → Float) (S : Shifts) (m : ℕ) (os : List (List �
 -- ---- the calls
 
 module _ {A B C : Type 0} {a b : Answer} (new old : A) (clear work : B) (clear' work' : C) where
-  refused-both : a ≡ b → is_refusal a ≡ true → ◌≡◌ {A = Answer × A × B × C} (a, old, work, work') (b, after b new old, after b clear work, after b clear' work')
+  pub refused-both : a ≡ b → is_refusal a ≡ true → ◌≡◌ {A = Answer × A × B × C} (a, old, work, work') (b, after b new old, after b clear work, after b clear' work')
   refused-both e h =
       let g : is_refusal b ≡ true = sym (ap is_refusal e) ∙ h in
       rw (e, after_refusal b new old g, after_refusal b clear work g, after_refusal b clear' work' g)
 
-  done-both : {x : A} {y : B} {z : C} → a ≡ b → is_refusal a ≡ false → x ≡ new → y ≡ clear → z ≡ clear'
+  pub done-both : {x : A} {y : B} {z : C} → a ≡ b → is_refusal a ≡ false → x ≡ new → y ≡ clear → z ≡ clear'
       → ◌≡◌ {A = Answer × A × B × C} (Done, x, y, z) (b, after b new old, after b clear work, after b clear' work')
   done-both e h ex ey ez =
       let g : is_refusal b ≡ false = sym (ap is_refusal e) ∙ h in

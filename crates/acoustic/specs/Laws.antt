@@ -14,7 +14,7 @@ use Rattle.lists.specs.Elements.{Below}
 use Rattle.lists.specs.Digits.{horner, times_power, rest, digits, length_digits, digits-below, rest_below, horner-zero, in_row, quotient, remainder}
 use Rattle.blocks.specs.Block.{block, put_block, length-block, length-put_block, get_or-block, put-inside, put-outside, block_of_lem, inside, fits}
 use Rattle.tables.specs.Shifts.{Shifts, Laws, p2s_at}
-use Rattle.tables.specs.Limits.{limit3}
+use Rattle.tables.specs.Limits.{limit3, limit4}
 use Rattle.tables.specs.Conditions.{index_at}
 use Rattle.tables.specs.Compact.{ShiftTables, shifts_of, TablesFit, p2s_is}
 use Rattle.places.specs.Places.{size, in_block}
@@ -276,3 +276,72 @@ module _ (T : ShiftTables) where
       leg-made (shifts_of T) 2 leg old 27 (P * n) (P * n) in27 (ap (λ x. x * in_block 2) (sym (rows3 n P)) ∙ sym (size_blocks (shifts_of T) 2)) R.ready.set-length
       (λ b hb. rw (rows2 n P) at (other-below limit3 T (lit≤ tt) R.ready.fit R.ready.rules 1 leg b hl (rw (rows3 n P) hb)))
       work (R.room ∙ ap (λ x. x * in_block 2) (rows2 n P)) ed en
+
+-- ---- fourth order
+
+pub in81 : in_block 3 ≡ 81
+unfolding in_block times_power
+in81 = refl
+
+pub rows4 : (n p : ℕ) → times_power n 3 p ≡ p * n * n * n
+unfolding times_power
+rows4 n p = refl
+
+module _ (T : ShiftTables) where
+  abbrev satoms : ℕ
+  satoms = T.n_satom
+
+  abbrev stored_at : ℕ → List ℕ → ℕ
+  stored_at = stored_in satoms T.s2pp T.nsym_list T.perms
+
+  pub line4_is : (r : ℕ) {pj p i j ij k t : ℕ} → pj ≡ r / satoms → p ≡ pj / satoms → i ≡ index_at T.p2s p → j ≡ pj % satoms → ij ≡ i * satoms + j → k ≡ r % satoms → t ≡ ij * satoms + k
+      → t ≡ line_of (shifts_of T) 3 r
+  unfolding horner rest digits
+  line4_is r {pj} {p} {i} {j} eq ep ei ej eij ek et =
+      let x = p2s_at (shifts_of T) (r / satoms / satoms) in
+      let z : i ≡ 0 * satoms + x = ei ∙ p2s_is T p ∙ ap (p2s_at (shifts_of T)) (ep ∙ ap (λ y. y / satoms) eq) ∙ none x in
+      et ∙ ap₂ (λ ij k. ij * satoms + k) (eij ∙ ap₂ (λ i j. i * satoms + j) z (ej ∙ ap (λ y. y % satoms) eq)) ek
+    where
+      none : (x : ℕ) → x ≡ 0 * satoms + x
+      none x = omega arith
+
+  module _ (i j k l leg : ℕ) {q : ℕ} where
+    pub other4_0 : leg ≡ 0 → q ≡ stored_at j (k ∷ l ∷ []) → q ≡ block_of (shifts_of T) (without leg (i ∷ j ∷ k ∷ l ∷ []))
+    unfolding block_of without
+    other4_0 el e = e ∙ stored_in_lem T j (k ∷ l ∷ []) ∙ rw el refl
+
+    pub other4_1 : leg ≡ 1 → q ≡ stored_at i (k ∷ l ∷ []) → q ≡ block_of (shifts_of T) (without leg (i ∷ j ∷ k ∷ l ∷ []))
+    unfolding block_of without
+    other4_1 el e = e ∙ stored_in_lem T i (k ∷ l ∷ []) ∙ rw el refl
+
+    pub other4_2 : leg ≡ 2 → q ≡ stored_at i (j ∷ l ∷ []) → q ≡ block_of (shifts_of T) (without leg (i ∷ j ∷ k ∷ l ∷ []))
+    unfolding block_of without
+    other4_2 el e = e ∙ stored_in_lem T i (j ∷ l ∷ []) ∙ rw el refl
+
+    pub other4_3 : leg ≡ 3 → q ≡ stored_at i (j ∷ k ∷ []) → q ≡ block_of (shifts_of T) (without leg (i ∷ j ∷ k ∷ l ∷ []))
+    unfolding block_of without
+    other4_3 el e = e ∙ stored_in_lem T i (j ∷ k ∷ []) ∙ rw el refl
+
+  pub row4_is : (row l leg : ℕ) → l < satoms → {pj p i j k q : ℕ} → pj ≡ row / satoms → p ≡ pj / satoms → i ≡ index_at T.p2s p → j ≡ pj % satoms → k ≡ row % satoms
+      → q ≡ block_of (shifts_of T) (without leg (i ∷ j ∷ k ∷ l ∷ [])) → q ≡ other_block (shifts_of T) 3 leg (row * satoms + l)
+  unfolding rest digits
+  row4_is row l leg hl {pj} {p} eq ep ei ej ek e =
+      let b = row * satoms + l in
+      let u : row ≡ b / satoms = sym (quotient satoms row l hl) in
+      let v : l ≡ b % satoms = sym (remainder satoms row l hl) in
+      let w : pj ≡ b / satoms / satoms = eq ∙ ap (λ x. x / satoms) u in
+      e ∙ ap (λ ks. block_of (shifts_of T) (without leg ks))
+      (four (ei ∙ p2s_is T p ∙ ap (p2s_at (shifts_of T)) (ep ∙ ap (λ x. x / satoms) w)) (ej ∙ ap (λ x. x % satoms) w) (ek ∙ ap (λ x. x % satoms) u) v)
+    where
+      four : {a b c d a' b' c' d' : ℕ} → a ≡ a' → b ≡ b' → c ≡ c' → d ≡ d' → a ∷ b ∷ c ∷ d ∷ [] ≡ a' ∷ b' ∷ c' ∷ d' ∷ []
+      four e f g h = cc
+
+  -- one leg done
+  pub leg4_made : (leg : ℕ) → leg ≤ 3 → (old work : List Float) → Room limit4 3 (length old) (length work) T → {drift new : List Float}
+      → drift ≡ times (T.n_patom * satoms * satoms) (drift_put (shifts_of T) 3 leg 81 old (inverse satoms)) work → new ≡ times (T.n_patom * satoms * satoms) (row_less (shifts_of T) 3 leg 81 drift) old
+      → new ≡ without_drift (shifts_of T) 3 leg old
+  leg4_made leg hl old work R ed en =
+      let P = T.n_patom in
+      leg-made (shifts_of T) 3 leg old 81 (P * satoms * satoms) (P * satoms * satoms) in81 (ap (λ x. x * in_block 3) (sym (rows4 satoms P)) ∙ sym (size_blocks (shifts_of T) 3)) R.ready.set-length
+      (λ b hb. rw (rows3 satoms P) at (other-below limit4 T (lit≤ tt) R.ready.fit R.ready.rules 2 leg b hl (rw (rows4 satoms P) hb)))
+      work (R.room ∙ ap (λ x. x * in_block 3) (rows3 satoms P)) ed en

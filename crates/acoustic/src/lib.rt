@@ -1,6 +1,9 @@
 // Sets of third and fourth order without drift and alike: the mean over each leg's atom is taken off, then the set is symmetrized, level by level.
 #![tactic(auto)]
 
+pub mod fourth;
+pub mod fourth_compact;
+pub mod fourth_full;
 pub mod third;
 pub mod third_compact;
 pub mod third_full;

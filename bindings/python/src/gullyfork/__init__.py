@@ -14,7 +14,7 @@ lent by name.
 Calls, by what they do (the number is the order):
 
     symmetrize      perm_trans_symmetrize_fc, perm_trans_symmetrize_compact_fc, set_index_permutation_symmetry_compact_fc (2);
-                    perm_trans_symmetrize_fc3, perm_trans_symmetrize_compact_fc3 (without drift);
+                    perm_trans_symmetrize_fc3, .._fc4, perm_trans_symmetrize_compact_fc3, .._fc4 (without drift);
                     set_permutation_symmetry_fc3, .._fc4, set_permutation_symmetry_compact_fc3, .._fc4
     exchange atoms  true_transpose_compact_fc2, .._fc3, .._fc4, swap_pairs_compact_fc4 (any two of four); as phonopy and phono3py have
                     it, half shifts left out: transpose_compact_fc3, .._fc4
@@ -68,8 +68,9 @@ from .fc3 import (
     true_transpose_compact_fc3,
 )
 from .fc4 import (
-    compact_to_full_fc4, distribute_fc4, rotate_delta_fc3s, set_permutation_symmetry_compact_fc4, set_permutation_symmetry_fc4,
-    swap_pairs_compact_fc4, transpose_compact_fc4, true_transpose_compact_fc4,
+    compact_to_full_fc4, distribute_fc4, perm_trans_symmetrize_compact_fc4, perm_trans_symmetrize_fc4, rotate_delta_fc3s,
+    set_permutation_symmetry_compact_fc4, set_permutation_symmetry_fc4, swap_pairs_compact_fc4, transpose_compact_fc4,
+    true_transpose_compact_fc4,
 )
 from .report import (
     CrystalReport, LegSums, Report, crystal_report_compact_fc2, crystal_report_compact_fc3, crystal_report_compact_fc4,
@@ -93,9 +94,10 @@ __all__ = [
     "difference_report_compact_fc2", "difference_report_compact_fc3", "difference_report_compact_fc4", "difference_report_fc2",
     "difference_report_fc3", "difference_report_fc4", "distribute_fc2", "distribute_fc3", "distribute_fc4", "drift_report",
     "drift_report_compact_fc2", "drift_report_compact_fc3", "drift_report_compact_fc4", "drift_report_fc3", "drift_report_fc4",
-    "explain_shift_tables", "fc2", "fc3", "fc4", "files", "find_permutation", "is_roll", "is_roll_former", "nint", "perm_trans_symmetrize_compact_fc",
-    "perm_trans_symmetrize_compact_fc3", "perm_trans_symmetrize_fc", "perm_trans_symmetrize_fc3", "picture", "read_roll", "read_roll_former", "replace_block_fc2", "retire_all", "roll",
-    "rotate_delta_fc2s", "rotate_delta_fc3s", "row_sums_fc2", "same_set", "set_difference",
+    "explain_shift_tables", "fc2", "fc3", "fc4", "files", "find_permutation", "is_roll", "is_roll_former", "nint",
+    "perm_trans_symmetrize_compact_fc", "perm_trans_symmetrize_compact_fc3", "perm_trans_symmetrize_compact_fc4",
+    "perm_trans_symmetrize_fc", "perm_trans_symmetrize_fc3", "perm_trans_symmetrize_fc4", "picture", "read_roll", "read_roll_former",
+    "replace_block_fc2", "retire_all", "roll", "rotate_delta_fc2s", "rotate_delta_fc3s", "row_sums_fc2", "same_set", "set_difference",
     "set_index_permutation_symmetry_compact_fc", "set_permutation_symmetry_compact_fc3", "set_permutation_symmetry_compact_fc4",
     "set_permutation_symmetry_fc3", "set_permutation_symmetry_fc4", "sqrt", "stands_now", "swap_pairs_compact_fc4", "tables",
     "transpose_compact_fc3", "transpose_compact_fc4", "true_transpose_compact_fc2", "true_transpose_compact_fc3",

@@ -122,21 +122,8 @@ def sums(fc: Doubles, tables: Optional[Tables], leg: int) -> Doubles:
     return sums(other, tables, last)
 
 
-def _without_drift(fc: Doubles, tables: Optional[Tables]) -> None:
-    """Takes the mean over each leg's atom off every number of a set of fourth order, in place: by numpy, not proved."""
-    last = fc.ndim // 2 - 1
-    for leg in range(last + 1):
-        if leg == 0 and tables is not None:  # the first atom of a compact set is not every atom: the two are exchanged and back
-            swap(fc, tables, 0, last)
-            fc -= fc.mean(axis=last, keepdims=True)
-            swap(fc, tables, 0, last)
-        else:
-            fc -= fc.mean(axis=leg, keepdims=True)
-
-
 def symmetrized(fc: Doubles, tables: Optional[Tables], level: int) -> Doubles:
-    """A copy without drift and alike under exchange, by the proved calls; at fourth order the means over the legs are numpy's. level: of second
-    order; above it one level leaves rounding alone."""
+    """A copy without drift and alike under exchange, by the proved calls. level: of second order; above it one level leaves rounding alone."""
     order = fc.ndim // 2
     if order == 2:
         out = fc.copy() if tables is None else gf.compact_to_full_fc2(fc, tables)
@@ -147,17 +134,10 @@ def symmetrized(fc: Doubles, tables: Optional[Tables], level: int) -> Doubles:
         gf.set_index_permutation_symmetry_compact_fc(out, tables, False)
         return out
     out = fc.copy()
-    if order == 3:
-        if tables is None:
-            gf.perm_trans_symmetrize_fc3(out)
-        else:
-            gf.perm_trans_symmetrize_compact_fc3(out, tables)
-        return out
-    _without_drift(out, tables)
     if tables is None:
-        gf.set_permutation_symmetry_fc4(out)
+        (gf.perm_trans_symmetrize_fc3 if order == 3 else gf.perm_trans_symmetrize_fc4)(out)
     else:
-        gf.set_permutation_symmetry_compact_fc4(out, tables)
+        (gf.perm_trans_symmetrize_compact_fc3 if order == 3 else gf.perm_trans_symmetrize_compact_fc4)(out, tables)
     return out
 
 

@@ -286,10 +286,9 @@ def _highest(s: Subject) -> Seen:
 def _symmetrizing(s: Subject) -> Seen:
     s.symmetrized = look.symmetrized(s.fc, s.whole(), s.level)
     change = gf.set_difference(s.symmetrized, s.fc)
-    by = "proved; the drift by numpy" if s.order == 4 else None
     if change.place is None:
-        return Seen(0.0, "no number would change", by)
-    return Seen(s.part(change.value), f"a number would change by {change.value:.3e} at most, at {look.place(change.place, s.order)}", by)
+        return Seen(0.0, "no number would change")
+    return Seen(s.part(change.value), f"a number would change by {change.value:.3e} at most, at {look.place(change.place, s.order)}")
 
 
 def _none(_: Bounds) -> Optional[float]:

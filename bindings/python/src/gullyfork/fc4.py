@@ -6,16 +6,17 @@ from typing import TYPE_CHECKING, Optional
 import numpy as np
 
 from . import _arrays
-from ._compact import compact, full_set
+from ._compact import compact, full_set, without_drift
 from ._deltas import distribute, rotate
 from ._refused import LIMITS
-from ._run import memory, room, run
+from ._run import both, memory, room, run
 
 if TYPE_CHECKING:
     from ._types import ArrayLike, Bytes, Doubles, TablesLike
 
-__all__ = ["compact_to_full_fc4", "distribute_fc4", "rotate_delta_fc3s", "set_permutation_symmetry_compact_fc4",
-           "set_permutation_symmetry_fc4", "swap_pairs_compact_fc4", "transpose_compact_fc4", "true_transpose_compact_fc4"]
+__all__ = ["compact_to_full_fc4", "distribute_fc4", "perm_trans_symmetrize_compact_fc4", "perm_trans_symmetrize_fc4", "rotate_delta_fc3s",
+           "set_permutation_symmetry_compact_fc4", "set_permutation_symmetry_fc4", "swap_pairs_compact_fc4", "transpose_compact_fc4",
+           "true_transpose_compact_fc4"]
 
 
 def set_permutation_symmetry_fc4(fc4: Doubles, *, work: Optional[Bytes] = None) -> None:
@@ -73,6 +74,77 @@ def set_permutation_symmetry_compact_fc4(fc4: Doubles, tables: TablesLike, *, wo
     1.0
     """
     compact("set_permutation_symmetry_compact_fc4", fc4, 4, tables, 4, work)
+
+
+def perm_trans_symmetrize_fc4(fc4: Doubles, level: int = 1, *, work: Optional[Bytes] = None, drift: Optional[Doubles] = None) -> None:
+    """Symmetrize a full set in place: acoustic sum rule and index permutation.
+
+    Of each leg in turn the mean over its atom is taken off every number, and then the 24 permutations of any four (atom, direction)
+    pairs get their mean, `level` times. One level leaves sums of the size of rounding. Level 0 is `set_permutation_symmetry_fc4`.
+
+    Parameters
+    ----------
+    fc4 : ndarray of float64, shape (n, n, n, n, 3, 3, 3, 3)
+        The set, changed in place.
+    level : int
+        How often.
+    work : ndarray of uint8, shape (n**4,), optional
+        Memory to work in.
+    drift : ndarray of float64, shape (n**3 * 81,), optional
+        Memory to work in.
+
+    Raises
+    ------
+    Refused
+        1: more than 64 atoms, or a level above 1,000; 2.
+
+    Examples
+    --------
+    >>> from gullyfork import drift_report_fc4
+    >>> fc4 = np.random.default_rng(1).standard_normal((2,) * 4 + (3,) * 4)
+    >>> perm_trans_symmetrize_fc4(fc4)
+    >>> drift_report_fc4(fc4).value < 1e-14
+    True
+    """
+    n = _arrays.full(fc4, "fc4", 4)
+    atoms = room((n, LIMITS[4]))
+    slices = both(memory("done", work, "work", atoms**4, np.uint8), memory("drift", drift, "drift", atoms**3 * 81))
+    run("perm_trans_symmetrize_fc4", 4, changed={"fc4": (fc4, (n,) * 4 + (3,) * 4)}, **slices, values={"num_atom": n, "level": level})
+
+
+def perm_trans_symmetrize_compact_fc4(fc4: Doubles, tables: TablesLike, level: int = 1, *, work: Optional[Bytes] = None,
+                                      drift: Optional[Doubles] = None) -> None:
+    """Symmetrize a compact set in place: acoustic sum rule and index permutation.
+
+    The steps of `perm_trans_symmetrize_fc4`, with the sums over all atoms of the supercell of what the set reads out to.
+
+    Parameters
+    ----------
+    fc4 : ndarray of float64, shape (n_patom, n_satom, n_satom, n_satom, 3, 3, 3, 3)
+        The set, changed in place.
+    tables : Tables, or p2s, s2pp, nsym_list and perms
+    level : int
+        How often.
+    work : ndarray of uint8, shape (n_patom * n_satom**3,), optional
+        Memory to work in.
+    drift : ndarray of float64, shape (n_patom * n_satom**2 * 81,), optional
+        Memory to work in.
+
+    Raises
+    ------
+    Refused
+        1: a count above 64, or a level above 1,000; 2; 3; 6: the tables break a rule.
+
+    Examples
+    --------
+    >>> from gullyfork import drift_report_compact_fc4
+    >>> tables = [0], [0, 0, 0], [0, 2, 1], [[0, 1, 2], [1, 2, 0], [2, 0, 1]]
+    >>> fc4 = np.random.default_rng(1).standard_normal((1, 3, 3, 3, 3, 3, 3, 3))
+    >>> perm_trans_symmetrize_compact_fc4(fc4, tables)
+    >>> drift_report_compact_fc4(fc4, tables).value < 1e-14
+    True
+    """
+    without_drift("perm_trans_symmetrize_compact_fc4", fc4, 4, tables, level, work, drift)
 
 
 def transpose_compact_fc4(fc4: Doubles, tables: TablesLike, t_type: int, *, work: Optional[Bytes] = None) -> None:
