@@ -18,7 +18,7 @@ use mir.Val.{to_z, of_z}
 use mir.ValLaws.{to_z_pos, to_z-of_z}
 use Rattle.common.specs.Whole.{half_up, nearest_whole, nint}
 use Rattle.common.specs.Laws.Fields.{units_of, sign_of, field_of, digits_of, digits_lt, value_of, own_bits, of_bits_is, top-value, field_lt, lt_or_le}
-use Rattle.common.specs.Laws.Wholes.{at_bits, at_field, whole_already, signed-whole}
+use Rattle.common.proofs.Wholes.{at_bits, at_field, whole_already, signed-whole}
 
 -- n with the sign s
 abbrev pub signed : Bool → ℕ → ℤ

@@ -1,3 +1,9 @@
 pub mod Halves
 pub mod Integers
 pub mod RootCases
+pub mod Wholes
+pub mod NearestWholeLaws
+pub mod RootLaws
+pub mod Rounding
+pub mod Closest
+pub mod NearestRootLaws

@@ -1,7 +1,4 @@
 -- What the theorems of NearestWhole.antt and NearestRoot.antt and the proofs of the code rest on. No promise of a call is said here.
 pub mod Fields
 pub mod Squares
-pub mod Wholes
-pub mod Rounding
 pub mod Roots
-pub mod Closest

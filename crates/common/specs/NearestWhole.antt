@@ -12,7 +12,6 @@ use Rattle.std.specs.Float.Ieee.Scale.{finite}
 use Rattle.std.specs.Float.Ieee.Back.{whole_unique}
 use Rattle.common.specs.Whole.{half_up, nearest_whole, nint}
 use Rattle.common.specs.Laws.Fields.{negative}
-use Rattle.common.specs.Laws.Wholes.{half_nearest, half-away, whole-exact, signed-whole}
 
 -- how far a and b are apart
 abbrev pub gap : ℕ → ℕ → ℕ
@@ -44,55 +43,6 @@ pub record NearestInteger (x : Float) (z : ℤ) : Type 0 where
   pub above : negative x ≡ false → 2 ^ 63 ≤ size → z ≡ pos (2 ^ 63 - 1)
   pub below : negative x ≡ true → 2 ^ 63 ≤ size → z ≡ neg_ℤ (pos (2 ^ 63))
 
--- ---- what a whole float is as an integer
--- the smaller of two numbers
-low_min : (n k : ℕ) → n ≤ k → min n k ≡ n
-low_min n k h = omega arith
-
-high-min : (n k : ℕ) → k ≤ n → min n k ≡ k
-high-min n k h = omega arith
-
--- what a float of the size n and the sign of x is, by the sign
-integer_of : (x v : Float) (n : ℕ) (s : Bool) → negative x ≡ s → NearestSize x n → HasValue v s n 1 → NearestInteger x (to_signed 63 v)
-integer_of x v n true q c h =
-    let e = signed-whole v true n h in
-    record {
-      size = n;
-      closest = c;
-      plus = λ t. absurd (true≢false (sym q ∙ t));
-      minus = λ _ l. e ∙ ap (λ (z : ℕ). neg_ℤ (pos z)) (low_min n (2 ^ 63) l);
-      above = λ t. absurd (true≢false (sym q ∙ t));
-      below = λ _ l. e ∙ ap (λ (z : ℕ). neg_ℤ (pos z)) (high-min n (2 ^ 63) l);
-    }
-integer_of x v n false q c h =
-    let e = signed-whole v false n h in
-    record {
-      size = n;
-      closest = c;
-      plus = λ _ l. e ∙ ap pos (low_min n (2 ^ 63 - 1) (omega arith));
-      minus = λ t. absurd (false≢true (sym q ∙ t));
-      above = λ _ l. e ∙ ap pos (high-min n (2 ^ 63 - 1) (omega arith));
-      below = λ t. absurd (false≢true (sym q ∙ t));
-    }
-
-rounded_fits : (x : Float) → T (fits binary64 x) → T (fits binary64 (nearest_whole x))
-unfolding nearest_whole
-rounded_fits nan F = F
-rounded_fits (inf s) F = F
-rounded_fits (fin s m e) F = round-fits binary64 s (half_up (m * up e) (down e)) 1
-
--- ---- the definitions are these
--- For every finite f64 the definition gives the nearest whole number.
-pub whole_is_nearest : (x : Float) → T (fits binary64 x) → T (finite x) → NearestWhole x (nearest_whole x)
-whole_is_nearest nan F h = absurd h
-whole_is_nearest (inf s) F h = absurd h
-whole_is_nearest (fin s m e) F h = record {
-  held = rounded_fits (fin s m e) F;
-  size = half_up (m * up e) (down e);
-  whole = whole-exact s m e F;
-  closest = record { nearest = half_nearest (m * up e) (down e) (down_pos e); away = half-away (m * up e) (down e) (down_pos e) };
-}
-
 -- No other f64 is: `NearestWhole` says which one it is, bit for bit.
 pub nearest_whole_unique : (x r s : Float) → NearestWhole x r → NearestWhole x s → r ≡ s
 nearest_whole_unique x r s h k =
@@ -109,11 +59,6 @@ whole_of_nan = refl
 pub whole_of_infinity : (s : Bool) → nearest_whole (inf s) ≡ inf s
 unfolding nearest_whole
 whole_of_infinity s = refl
-
--- For every finite f64 `nint` gives the nearest whole number as an i64, beyond an i64 the nearest end.
-pub nint_is_nearest : (x : Float) → T (fits binary64 x) → T (finite x) → NearestInteger x (nint x)
-unfolding nint
-nint_is_nearest x F p = let h = whole_is_nearest x F p in integer_of x (nearest_whole x) h.size (negative x) refl h.closest h.whole
 
 pub nint_of_nan : nint nan ≡ pos 0
 unfolding nint to_signed

@@ -17,7 +17,7 @@ use lib.Ieee.Positive.{first_pos}
 use borrow.Author.Tests.{ltb-true, lt-ltb, eq-eqb, ne_eqb}
 use Rattle.lists.specs.Cases.{eq_or_ne, lt_or_le}
 use Rattle.common.specs.Root.{root, rounded_root, sqrt}
-use Rattle.common.specs.RootLaws.{root_is}
+use Rattle.common.proofs.RootLaws.{root_is}
 use Rattle.distances.specs.Reach.{is_positive}
 use Rattle.distances.proofs.Rounded.{le_cross, round_plus}
 

@@ -16,7 +16,8 @@ use lib.Ieee.Exact.{HasValue}
 use lib.Ieee.Order.{round_mono}
 use lib.Ieee.Scale.{finite}
 use Rattle.common.specs.Whole.{nearest_whole}
-use Rattle.common.specs.NearestWhole.{gap, whole_is_nearest}
+use Rattle.common.specs.NearestWhole.{gap}
+use Rattle.common.proofs.NearestWholeLaws.{whole_is_nearest}
 use Rattle.common.specs.Root.{rounded_root, sqrt}
 use Rattle.distances.specs.declared.Distance.TheVariants.{Near, Far, NoNumber}
 use Rattle.distances.specs.Near.{wrapped, difference, dot, squares, classified}

@@ -13,7 +13,8 @@ use lib.Ieee.Fits.{down_pos}
 use borrow.Author.Tests.{le-ltb}
 use Rattle.lists.specs.Tests.{not-both}
 use Rattle.common.specs.Root.{root, rounded_root, sqrt}
-use Rattle.common.specs.RootLaws.{WholeRoot, root_is}
+use Rattle.common.specs.RootLaws.{WholeRoot}
+use Rattle.common.proofs.RootLaws.{root_is}
 use Rattle.distances.specs.Reach.{is_positive}
 use Rattle.distances.proofs.Rounded.{scaled, no-finer, round_plus, rounds_above}
 

@@ -262,14 +262,6 @@ whole-block m e =
     let g : k < 9 = subst (λ (n : ℕ). k < n) (length-block 9 0 m) h in
     get_or-block 9 0 m k g ∙ ap (λ i. get_or m i nan) (zero-add k))
 
--- the loops over the atoms fill the target slab with rotated blocks
-pub loops_distribute : (mapping : List ℤ) (rotation : List Float) (n k target source F : ℕ) (fc : List Float) → 0 < 3 ^ suc k
-    → ((i : ℕ) → i < n → index_at mapping i < n) → length fc ≡ times_power n k F * 3 ^ suc k → target < F → source < F → (target ≡ source → ⊥)
-    → move mapping n (3 ^ suc k) (rotated rotation (suc k)) k target source fc ≡ distributed mapping rotation n k target source fc
-loops_distribute mapping rotation n k target source F fc hw images len ht hs ne =
-    slab_moved mapping n (3 ^ suc k) k target source F (rotated rotation (suc k)) fc images len ht hs ne hw
-    ∙ slab_distributed mapping rotation n k target source F fc hw len
-
 -- ---- the guard and the call
 
 pub record Ready (limit k lengthFc : ℕ) (mapping : List ℤ) (n lengthRotation F target source : ℕ) : Type 0 where

@@ -13,9 +13,9 @@ use Rattle.blocks.specs.Block.{put_block}
 use Rattle.lines.specs.Sums3x3.{Sums, balance, inverse}
 use Rattle.lines.specs.Lines.{Sized, Inside, RowOf, row_of, pair_at, row_drifts, others, balance_at, balances}
 use Rattle.orbits.specs.TrueTransposes.{swapped}
-use Rattle.fc2_compact.specs.Passes.{transposed, averaged_compact, without_row_drift_compact, on_site}
+use Rattle.fc2_compact.specs.Passes.{transposed, without_row_drift_compact, on_site}
 use Rattle.fc2_compact.specs.DriftLaws.{drift_made, site_made}
-use Rattle.fc2_compact.specs.Visits.{mate, swap_at, transpose_visit, average_visit, mate_is, mate-at, mate-below, transpose_past, average_past, transpose_stays, transpose_put, average_put, transpose_made, average_made}
+use Rattle.fc2_compact.specs.Visits.{mate, swap_at, transpose_visit, average_visit, mate_is, mate-at, mate-below, transpose_past, average_past, transpose_stays, transpose_put, average_put, transpose_made}
 
 -- tables that passed the guard, and a set of the stated length
 pub record Ready (T : ShiftTables) (len : ℕ) : Type 0 where
@@ -141,9 +141,6 @@ module _ (T : ShiftTables) (l : List Float) (p i j : ℕ) (r : ReadyAt T (length
 module _ {T : ShiftTables} (l : List Float) (r : Ready T (length l)) where
   pub transpose_all : (h : Bool) → times T.n_patom (λ p. times T.n_satom (transpose_visit h (shifts_of T) p)) l ≡ cond h (transposed (shifts_of T) l) (swapped (shifts_of T) 1 (0, 1) l)
   transpose_all h = transpose_made (shifts_of T) r.rules l r.has h
-
-  pub average_all : times T.n_patom (λ p. times T.n_satom (average_visit (shifts_of T) p)) l ≡ averaged_compact (shifts_of T) l
-  average_all = average_made (shifts_of T) r.rules l r.has
 
   pub drift_all : row_drifts T.n_patom T.n_satom (inverse T.n_satom) l ≡ without_row_drift_compact (shifts_of T) l
   drift_all = drift_made (shifts_of T) l r.has

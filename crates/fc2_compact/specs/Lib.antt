@@ -7,4 +7,3 @@ pub mod DriftLaws
 pub mod Visits
 pub mod Code
 pub mod DoubleLaws
-pub mod MeanLaws

@@ -14,7 +14,7 @@ use Rattle.std.proofs.lemmas.Bool.{lt-leb}
 use Rattle.lists.specs.Cases.{lt_or_le, eq_or_ne}
 use Rattle.lists.specs.Tests.{same_test, not-both}
 use Rattle.common.specs.Whole.{half_up, nearest_whole}
-use Rattle.common.specs.Laws.Wholes.{half_up-same, half_up-whole}
+use Rattle.common.proofs.Wholes.{half_up-same, half_up-whole}
 use Rattle.grid.specs.Grid.{on_grid}
 
 -- 2^20 and -2^20, as the code writes them

@@ -32,7 +32,7 @@ use Rattle.fc2.specs.Full.{full_entry, off_site_sum, pair_averages, on_site_bloc
 use Rattle.fc2.specs.Full as full
 use Rattle.fc2_compact.specs.Passes.{averaged_compact, on_site}
 use Rattle.fc2_compact.specs.Passes as passes
-use Rattle.fc2_compact.specs.MeanLaws.{symmetric}
+use Rattle.fc2_compact.proofs.MeanLaws.{symmetric}
 use Rattle.fc2_compact.specs.Compact.{judged2, judged_levels, leveled, set_index_permutation_symmetry_compact_fc, perm_trans_symmetrize_compact_fc}
 use Rattle.fc2_compact.specs.Compact as compact
 use Rattle.audits.specs.declared.Audit.TheVariants.{Alike}

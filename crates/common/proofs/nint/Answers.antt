@@ -8,7 +8,7 @@ use lib.IntN.{pos, neg_ℤ}
 use lib.Ieee.{binary64, fits, to_bits}
 use Rattle.common.specs.Whole.{nint}
 use Rattle.common.specs.Laws.Fields.{sign_of}
-use Rattle.common.specs.Laws.Wholes.{no_nan}
+use Rattle.common.proofs.Wholes.{no_nan}
 use Rattle.common.proofs.Integers.{signed, large_size, nint_nan, nint-small, nint-large, large_lt, nint_end, plus_is, minus-small, minus-out}
 use Rattle.common.proofs.nint.Goals as goal
 use Rattle.common.proofs.nint.Goals.{Joined-e-lt1075, then-e-lt1075, else-e-lt1075}

@@ -9,7 +9,7 @@ use lib.Ieee.Bits.{to_bits-lt}
 use mir.Syntax.{w64}
 use mir.Val.{to_z}
 use mir.ValLaws.{to_z_pos}
-use Rattle.common.specs.Laws.Wholes.{whole_already, at_bits, v-small, v-number, v-signed, v_pattern, nan_kept, no_nan}
+use Rattle.common.proofs.Wholes.{whole_already, at_bits, v-small, v-number, v-signed, v_pattern, nan_kept, no_nan}
 use Rattle.common.proofs.round.Goals as goal
 use Rattle.common.proofs.round.Goals.{After-whole_size}
 

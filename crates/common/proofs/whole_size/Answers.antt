@@ -4,7 +4,7 @@ use Prim.Native.Nat.{◌+◌, ◌-◌, ◌^◌, ◌≤◌, ◌<◌}
 use native.Mathlib.Nat.{div-le_self}
 use native.Mathlib.Omega.{arith}
 use Rattle.common.specs.Laws.Fields.{field_of, digits_of, digits_lt}
-use Rattle.common.specs.Laws.Wholes.{half_at_lem}
+use Rattle.common.proofs.Wholes.{half_at_lem}
 use Rattle.common.proofs.whole_size.Goals as goal
 use Rattle.common.proofs.whole_size.Goals.{then-e-lt1011, else-e-lt1011}
 

@@ -6,7 +6,8 @@ use Rattle.blocks.specs.Block.{put_block}
 use Rattle.lines.specs.Sums3x3.{zeros}
 use Rattle.lines.specs.Lines.{line_sums, row-start, run_line}
 use Rattle.row_sums.specs.RowSums.{flat_sums}
-use Rattle.row_sums.specs.RowLaws.{row_at, rows_make}
+use Rattle.row_sums.specs.RowLaws.{row_at}
+use Rattle.row_sums.proofs.RowLaws.{rows_make}
 use Rattle.row_sums.proofs.sum_rows.Goals as goal
 
 pub loop-i-init : goal.loop-i-init

@@ -1,6 +1,6 @@
 use native.Mathlib.Omega.{arith}
 use Rattle.common.specs.Laws.Fields.{no_nan_bits}
-use Rattle.common.specs.Laws.Wholes.{no_nan}
+use Rattle.common.proofs.Wholes.{no_nan}
 use Rattle.common.proofs.root.guess.Goals as goal
 
 pub float_from_bits-v : goal.float_from_bits-v

@@ -1,6 +1,6 @@
 use native.Mathlib.Omega.{arith}
 use Rattle.common.specs.Laws.Fields.{no_nan_bits}
-use Rattle.common.specs.Laws.Rounding.{rad_lt, r_le, root_pattern}
+use Rattle.common.proofs.Rounding.{rad_lt, r_le, root_pattern}
 use Rattle.common.proofs.root.root_float.Goals as goal
 
 pub root54-r-requires-clause-fact_2 : goal.root54-r-requires-clause-fact_2

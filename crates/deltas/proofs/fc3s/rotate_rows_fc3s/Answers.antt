@@ -5,7 +5,8 @@ use lib.Dec.{lit<}
 use lib.ListN.{length}
 use Rattle.lists.specs.Tab.{times, times_none, times_more}
 use Rattle.deltas.specs.RotateDelta.{Deltas, deltas_of}
-use Rattle.deltas.specs.Rows.{add_pair, rows_all}
+use Rattle.deltas.specs.Rows.{add_pair}
+use Rattle.deltas.proofs.RowsLaws.{rows_all}
 use Rattle.deltas.proofs.fc3s.rotate_rows_fc3s.Goals as goal
 
 pub loop-i-init : goal.loop-i-init

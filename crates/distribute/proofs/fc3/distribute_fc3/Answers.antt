@@ -6,7 +6,8 @@ use Rattle.tables.specs.Answers.{is_refusal, is_done}
 use Rattle.tables.specs.Conditions.{read}
 use Rattle.tables.specs.Lengths.{set-blocks}
 use Rattle.rotations.specs.Rotation.{coefficients}
-use Rattle.distribute.specs.SlabLaws.{whole-block, loops_distribute, ready, refused, done_call}
+use Rattle.distribute.specs.SlabLaws.{whole-block, ready, refused, done_call}
+use Rattle.distribute.proofs.LoopLaws.{loops_distribute}
 use Rattle.blocks.specs.Inside.{inside_slab}
 use Rattle.distribute.proofs.fc3.distribute_fc3.Goals as goal
 

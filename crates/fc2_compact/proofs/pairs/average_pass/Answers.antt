@@ -1,7 +1,8 @@
 use mathlib.Core.Path.{◌≡◌, refl, ◌∙◌}
 use native.Mathlib.Omega.{arith}
 use Rattle.lists.specs.Tab.{times_none, times_more}
-use Rattle.fc2_compact.specs.Code.{ready-same, average_all}
+use Rattle.fc2_compact.specs.Code.{ready-same}
+use Rattle.fc2_compact.proofs.CodeLaws.{average_all}
 use Rattle.fc2_compact.proofs.pairs.average_pass.Goals as goal
 
 pub loop-p-init : goal.loop-p-init

@@ -15,7 +15,8 @@ use Rattle.std.specs.Float.Ieee.Bits.{of_bits-fits}
 use Rattle.std.specs.Float.Ieee.Exact.{HasValue, units_val}
 use Rattle.std.specs.Float.Ieee.Nearest.{closest}
 use Rattle.common.specs.Root.{root, rounded_root}
-use Rattle.common.specs.RootLaws.{WholeRoot, root_is}
+use Rattle.common.specs.RootLaws.{WholeRoot}
+use Rattle.common.proofs.RootLaws.{root_is}
 use Rattle.common.specs.Laws.Fields.{units_of, sign_of, field_of, digits_of, bits-value, lt_or_le, same-value}
 use Rattle.common.specs.Laws.Squares.{root_lt, square_mono}
 

@@ -12,10 +12,11 @@ use Rattle.std.specs.Float.Ieee.Fits.{round-fits, and_r}
 use Rattle.std.specs.Float.Ieee.Scale.{finite}
 use Rattle.std.specs.Float.Ieee.Positive.{num, den, positive, above, den_pos, value→cross, positive_of_value, positive-finite}
 use Rattle.common.specs.Root.{root, rounded_root, sqrt}
-use Rattle.common.specs.RootLaws.{WholeRoot, root_is}
+use Rattle.common.specs.RootLaws.{WholeRoot}
+use Rattle.common.proofs.RootLaws.{root_is}
 use Rattle.common.specs.Laws.Fields.{negative, units_of, sign_of, field_of, digits_of, digits_lt, value_of, field_in, lt_or_le, same-value}
 use Rattle.common.specs.Laws.Squares.{square_mono, square_strict}
-use Rattle.common.specs.Laws.Rounding.{odd_square, twice-even, halved, rad, r_ge, r_le as r-le', whole, root_pattern, pattern_value}
+use Rattle.common.proofs.Rounding.{odd_square, twice-even, halved, rad, r_ge, r_le as r-le', whole, root_pattern, pattern_value}
 use Rattle.common.specs.Laws.Roots.{pow_lt_back, positive_at, at_normal, up_by, whole-shift, subnormal_units, at_subnormal, normal_units, value}
 
 -- ---- a value of the format that is 2 ^ (52 + k) units or more is a multiple of 2 ^ k units

@@ -1,0 +1,2 @@
+pub mod RightLaws
+pub mod RowLaws
