@@ -98,7 +98,7 @@ module _ (T : ShiftTables) (w m : ℕ) (set : List Float) where
       sym (stored-read n T.s2pp T.nsym_list T.perms i (digits n m q)) ∙ stored_in_lem T i (digits n m q)
       ∙ sym (ap₂ (stored_block (shifts_of T)) (rest_at n m i q hq) (digits-at n m i q hq (omega arith)))
 
-  rows-flat : (full : List Float) → copy_rows T.s2pp T.nsym_list T.perms n w m set full ≡ times (times_power n m n) (copy_at (shifts_of T) m w set) full
+  pub rows-flat : (full : List Float) → copy_rows T.s2pp T.nsym_list T.perms n w m set full ≡ times (times_power n m n) (copy_at (shifts_of T) m w set) full
   unfolding copy_rows copy_at
   rows-flat full =
       let R = times_power n m 1 in
@@ -185,10 +185,3 @@ module _ (S : Shifts) (L : Laws S) (m : ℕ) (set : List Float) where
         let s = stages nan full key new (times_power S.n_satom m S.n_satom) (copy_at S m w set) turn in
         is_tab nan (size W m) new (times (times_power S.n_satom m S.n_satom) (copy_at S m w set) full) (s.long ∙ l)
         (λ q h. let hx : q < length full = rw l h in s.made q hx (block_of_lem q h))
-
-pub rows_make : (T : ShiftTables) → Laws (shifts_of T) → (w m : ℕ) → in_block m ≡ w → (set full : List Float) → length full ≡ times_power T.n_satom m T.n_satom * w
-    → copy_rows T.s2pp T.nsym_list T.perms T.n_satom w m set full ≡ full_set nan (shifts_of T) m set
-unfolding full_shifts
-rows_make T L w m e set full l =
-    let N = times_power T.n_satom m T.n_satom in
-    rows-flat T w m set full ∙ copies_make (shifts_of T) L m set w e full (l ∙ ap (λ c. N * c) (sym e) ∙ sym (size_blocks (full_shifts T.n_satom) m))

@@ -15,7 +15,7 @@ use Rattle.places.specs.ReadOuts.{Tables}
 use Rattle.orbits.specs.Blockwise.{in_block}
 use Rattle.read_out.specs.FullSet.{full_set}
 use Rattle.read_out.specs.ReadOut.{judged_read_out, compact_to_full}
-use Rattle.read_out.specs.Copies.{copy_rows, rows_make}
+use Rattle.read_out.specs.Copies.{copy_rows}
 
 -- ---- what is known where a call is not refused
 
@@ -37,7 +37,7 @@ module _ (limit m w : ℕ) (wide : in_block m ≡ w) (small : limit ≤ 1024) (f
   read-out-refused h = rw (← e, after_refusal a (full_set nan (shifts_of T) m set) full h)
 
   module _ (h : is_refusal a ≡ false) where
-    done : judged_read_out limit m (length full) (length set) T ≡ Done
+    pub done : judged_read_out limit m (length full) (length set) T ≡ Done
     done = sym e ∙ is_done a h
 
     pub reading : Reading m w (length full) (length set) T.n_satom T.s2pp T.nsym_list T.perms
@@ -58,14 +58,6 @@ module _ (limit m w : ℕ) (wide : in_block m ≡ w) (small : limit ≤ 1024) (f
           set-length = l.0 ∙ in_blocks m w T.n_patom T.n_satom wide;
           full-length = l.1.0 ∙ in_blocks m w T.n_satom T.n_satom wide;
         }
-
-    rules : Laws (shifts_of T)
-    unfolding judged_read_out
-    rules = (done-tables limit _ T done).2
-
-    pub read-out-done : {full' : List Float} → full' ≡ copy_rows T.s2pp T.nsym_list T.perms T.n_satom w m set full → (Done, full') ≡ compact_to_full limit m full set T
-    unfolding compact_to_full
-    read-out-done p = rw (← e, after-done a (full_set nan (shifts_of T) m set) full h, p, rows_make T rules w m wide set full reading.full-length, is_done a h)
 
 -- ---- the widths of blocks
 

@@ -1,7 +1,8 @@
 use mathlib.Core.Path.{sym, ◌∙◌}
 use lib.Dec.{lit≤}
 use Rattle.tables.specs.Compact.{ShiftTables, shift_tables}
-use Rattle.read_out.specs.Guard.{in81, read-out-refused, reading, read-out-done}
+use Rattle.read_out.specs.Guard.{in81, read-out-refused, reading}
+use Rattle.read_out.proofs.GuardLaws.{read-out-done}
 use Rattle.read_out.proofs.fc4.compact_to_full_fc4.Goals as goal
 
 pub judge-a-requires : goal.judge-a-requires

@@ -1,0 +1,2 @@
+pub mod CopiesLaws
+pub mod GuardLaws
