@@ -26,7 +26,7 @@ use Rattle.audits.specs.declared.Audit.TheVariants.{Alike, Unlike}
 use Rattle.lists.specs.Lowest.{lowest, Lowest, lowest_is, is_lowest, lowest-same}
 use Rattle.audits.specs.Audit.{differ, reads, reads_another, unlike, first_place, first_order, difference_at, audited}
 use Rattle.audits.specs.Demand.{index_in, none_alike}
-use Rattle.audits.specs.PlaceLaws.{reads-block, earlier_tells, own_block}
+use Rattle.audits.specs.PlaceLaws.{reads-block, own_block}
 use Rattle.audits.specs.Kernel.{there, another, position_to, first_position, seen_before, looked, difference_in, BlocksFit, order_below}
 
 -- the permutations of m + 1 legs, the first of which changes nothing, and their table of positions
@@ -39,7 +39,7 @@ pub record Orders (m : ℕ) (os : List (List ℕ)) (t : List ℕ) : Type 0 where
   pub count : length t ≡ length os * in_block m
   pub entry : (i k : ℕ) → i < length os → k < in_block m → get_or t (i * in_block m + k) 0 ≡ permuted m (get_or os i []) k
 
-abbrev made : ℕ → Float → ℕ → Float → Difference
+abbrev pub made : ℕ → Float → ℕ → Float → Difference
 made q x o y = record { place = q; order = o; here = x; there = y }
 
 -- the table that has them
@@ -66,7 +66,7 @@ pub alike-none : (S : Shifts) (m : ℕ) (os : List (List ℕ)) (set : List Float
 alike-none S m os set q h = absurd (omega arith)
 
 -- a place before the end of block b is one of it, or one before it
-place-split : (c b q : ℕ) → q < (b + 1) * c → (q < b * c) ⊎ ((k : ℕ) × (k < c) × (q ≡ b * c + k))
+pub place-split : (c b q : ℕ) → q < (b + 1) * c → (q < b * c) ⊎ ((k : ℕ) × (k < c) × (q ≡ b * c + k))
 place-split c b q h = go (lt_or_le q (b * c))
   where
     go : (q < b * c) ⊎ (b * c ≤ q) → (q < b * c) ⊎ ((k : ℕ) × (k < c) × (q ≡ b * c + k))
@@ -98,10 +98,10 @@ module _ (S : Shifts) (L : Laws S) (m : ℕ) (os : List (List ℕ)) (t : List �
   each i h = O.group.each (get_or os i []) (index_in [] os i h)
 
   module _ (b : ℕ) (hb : b < B) (bs : List ℕ) (eb : bs ≡ group_blocks S m os b) where
-    count-bs : length bs ≡ length os
+    pub count-bs : length bs ≡ length os
     count-bs = ap length eb ∙ (unfold group_blocks in length-map os (λ σ. counterpart S m σ b))
 
-    at-bs : (i : ℕ) → i < length os → get_or bs i 0 ≡ counterpart S m (get_or os i []) b
+    pub at-bs : (i : ℕ) → i < length os → get_or bs i 0 ≡ counterpart S m (get_or os i []) b
     at-bs i h = ap (λ l. get_or l i 0) eb ∙ (unfold group_blocks in get_d_map (λ σ. counterpart S m σ b) os i [] 0 h)
 
     pub there_is : (i k : ℕ) → i < length os → k < c → there c bs t set i k ≡ reads S m os set (b * c + k) (get_or os i [])
@@ -109,11 +109,11 @@ module _ (S : Shifts) (L : Laws S) (m : ℕ) (os : List (List ℕ)) (t : List �
     there_is i k hi hk =
         ap₂ (λ a p. get_or set (a * c + p) nan) (at-bs i hi) (O.entry i k hi hk) ∙ sym (reads-block S L m os O.group set b k hb hk (get_or os i []) (each i hi))
 
-    another_is : (i k : ℕ) → i < length os → k < c → another c bs t set b k i ≡ reads_another S m os set (b * c + k) i
+    pub another_is : (i k : ℕ) → i < length os → k < c → another c bs t set b k i ≡ reads_another S m os set (b * c + k) i
     unfolding another reads_another
     another_is i k hi hk = ap (differ (get_or set (b * c + k) nan)) (there_is i k hi hk)
 
-    unlike_is : (k : ℕ) → k < c → position_to c bs t set b (length bs) k ≡ unlike S m os set (b * c + k)
+    pub unlike_is : (k : ℕ) → k < c → position_to c bs t set b (length bs) k ≡ unlike S m os set (b * c + k)
     unfolding unlike
     unlike_is k hk =
         ap (λ n. some n (another c bs t set b k)) count-bs
@@ -144,77 +144,6 @@ module _ (S : Shifts) (L : Laws S) (m : ℕ) (os : List (List ℕ)) (t : List �
             let e : get_or t r 0 ≡ permuted m (get_or os (r / c) []) (r % c) = ap (λ r. get_or t r 0) (sym (div-add-mod' r c)) ∙ O.entry (r / c) (r % c) i k in
             rw e (permuted_is_below m (get_or os (r / c) []) (r % c) (each (r / c) i) k)
 
-    -- nothing was found in the block
-    pub block-passed : (k : ℕ) → k ≡ looked c bs t set b → c ≤ k → AlikeTo S m os set b → AlikeTo S m os set (b + 1)
-    unfolding looked
-    block-passed k e h A = alike-more S m os set b (λ j hj. by j hj (split (seen_before bs b))) A
-      where
-        by : (j : ℕ) → j < c → (seen_before bs b ≡ true) ⊎ (seen_before bs b ≡ false) → unlike S m os set (b * c + j) ≡ false
-        by j hj (inl s) =
-            let (i, hi, lt) = some_at (length bs) (λ i. ltb (get_or bs i 0) b) s in
-            let hi' : i < length os = subst (λ (n : ℕ). i < n) count-bs hi in
-            let d : counterpart S m (get_or os i []) b < b = rw (← at-bs i hi') (ltb-true (get_or bs i 0) b lt) in
-            earlier_tells S L m os O.group set b j hb hj (get_or os i []) (index_in [] os i hi') d A
-        by j hj (inr s) =
-            let f = position_to c bs t set b (length bs) in
-            let p = lowest_is c f in
-            let n : k ≡ lowest c f = e ∙ ap (λ x. cond x c (lowest c f)) s in
-            sym (unlike_is j hj) ∙ p.before j (omega (arith, n))
-
-    -- something was found at position k
-    module _ (k : ℕ) (e : k ≡ looked c bs t set b) (h : k < c) where
-      unseen : seen_before bs b ≡ false
-      unfolding looked
-      unseen = refuted (seen_before bs b) (λ s. let n : k ≡ c = e ∙ ap (λ x. cond x c (first_position c bs t set b)) s in absurd (omega (arith, n)))
-
-      found_first : Lowest c (position_to c bs t set b (length bs)) k
-      unfolding looked
-      found_first =
-          let f = position_to c bs t set b (length bs) in
-          subst (Lowest c f) (sym (e ∙ ap (λ x. cond x c (lowest c f)) unseen)) (lowest_is c f)
-
-      pub found_some : some (length bs) (another c bs t set b k) ≡ true
-      found_some = found_first.passes h
-
-      module _ (A : AlikeTo S m os set b) where
-        at_place : b * c + k ≡ first_place S m os set
-        unfolding first_place
-        at_place =
-            is_lowest (size S m) (unlike S m os set) (b * c + k)
-            (record {
-              within = let l = in_size in omega arith;
-              passes = λ l. sym (unlike_is k h) ∙ found_some;
-              before = λ q l. by q l (place-split c b q (omega arith));
-            })
-          where
-            in_size : b * c + k < size S m
-            in_size = rw (size_blocks S m) (omega (arith, mul-le-mul_right c hb))
-
-            by : (q : ℕ) → q < b * c + k → (q < b * c) ⊎ ((j : ℕ) × (j < c) × (q ≡ b * c + j)) → unlike S m os set q ≡ false
-            by q l (inl g) = A q g
-            by q l (inr (j, hj, g)) = ap (unlike S m os set) g ∙ sym (unlike_is j hj) ∙ found_first.before j (omega (arith, g))
-
-        orders_are : lowest (length bs) (another c bs t set b k) ≡ first_order S m os set (b * c + k)
-        unfolding first_order
-        orders_are =
-            ap (λ n. lowest n (another c bs t set b k)) count-bs
-            ∙ lowest-same (length os) (another c bs t set b k) (reads_another S m os set (b * c + k)) (λ i hi. another_is i k hi h)
-
-        difference_is : difference_in c bs t set b k ≡ difference_at S m os set (b * c + k)
-        unfolding difference_in
-        difference_is =
-            let i = lowest (length bs) (another c bs t set b k) in
-            let hi : i < length os = subst (λ (n : ℕ). i < n) count-bs (order_below (another c bs t set b k) found_some refl) in
-            ap₂ (made (b * c + k) (get_or set (b * c + k) nan)) orders_are
-            (there_is i k hi h ∙ ap (λ o. reads S m os set (b * c + k) (get_or os o [])) orders_are)
-
-        pub block-found : Unlike (difference_in c bs t set b k) ≡ audited S m os set
-        unfolding audited
-        block-found =
-            let l : ltb (first_place S m os set) (size S m) ≡ true = rw (← at_place) (lt-ltb (b * c + k) (size S m) (rw (size_blocks S m) (omega (arith, mul-le-mul_right c hb)))) in
-            ap Unlike (difference_is ∙ ap (difference_at S m os set) at_place)
-            ∙ sym (ap (λ x. cond x (Unlike (difference_at S m os set (first_place S m os set))) Alike) l)
-
   -- nothing was found in any block
   pub all-passed : (b : ℕ) → B ≤ b → AlikeTo S m os set b → Alike ≡ audited S m os set
   all-passed b h A =
@@ -229,16 +158,3 @@ module _ (S : Shifts) (L : Laws S) (m : ℕ) (os : List (List ℕ)) (t : List �
     (b : ℕ) (hb : b < times_power S.n_satom m S.n_patom) (bs : List ℕ) (eb : bs ≡ group_blocks S m os b) where
   pub fits_w : BlocksFit (length set) w b bs t
   fits_w = subst (λ (c : ℕ). BlocksFit (length set) c b bs t) ew (fits_group S L m os t O set ls b hb bs eb)
-
-  module _ (k : ℕ) (e : k ≡ looked w bs t set b) where
-    same-look : k ≡ looked (in_block m) bs t set b
-    same-look = e ∙ ap (λ c. looked c bs t set b) (sym ew)
-
-    pub passed-w : w ≤ k → AlikeTo S m os set b → AlikeTo S m os set (b + 1)
-    passed-w h A = block-passed S L m os t O set ls b hb bs eb k same-look (rw ew h) A
-
-    pub some-w : k < w → some (length bs) (another w bs t set b k) ≡ true
-    some-w h = ap (λ c. some (length bs) (another c bs t set b k)) (sym ew) ∙ found_some S L m os t O set ls b hb bs eb k same-look (rw ew h)
-
-    pub found-w : k < w → AlikeTo S m os set b → Unlike (difference_in w bs t set b k) ≡ audited S m os set
-    found-w h A = ap (λ c. Unlike (difference_in c bs t set b k)) (sym ew) ∙ block-found S L m os t O set ls b hb bs eb k same-look (rw ew h) A

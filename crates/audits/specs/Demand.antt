@@ -36,7 +36,7 @@ pub words_same : (x y : Float) → to_bits binary64 x ≡ to_bits binary64 y →
 unfolding differ
 words_same x y e = ap not (eq-eqb (to_bits binary64 x) (to_bits binary64 y) e)
 
-same-doubles : (x y : Float) → T (fits binary64 x) → T (fits binary64 y) → to_bits binary64 x ≡ to_bits binary64 y → x ≡ y
+pub same-doubles : (x y : Float) → T (fits binary64 x) → T (fits binary64 y) → to_bits binary64 x ≡ to_bits binary64 y → x ≡ y
 same-doubles x y p q e = sym (of_bits-to_bits binary64 x p) ∙ ap (lib.Ieee.of_bits binary64) e ∙ of_bits-to_bits binary64 y q
 
 -- ---- members by their numbers
@@ -115,19 +115,3 @@ module _ (S : Shifts) (L : Laws S) (m : ℕ) (os : List (List ℕ)) (G : Group m
   reads_legs σ xs s p =
       ap (λ r. get_or set (address S r) nan)
       (ap (λ ys. stored S (permute_legs σ (legs_at S ys))) (place-address S m (stored S xs) (stored-place S L m xs p)) ∙ source-stored S L m σ xs (G.each σ s) p)
-
-  pub demanded : Doubles set → audited S m os set ≡ Alike → SameReadOuts S m os set
-  unfolding read_out at
-  demanded d e σ xs s p =
-      let q = address S (stored S xs) in
-      let h = address_below S m (stored S xs) (stored-place S L m xs p) in
-      let w : to_bits binary64 (get_or set q nan) ≡ to_bits binary64 (get_or set (address S (stored S (permute_legs σ xs))) nan) =
-      alike_at S m os set q (alike-none S m os set e q h) σ s ∙ ap (to_bits binary64) (reads_legs σ xs s p) in
-      sym (same-doubles (get_or set q nan) (get_or set (address S (stored S (permute_legs σ xs))) nan) (d q) (d (address S (stored S (permute_legs σ xs)))) w)
-
-  pub alike_of : SameReadOuts S m os set → audited S m os set ≡ Alike
-  unfolding reads
-  alike_of h =
-      none_alike S m os set (λ q l.
-      at-alike S m os set q (λ σ s.
-      ap (to_bits binary64) (sym (own-number q l) ∙ sym (h σ (legs_at S (place S m q)) s (opened_legs S L m (place S m q) (place-place S m q l))))))

@@ -18,7 +18,6 @@ use Rattle.places.specs.Permutations.{perms4, twenty_four_group}
 use Rattle.orbits.specs.Transposed.{counterpart}
 use Rattle.orbits.specs.AtBlockLaws.{counterpart-at, stored-own}
 use Rattle.audits.specs.Blocks.{AlikeTo}
-use Rattle.audits.specs.PassLaws.{walk, pass-later}
 
 -- of the last three atoms of block b one is below the one before it
 unfoldable pub falling : ℕ → ℕ → Bool
@@ -127,17 +126,3 @@ module _ (S : Shifts) (L : Laws S) (b : ℕ) (h : b < times_power S.n_satom 3 S.
       by : (ltb l k ≡ true) ⊎ (ltb l k ≡ false) → (σ : List ℕ) × In σ perms4 × (counterpart S 3 σ b < b)
       by (inl e) = (0 ∷ 1 ∷ 3 ∷ 2 ∷ [], inr (inl refl), last_fall (ltb-true l k e))
       by (inr e) = (0 ∷ 2 ∷ 1 ∷ 3 ∷ [], inr (inr (inl refl)), middle_fall (ltb-true k j (sym (ap (λ x. x || ltb k j) e) ∙ f)))
-
--- ---- so the blocks that were passed are alike if those before them are
-
-pub walked : (S : Shifts) (L : Laws S) (set : List Float) {b count r : ℕ} → Next S.n_satom b count r → count ≡ times_power S.n_satom 3 S.n_patom
-    → AlikeTo S 3 perms4 set b → AlikeTo S 3 perms4 set r
-walked S L set {b} {count} {r} p e A =
-    let f = p.from in
-    let g = p.to in
-    let z : b + (r - b) ≡ r = omega arith in
-    subst (λ (x : ℕ). AlikeTo S 3 perms4 set x) z
-    (walk S 3 perms4 set b (r - b) (λ k h.
-    let hb : b + k < times_power S.n_satom 3 S.n_patom = omega (arith, e) in
-    let (σ, s, q) = falls_later S L (b + k) hb (p.passed (b + k) (omega arith) (omega arith)) in
-    pass-later S L 3 perms4 twenty_four_group set (b + k) hb σ s q) A)

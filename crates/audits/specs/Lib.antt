@@ -4,7 +4,6 @@ pub mod PlaceLaws
 pub mod Kernel
 pub mod Blocks
 pub mod Guard
-pub mod PassLaws
 pub mod SecondScanLaws
 pub mod ThirdScanLaws
 pub mod FourthScanLaws

@@ -25,38 +25,24 @@ module _ (S : Shifts) (L : Laws S) (m : ℕ) (os : List (List ℕ)) (G : Group m
   unfoldable pub image_of : List ℕ → ℕ → ℕ
   image_of σ q = address S (stored S (permute_legs σ (legs_at S (place S m q))))
 
-  reads-image : (q : ℕ) (σ : List ℕ) → reads S m os set q σ ≡ get_or set (image_of σ q) nan
+  pub reads-image : (q : ℕ) (σ : List ℕ) → reads S m os set q σ ≡ get_or set (image_of σ q) nan
   unfolding reads read_out at image_of
   reads-image q σ = refl
 
-  image_in : (q : ℕ) (σ : List ℕ) → In σ os → In (image_of σ q) (imgs S L m os G q)
+  pub image_in : (q : ℕ) (σ : List ℕ) → In σ os → In (image_of σ q) (imgs S L m os G q)
   unfolding images image_of
   image_in q σ s = in_map (λ σ. address S (stored S (permute_legs σ (legs_at S (place S m q))))) os σ s
 
-  in_image : (q r : ℕ) → In r (imgs S L m os G q) → (σ : List ℕ) × In σ os × (r ≡ image_of σ q)
+  pub in_image : (q r : ℕ) → In r (imgs S L m os G q) → (σ : List ℕ) × In σ os × (r ≡ image_of σ q)
   unfolding images image_of
   in_image q r i = map_in (λ σ. address S (stored S (permute_legs σ (legs_at S (place S m q))))) os r i
 
-  -- where one place of a group is alike, all numbers of the group are one
-  one_number : (q r : ℕ) → unlike S m os set q ≡ false → In r (imgs S L m os G q) → to_bits binary64 (get_or set q nan) ≡ to_bits binary64 (get_or set r nan)
-  one_number q r u i =
-      let (σ, s, e) = in_image q r i in
-      alike_at S m os set q u σ s ∙ ap (to_bits binary64) (reads-image q σ ∙ ap (λ r. get_or set r nan) (sym e))
-
-  -- and so every place of the group is
-  group-alike : (q r : ℕ) → q < size S m → In r (imgs S L m os G q) → unlike S m os set r ≡ false → unlike S m os set q ≡ false
-  group-alike q r h i u =
-      let O = orbits S L m os G in
-      at-alike S m os set q (λ σ s.
-      sym (one_number r q u (O.back q r h i q (O.own q h))) ∙ one_number r (image_of σ q) u (O.back q r h i (image_of σ q) (image_in q σ s))
-      ∙ ap (to_bits binary64) (sym (reads-image q σ)))
-
   module _ (b k : ℕ) (hb : b < times_power S.n_satom m S.n_patom) (hk : k < in_block m) where
-    place_in : b * in_block m + k < size S m
+    pub place_in : b * in_block m + k < size S m
     place_in = rw (size_blocks S m) (in_row (times_power S.n_satom m S.n_patom) (in_block m) b k hb hk)
 
     -- the image of a place of block b stands in the block of the permuted atoms, at the permuted directions
-    image_is : (σ : List ℕ) → Permutation m σ → image_of σ (b * in_block m + k) ≡ counterpart S m σ b * in_block m + permuted m σ k
+    pub image_is : (σ : List ℕ) → Permutation m σ → image_of σ (b * in_block m + k) ≡ counterpart S m σ b * in_block m + permuted m σ k
     unfolding image_of across source
     image_is σ o =
         let q = b * in_block m + k in
@@ -65,16 +51,6 @@ module _ (S : Shifts) (L : Laws S) (m : ℕ) (os : List (List ℕ)) (G : Group m
 
     pub reads-block : (σ : List ℕ) → Permutation m σ → reads S m os set (b * in_block m + k) σ ≡ get_or set (counterpart S m σ b * in_block m + permuted m σ k) nan
     reads-block σ o = reads-image (b * in_block m + k) σ ∙ ap (λ r. get_or set r nan) (image_is σ o)
-
-    -- a block whose group has an earlier block is alike if all earlier places are
-    pub earlier_tells : (σ : List ℕ) → In σ os → counterpart S m σ b < b → ((q : ℕ) → q < b * in_block m → unlike S m os set q ≡ false)
-        → unlike S m os set (b * in_block m + k) ≡ false
-    earlier_tells σ s l u =
-        let q = b * in_block m + k in
-        let o = G.each σ s in
-        let p = permuted_is_below m σ k o hk in
-        let r : image_of σ q < b * in_block m = rw (image_is σ o) (omega (arith, mul-le-mul_right (in_block m) l, p)) in
-        group-alike q (image_of σ q) place_in (image_in q σ s) (u (image_of σ q) r)
 
   -- the permutation that changes nothing leads to the block itself
   pub own_block : (b : ℕ) → b < times_power S.n_satom m S.n_patom → counterpart S m (straight (suc m)) b ≡ b

@@ -55,32 +55,12 @@ module _ (S : Shifts) (m : ℕ) (r_carts : List Float) (operations : List ℤ) (
   abbrev w : ℕ
   w = in_block m
 
-  images_legs : (r q : ℕ) → image_legs S m r_carts operations set r q ≡ legs_of (image_atoms S m operations r (rest 3 (suc m) q)) (digits 3 (suc m) q)
+  pub images_legs : (r q : ℕ) → image_legs S m r_carts operations set r q ≡ legs_of (image_atoms S m operations r (rest 3 (suc m) q)) (digits 3 (suc m) q)
   unfolding image_legs image_atoms place legs_of legs_at digits
   images_legs r q =
       let f = image S.n_satom operations r in
       let b = rest 3 (suc m) q in
       ap (λ l. (f (p2s_at S (rest S.n_satom m b)), rest 3 m q % 3) ∷ l) (map_legs f (digits S.n_satom m b) (digits 3 m q))
-
-  images-read : (r q : ℕ) → read_out nan S set (image_legs S m r_carts operations set r q) ≡ get_or set (image_block S m operations r (q / w) * w + q % w) nan
-  unfolding image_atoms in_block
-  images-read r q =
-      let b = rest 3 (suc m) q in
-      let n = S.n_satom in
-      ap (read_out nan S set) (images_legs r q)
-      ∙ read_at_lem nan S set m q (image_atoms S m operations r b) (ap suc (length-map (digits n m b) (image n operations r) ∙ length_digits n m b))
-      ∙ ap (λ b. get_or set (image_block S m operations r b * w + q % w) nan) (rest_div 3 (suc m) q)
-
-  -- position k of block b
-  pub deviation-block : (r b k : ℕ) → k < w
-      → deviation S m r_carts operations set r (b * w + k) ≡ sub binary64 (get_or (block w (image_block S m operations r b) set) k nan) (get_or (rotated (block 9 r r_carts) (suc m) (block w b set)) k nan)
-  unfolding deviation
-  deviation-block r b k h =
-      let eb = quotient w b k h in
-      let ek = remainder w b k h in
-      ap₂ (λ x y. sub binary64 x y)
-      (images-read r (b * w + k) ∙ ap₂ (λ b k. get_or set (image_block S m operations r b * w + k) nan) eb ek ∙ sym (get_or-block w (image_block S m operations r b) set k h))
-      (ap₂ (λ b k. get_or (rotated (block 9 r r_carts) (suc m) (block w b set)) k nan) eb ek)
 
   -- ---- what the loops compute: block b under operation r, all blocks, all operations
 
@@ -98,33 +78,6 @@ module _ (S : Shifts) (m : ℕ) (r_carts : List Float) (operations : List ℤ) (
       → look_differences first (block c to set) (rotated (block 9 r r_carts) (suc m) (block c b set)) s ≡ block_seen c r b s
   unfolding block_seen
   look_is c r b s e f = ap₂ (λ first to. look_differences first (block c to set) (rotated (block 9 r r_carts) (suc m) (block c b set)) s) e f
-
-  -- all blocks under operation r
-  pub operation_seen_lem : (n r : ℕ) → n ≡ times_power S.n_satom m S.n_patom → (s : Seen) → operation_seen w n r s ≡ look_at (r * size S m) (size S m) (λ q. deviation S m r_carts operations set r q) s
-  unfolding operation_seen block_seen look_at
-  operation_seen_lem n r en s =
-      let F : ℕ → Seen → Seen = λ q. look (r * size S m + q) (deviation S m r_carts operations set r q) in
-      let e : n * w ≡ size S m = ap (λ n. n * w) en ∙ sym (size_blocks S m) in
-      times-same n _ _ s (λ b hb t.
-      ap (λ l. look_at (r * size S m + b * w) l (λ k. sub binary64 (get_or (block w (image_block S m operations r b) set) k nan) (get_or (rotated (block 9 r r_carts) (suc m) (block w b set)) k nan)) t) (length-block w (image_block S m operations r b) set)
-      ∙ times-same w _ _ t (λ k hk u.
-      let v : r * size S m + b * w + k ≡ r * size S m + (b * w + k) = omega arith in
-      ap₂ (λ z x. look z x u) v (sym (deviation-block r b k hk))))
-      ∙ sym (times_nest n w F s) ∙ ap (λ z. times z F s) e
-
-  -- all operations
-  pub operations_seen : (num_rot n : ℕ) → n ≡ times_power S.n_satom m S.n_patom → {c : Seen} → c ≡ times num_rot (operation_seen w n) nothing_seen → c ≡ all_seen num_rot
-  unfolding all_seen
-  operations_seen num_rot n en e =
-      e ∙ rows-looked num_rot (size S m) (deviation_at S m r_carts operations set) (operation_seen w n) nothing_seen (λ r hr c.
-      operation_seen_lem n r en c
-      ∙ look-same (r * size S m) (size S m) _ _ c (λ q hq.
-      ap₂ (deviation S m r_carts operations set) (sym (quotient (size S m) r q hq)) (sym (remainder (size S m) r q hq))))
-
-  -- the same with the width of a block as the program has it
-  pub operations_seen-w : (c : ℕ) → in_block m ≡ c → (num_rot : ℕ) {s : Seen} → s ≡ times num_rot (operation_seen c (times_power S.n_satom m S.n_patom)) nothing_seen → s ≡ all_seen num_rot
-  operations_seen-w c ec num_rot e =
-      operations_seen num_rot (times_power S.n_satom m S.n_patom) refl (e ∙ ap (λ c. times num_rot (operation_seen c (times_power S.n_satom m S.n_patom)) nothing_seen) (sym ec))
 
   pub report_is : (num_rot : ℕ) {c : Seen} → c ≡ all_seen num_rot → concluded c ≡ crystal_report S m r_carts operations set num_rot
   unfolding all_seen

@@ -15,7 +15,8 @@ use Rattle.places.specs.Places.{legs_at, place, size, opened_legs, place-place}
 use Rattle.places.specs.Permutations.{Group}
 use Rattle.audits.specs.declared.Audit.TheVariants.{Alike}
 use Rattle.audits.specs.Audit.{reads, audited}
-use Rattle.audits.specs.Demand.{Doubles, SameReadOuts, index_in, own-number, demanded}
+use Rattle.audits.specs.Demand.{Doubles, SameReadOuts, index_in, own-number}
+use Rattle.audits.proofs.DemandLaws.{demanded}
 use Rattle.reports.specs.declared.Deviation.TheVariants.{Still, NoNumber}
 use Rattle.reports.specs.Report.{is_zero, report_at}
 use Rattle.reports.specs.Meaning.{zeros-still, zeros-or-none}

@@ -8,5 +8,4 @@ pub mod CompactReport
 pub mod CompactLaws
 pub mod ThirdReport
 pub mod Lines
-pub mod ThirdLaws
 pub mod ThirdValues

@@ -20,7 +20,7 @@ use Rattle.fc4.specs.Mean24.{mean24}
 use Rattle.fc4.specs.Symmetrize.{set_permutation_symmetry_compact_fc4, set_permutation_symmetry_fc4}
 use Rattle.audits.specs.declared.Audit.TheVariants.{Alike}
 use Rattle.audits.specs.Audit.{found_after, audit_compact, audit_full}
-use Rattle.audits.specs.Demand.{alike_of}
+use Rattle.audits.proofs.DemandLaws.{alike_of}
 use Rattle.audits.specs.Guard.{set-done, compact_done, ready-whole}
 
 -- a symmetrized set has the length that the guard asks for

@@ -5,11 +5,8 @@ pub mod TrueLists
 pub mod SwapLists
 pub mod Symmetrized
 pub mod Sheets
-pub mod Instances
 pub mod Means
 pub mod Permuted
 pub mod Agree
-pub mod Calls
-pub mod AgreeInstances
 pub mod Audits
 pub mod SecondOrder

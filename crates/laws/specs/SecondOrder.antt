@@ -1,6 +1,6 @@
 -- What the symmetrizers of second order leave is alike: the averages of a compact set, and a full or a compact set symmetrized at one level or more.
 -- At level 0 only the on-site blocks are made anew, so a set that was not alike may stay so. Assumes nothing.
-use Rattle.std.specs.Prelude.{◌≡◌, refl, Bool, true, false, not, ◌&&◌, List, [], ◌∷◌, ltb, length, get_or}
+use Rattle.std.specs.Prelude.{◌≡◌, refl, Bool, true, false, ◌&&◌, List, [], ◌∷◌, length, get_or}
 use Rattle.std.proofs.Math.Path.{sym, ap}
 use Rattle.std.proofs.Common.{ap₂, ◌∙◌, true≢false, inl, inr, arith, lit≤, eqb-true, eq-eqb, ne_eqb}
 use Rattle.std.proofs.Math.Bool.{cond}
@@ -37,7 +37,8 @@ use Rattle.fc2_compact.specs.Compact.{judged2, judged_levels, leveled, set_index
 use Rattle.fc2_compact.specs.Compact as compact
 use Rattle.audits.specs.declared.Audit.TheVariants.{Alike}
 use Rattle.audits.specs.Audit.{found_after, audit_compact, audit_full}
-use Rattle.audits.specs.Demand.{SameReadOuts, alike_of}
+use Rattle.audits.specs.Demand.{SameReadOuts}
+use Rattle.audits.proofs.DemandLaws.{alike_of}
 use Rattle.audits.specs.Guard.{set-done, compact_done, ready-whole, whole-shifts}
 
 -- any two legs exchanged read out the same number
@@ -113,13 +114,13 @@ module _ (S : Shifts) (L : Laws S) where
           (apart (atom y) (atom x) b.0 a.0 (λ e. d (sym e))) (apart (atom x) (atom y) a.0 b.0 d)
           (λ f. absurd (false≢true f)) (λ _. h x y a b)
 
-  levels_exchange : (level : ℕ) (set : List Float) → 1 ≤ level → Exchanges S (compact.symmetrized_compact S level set)
+  pub levels_exchange : (level : ℕ) (set : List Float) → 1 ≤ level → Exchanges S (compact.symmetrized_compact S level set)
   unfolding compact.symmetrized_compact times leveled
   levels_exchange zero set h = absurd (omega arith)
   levels_exchange (suc n) set h = on_site_exchanges _ (averaged-exchanges _)
 
 -- a compact set that is as long as it was, and whose legs may be exchanged
-left : (set new : List Float) (T : ShiftTables) (k lenWork : ℕ) → judged_compact limit2 1 (length set) k lenWork T ≡ Done
+pub left : (set new : List Float) (T : ShiftTables) (k lenWork : ℕ) → judged_compact limit2 1 (length set) k lenWork T ≡ Done
     → length new ≡ size (shifts_of T) 1 → Exchanges (shifts_of T) new → Alike ≡ audit_compact limit2 1 perms2 new T
 unfolding size
 left set new T k lenWork e l h =
@@ -137,18 +138,6 @@ second_averages_alike set T work e =
     let L = (done_compact limit2 1 (length set) 1 (length work) T e).rules in
     left set new T 1 (length work) e (unfold averaged_compact in length-fill S 1 _) (averaged-exchanges S L set)
     ∙ ap (λ s. audit_compact limit2 1 perms2 s T) (sym (after-done (judged2 set T work) new set (ap is_refusal e)))
-
--- `perm_trans_symmetrize_compact_fc` at one level or more
-pub second_alike : (set : List Float) (T : ShiftTables) (work : List ℕ) (level : ℕ) → 1 ≤ level → (perm_trans_symmetrize_compact_fc set T work level).0 ≡ Done
-    → Alike ≡ audit_compact limit2 1 perms2 (perm_trans_symmetrize_compact_fc set T work level).1 T
-unfolding perm_trans_symmetrize_compact_fc
-second_alike set T work level h e =
-    let S = shifts_of T in
-    let new = compact.symmetrized_compact S level set in
-    let f = (passed (ltb limit_level level) CountAboveLimit (judged2 set T work) e).1 in
-    let L = (done_compact limit2 1 (length set) 1 (length work) T f).rules in
-    left set new T 1 (length work) f (unfold compact.symmetrized_compact on_site in length-fill S 1 _) (levels_exchange S L level set h)
-    ∙ ap (λ s. audit_compact limit2 1 perms2 s T) (sym (after-done (judged_levels set T work level) new set (ap is_refusal e)))
 
 -- ---- full sets
 

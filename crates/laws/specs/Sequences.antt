@@ -4,10 +4,9 @@ use Rattle.std.specs.Prelude.{◌≡◌, refl, ℕ, suc, ◌<◌, length}
 use Rattle.std.proofs.Common.{sym, ◌∙◌}
 use Rattle.std.proofs.Math.Path.{ap}
 use mathlib.Core.List.{List, [], ◌∷◌}
-use Rattle.tables.specs.Shifts.{Shifts, Laws}
+use Rattle.tables.specs.Shifts.{Shifts}
 use Rattle.lists.specs.Elements.{All, pick, pick-pick, length-pick, all-pick}
 use Rattle.places.specs.Places.{Leg, Legs, read_out, size}
-use Rattle.places.proofs.PlacesLaws.{same-read_out}
 use Rattle.places.specs.Permutations.{permute_legs, Permutation, taken_legs}
 
 -- ---- any calls
@@ -52,7 +51,7 @@ module _ {A C : Type 0} (z : A) (S : Shifts) (m : ℕ) (permute : C → List ℕ
         (xs, q, sym (pick-pick (0, 0) (permute c) o xs (rw h.is_permutation.0 s.is_permutation.1)) ∙ ap (permute_legs (permute c)) e ∙ s.twice ys p);
   }
 
-  ends : (cs : List C) (o : List ℕ) → Steps cs → Onto o → Onto (spells permute cs o)
+  pub ends : (cs : List C) (o : List ℕ) → Steps cs → Onto o → Onto (spells permute cs o)
   unfolding spells
   ends [] o s h = h
   ends (c ∷ cs) o s h = ends cs (pick 0 (permute c) o) s.1 (next c o s.0 h)
@@ -75,13 +74,3 @@ module _ {A C : Type 0} (z : A) (S : Shifts) (m : ℕ) (permute : C → List ℕ
       ap (read_out z S (run c set)) (sym (pick-pick (0, 0) (permute c) o xs (rw h.is_permutation.0 s.0.is_permutation.1)))
       ∙ s.0.reads set (permute_legs (permute c) (permute_legs o xs)) l r
       ∙ ap (read_out z S set) (s.0.twice (permute_legs o xs) q) ∙ e xs p)
-
-  -- Two lists that spell one order leave one set.
-  pub one_set : Laws S → (cs ds : List C) (o : List ℕ) (set : List A) → Steps cs → Steps ds → Onto o → length set ≡ size S m
-      → ((xs : List Leg) → Legs S m xs → read_out z S set (permute_legs o xs) ≡ read_out z S set xs)
-      → spells permute cs o ≡ spells permute ds o → leaves run cs set ≡ leaves run ds set
-  one_set L cs ds o set s t h l e q =
-      same-read_out S L z m (leaves run cs set) (leaves run ds set) (keeps-length cs set s l) (keeps-length ds set t l) (λ ys p.
-      let (xs, hx, w) = (ends cs o s h).onto ys p in
-      ap (read_out z S (leaves run cs set)) (sym w) ∙ stands cs o set set s h l e xs hx
-      ∙ sym (stands ds o set set t h l e xs hx) ∙ ap (λ r. read_out z S (leaves run ds set) (permute_legs r xs)) (sym q) ∙ ap (read_out z S (leaves run ds set)) w)

@@ -1,5 +1,5 @@
 -- The starred sheets of document 01 ("Sheets to reproduce"), 1 to 9, together: `Sheets` says them, about the definitions that the calls' promises
--- cite, and `sheets` proves them. What a sheet leaves open, such as the other numbers of a set, old slots and work slices, holds for any. Assumes nothing.
+-- cite, and `sheets` of proofs/SheetsLaws.antt proves them. What a sheet leaves open, such as the other numbers of a set, old slots and work slices, holds for any. Assumes nothing.
 use Rattle.std.specs.Prelude.{◌≡◌, refl, true, false, List, [], ◌∷◌, map, ℕ, ◌+◌, ◌*◌, ◌/◌, ◌%◌, ◌^◌, ◌≤◌, ℤ, pos, negsuc, length, get_or, replicate, Float}
 use Rattle.std.proofs.Common.{ap, ◌∙◌}
 use Rattle.std.specs.Float.{nan, binary64}
@@ -11,7 +11,6 @@ use Rattle.lists.specs.Members.{least_or, least, greatest, keep}
 use Rattle.lists.specs.Digits.{horner, times_power, rest, digits}
 use Rattle.common.specs.Whole.{nint}
 use Rattle.common.specs.Root.{sqrt}
-use Rattle.common.specs.Sheets as rounding
 use Rattle.tables.specs.declared.Answer.TheVariants.{Done}
 use Rattle.tables.specs.Answers.{after}
 use Rattle.tables.specs.Conditions.{out_of_range}
@@ -28,9 +27,7 @@ use Rattle.orbits.specs.Symmetric.{images, first_block, leader, mean_at, symmetr
 use Rattle.distances.specs.declared.Cell.{Cell}
 use Rattle.matching.specs.declared.cells.Matching.TheVariants.{Matched, NotMatched}
 use Rattle.matching.specs.Matching.{compute_permutation}
-use Rattle.matching.specs.Sheets as matching
 use Rattle.fc2.specs.Full.{perm_trans_symmetrize_fc}
-use Rattle.fc2.specs.FullSheets as second
 use Rattle.fc3.specs.Mean.{mean6}
 use Rattle.tables.specs.Limits.{limit3}
 use Rattle.tables.specs.Full.{judged_full}
@@ -126,18 +123,18 @@ pub record Sheets : Type 0 where
 -- ---- sheet 5
 
 -- the six positions are one group; its mean is worked out from the last of them, 21, whose permutations are they from last to first
-abbrev mean_backwards : List Float → Float
+abbrev pub mean_backwards : List Float → Float
 mean_backwards l = mean6 (pick nan (5 ∷ 4 ∷ 3 ∷ 2 ∷ 1 ∷ 0 ∷ []) l)
 
-one-group : (set : List Float) → six_positions (symmetrized nan mean6 (full_shifts 1) 2 perms3 set) ≡ replicate 6 (mean_backwards (six_positions set))
+pub one-group : (set : List Float) → six_positions (symmetrized nan mean6 (full_shifts 1) 2 perms3 set) ≡ replicate 6 (mean_backwards (six_positions set))
 unfolding symmetrized mean_at leader first_block images in_block fill size set_length times_power place legs_of rest digits legs_at stored shift address horner row p2s_at s2pp_at nsym_at full_shifts perms3 pick straight tab tab_from least_or least greatest keep
 one-group set = refl
 
-one-to-six : replicate 6 (mean_backwards (f64 1 ∷ f64 2 ∷ f64 3 ∷ f64 4 ∷ f64 5 ∷ f64 6 ∷ [])) ≡ replicate 6 (35 over 10)
+pub one-to-six : replicate 6 (mean_backwards (f64 1 ∷ f64 2 ∷ f64 3 ∷ f64 4 ∷ f64 5 ∷ f64 6 ∷ [])) ≡ replicate 6 (35 over 10)
 unfolding pick add div of_bits round
 one-to-six = refl
 
-one-atom : (set : List Float) → length set ≡ 27 → set_permutation_symmetry_fc3 set 1 ≡ (Done, symmetrized nan mean6 (full_shifts 1) 2 perms3 set)
+pub one-atom : (set : List Float) → length set ≡ 27 → set_permutation_symmetry_fc3 set 1 ≡ (Done, symmetrized nan mean6 (full_shifts 1) 2 perms3 set)
 unfolding set_permutation_symmetry_fc3 judged_full set_length after
 one-atom set e =
     let j : judged_full limit3 2 (length set) [] 1 ≡ Done = ap (λ n. judged_full limit3 2 n [] 1) e in
@@ -146,12 +143,12 @@ one-atom set e =
 -- ---- sheets 6 and 7
 
 -- the tables pass, with sets of 1 × 3² × 27 and 1 × 2² × 27 numbers and work slices of 1 × 3 and 1 × 2 bytes
-pass : (judged_transpose 243 3 three_atoms ≡ Done) × (judged_transpose 108 2 two_atoms ≡ Done)
+pub pass : (judged_transpose 243 3 three_atoms ≡ Done) × (judged_transpose 108 2 two_atoms ≡ Done)
 unfolding judged_compact set_length set_blocks judged_tables judged_entries out_of_range ruled counts_agree rows_injective has_null rows_closed rows_free p2s_back s2pp_kept nsym_lands distinct is_null is_after follows row p2s_at s2pp_at nsym_at every some
 pass = (refl, refl)
 
 -- a call of type 0 that is not refused
-type_0 : (T : ShiftTables) (n m : ℕ) (set : List Float) (work : List ℕ) → judged_transpose n m T ≡ Done → length set ≡ n → length work ≡ m
+pub type_0 : (T : ShiftTables) (n m : ℕ) (set : List Float) (work : List ℕ) → judged_transpose n m T ≡ Done → length set ≡ n → length work ≡ m
     → transpose_compact_fc3 set T work (pos 0) ≡ (Done, transposed nan (shifts_of T) 0 set, replicate (length work) 0)
 unfolding transpose_compact_fc3 transposed_by after
 type_0 T n m set work j e f =
@@ -159,35 +156,12 @@ type_0 T n m set work j e f =
     ap (λ a. (a, after a (transposed nan (shifts_of T) 0 set) set, after a (replicate (length work) 0) work)) i
 
 -- the three blocks that the sheets name
-type_0_blocks : (set : List Float)
+pub type_0_blocks : (set : List Float)
     → (block_at 3 0 1 2 (transposed nan (shifts_of three_atoms) 0 set) ≡ first_two_swapped (block_at 3 0 2 1 set))
     × (block_at 2 0 1 0 (transposed nan (shifts_of two_atoms) 0 set) ≡ block_at 2 0 1 0 set)
     × (block_at 2 0 1 1 (transposed nan (shifts_of two_atoms) 0 set) ≡ block_at 2 0 1 1 set)
 unfolding block transposed traded fill size set_length times_power place legs_of rest digits at source order pick legs_at stored shift address horner stays is_null row p2s_at s2pp_at nsym_at every tab tab_from
 type_0_blocks set = (refl, refl, refl)
-
--- ---- all of them
-
--- the sheets of the other crates have their numbers as bits
-pub sheets : Sheets
-unfolding of_bits round neg
-sheets = record {
-  sheet1 = rounding.sheet1;
-  sheet2 = rounding.sheet2;
-  sheet3 = λ set level e h. second.sheet3 level set h e;
-  sheet4 = λ set e g. second.sheet4 set e g;
-  sheet5 = λ set e h.
-      let c = one-atom set e in
-      (ap (λ r. r.0) c, ap (λ r. six_positions r.1) c ∙ one-group set ∙ ap (λ l. replicate 6 (mean_backwards l)) h ∙ one-to-six);
-  sheet6 = λ set work e f.
-      let c = type_0 three_atoms 243 3 set work pass.0 e f in
-      (ap (λ r. r.0) c, ap (λ r. block_at 3 0 1 2 r.1) c ∙ (type_0_blocks set).0);
-  sheet7 = λ set work e f.
-      let c = type_0 two_atoms 108 2 set work pass.1 e f in
-      (ap (λ r. r.0) c, ap (λ r. block_at 2 0 1 0 r.1) c ∙ (type_0_blocks set).1, ap (λ r. block_at 2 0 1 1 r.1) c ∙ (type_0_blocks set).2);
-  sheet8 = (matching.no-positions, matching.on-itself, matching.at_zero);
-  sheet9 = matching.two-positions;
-}
 
 -- ---- the stated exact case ("Traps for the porter"): six times -0.0 gives -0.0; the 24-term sum starts at 0.0, and so gives 0.0
 

@@ -1,19 +1,17 @@
 -- The law of sequences for `swap_pairs_compact_fc4`: any list of calls, refused ones among them, acts as the order of four pairs that it spells.
 -- Assumes nothing.
 use Rattle.std.specs.Prelude.{◌≡◌, refl, ℕ, List, [], ◌∷◌, pos, length, get_or, Float}
-use Rattle.std.proofs.Common.{ap}
 use Rattle.lists.specs.Tab.{tab, tab_from}
 use Rattle.lists.specs.Elements.{pick, straight, pick-straight}
 use Rattle.tables.specs.Answers.{is_refusal}
-use Rattle.tables.specs.Compact.{ShiftTables, shifts_of, judged_entries, judged_tables, judged_compact}
-use Rattle.places.specs.Places.{Leg, size}
+use Rattle.tables.specs.Compact.{ShiftTables, judged_entries, judged_tables, judged_compact}
+use Rattle.places.specs.Places.{Leg}
 use Rattle.places.specs.Permutations.{permute_legs}
 use Rattle.orbits.specs.Exchanging.{partner, exchanging}
 use Rattle.orbits.specs.TrueTransposes.{legs4, true_transpose, true_transpose_compact_fc4}
 use Rattle.transposes_fc4.specs.Swaps.{judged_swap, swap_pairs_compact_fc4}
-use Rattle.transposes_fc4.specs.Guard.{swap-sound}
-use Rattle.laws.specs.CallLists.{Kind, Own, Law}
-use Rattle.laws.specs.TrueLists.{true_kind, true_law, Plain4, ask4}
+use Rattle.laws.specs.CallLists.{Kind}
+use Rattle.laws.specs.TrueLists.{true_kind, Plain4, ask4}
 
 -- a call, by its arguments besides the set
 pub record Swap : Type 0 where
@@ -61,15 +59,6 @@ pub legs_0_1 : (set : List Float) (T : ShiftTables) (work : List ℕ) → swap_p
 unfolding swap_pairs_compact_fc4 judged_swap true_transpose_compact_fc4 true_transpose legs4 judged_compact judged_tables judged_entries
 legs_0_1 set T work = refl
 
-four : (xs : List Leg) → length xs ≡ 4 → get_or xs 0 (0, 0) ∷ get_or xs 1 (0, 0) ∷ get_or xs 2 (0, 0) ∷ get_or xs 3 (0, 0) ∷ [] ≡ xs
+pub four : (xs : List Leg) → length xs ≡ 4 → get_or xs 0 (0, 0) ∷ get_or xs 1 (0, 0) ∷ get_or xs 2 (0, 0) ∷ get_or xs 3 (0, 0) ∷ [] ≡ xs
 unfolding pick straight tab tab_from
 four xs l = pick-straight (0, 0) 4 xs l
-
-pub law-swaps : (T : ShiftTables) (set : List Float) (cs : List Swap) → length set ≡ size (shifts_of T) 3 → Own swaps T (length set) cs → Law swaps T set cs
-law-swaps T =
-    true_law 3 (λ (c : Swap). c.tables) (λ n (c : Swap). judged_swap n (length c.work) c.tables c.leg_a c.leg_b) (λ (c : Swap). (c.leg_a, c.leg_b))
-    (λ f x y z w. f (x ∷ y ∷ z ∷ w ∷ [])) (λ (c : Swap). exchange_legs c.leg_a c.leg_b) ask4
-    (λ n c e. swap-sound n (length c.work) c.tables c.leg_a c.leg_b e)
-    (λ f xs l. ap f (four xs l))
-    (λ c t xs l. ap (λ xs. ask4 t (permute_legs (exchanging 3 c.leg_a c.leg_b) xs)) (four xs l))
-    T

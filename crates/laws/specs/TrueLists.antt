@@ -9,7 +9,7 @@ use Rattle.lists.specs.Tab.{tab, tab_from}
 use Rattle.lists.specs.Elements.{pick, straight, pick-straight}
 use Rattle.tables.specs.declared.Answer.{Answer}
 use Rattle.tables.specs.declared.Answer.TheVariants.{Done}
-use Rattle.tables.specs.Answers.{is_refusal, after, is_done, after_refusal, after-done}
+use Rattle.tables.specs.Answers.{is_refusal, after}
 use Rattle.tables.specs.Shifts.{Shifts, Laws}
 use Rattle.tables.specs.Limits.{limit2, limit3, limit4}
 use Rattle.tables.specs.Compact.{ShiftTables, shifts_of, judged_compact}
@@ -18,16 +18,16 @@ use Rattle.places.specs.Places.{Leg, Legs, read_out, size}
 use Rattle.places.specs.Permutations.{permute_legs}
 use Rattle.places.specs.Moves.{moved, length_moved}
 use Rattle.places.proofs.MovesLaws.{read_out-moved}
-use Rattle.orbits.specs.Exchanging.{partner, exchanging, exchanging_permutes, exchanging-undone, exchanging-same}
+use Rattle.orbits.specs.Exchanging.{partner, exchanging, exchanging_permutes, exchanging-same}
 use Rattle.orbits.specs.TrueTransposes.{swapped, true_transpose, legs3, legs4, true_transpose_compact_fc2, true_transpose_compact_fc3, true_transpose_compact_fc4}
-use Rattle.laws.specs.CallLists.{Kind, Own, Law, Exchanges, sequences}
+use Rattle.laws.specs.CallLists.{Kind}
 use Rattle.laws.specs.Transposes.{Call, Plain, exchange}
 
 -- ---- any rank: a call names two legs
 
 module _ (m : ℕ) where
   -- a set with two legs exchanged, equal legs too
-  length-swapped : (S : Shifts) (l : ℕ × ℕ) (set : List Float) → length set ≡ size S m → length (swapped S m l set) ≡ size S m
+  pub length-swapped : (S : Shifts) (l : ℕ × ℕ) (set : List Float) → length set ≡ size S m → length (swapped S m l set) ≡ size S m
   unfolding swapped
   length-swapped S l set e = go (split (eqb l.0 l.1))
     where
@@ -35,7 +35,7 @@ module _ (m : ℕ) where
       go (inl q) = rw q e
       go (inr q) = rw q (length_moved nan S m (exchanging m l.0 l.1) set)
 
-  read_swapped : (S : Shifts) → Laws S → (l : ℕ × ℕ) → l.0 < suc m → l.1 < suc m → (set : List Float) (xs : List Leg) → Legs S m xs
+  pub read_swapped : (S : Shifts) → Laws S → (l : ℕ × ℕ) → l.0 < suc m → l.1 < suc m → (set : List Float) (xs : List Leg) → Legs S m xs
       → read_out nan S (swapped S m l set) xs ≡ read_out nan S set (permute_legs (exchanging m l.0 l.1) xs)
   unfolding swapped
   read_swapped S L l hu hv set xs p = go (split (eqb l.0 l.1))
@@ -64,40 +64,8 @@ module _ {C P : Type 0} (m : ℕ) (tables : C → ShiftTables) (judge : ℕ → 
   abbrev pub Sound : C → Type 0
   Sound c = Laws (shifts_of (tables c)) × ((legs c).0 < suc m) × ((legs c).1 < suc m)
 
-  module _ (sound : (n : ℕ) (c : C) → judge n c ≡ Done → Sound c)
-      (fills : (f : List Leg → Float) (xs : List Leg) → length xs ≡ suc m → askBy (fillBy f) xs ≡ f xs)
-      (asks : (c : C) (t : P) (xs : List Leg) → length xs ≡ suc m → askBy (feedBy c t) xs ≡ askBy t (permute_legs (exchanging m (legs c).0 (legs c).1) xs))
-      (T : ShiftTables) where
-    accepted : (n : ℕ) (c : C) → is_refusal (judge n c) ≡ false → Sound c
-    accepted n c e = sound n c (is_done (judge n c) e)
-
-    left-accepted : (c : C) (set : List Float) → is_refusal (judge (length set) c) ≡ false → tables c ≡ T
-        → after (judge (length set) c) (swapped (shifts_of (tables c)) m (legs c) set) set ≡ swapped (shifts_of T) m (legs c) set
-    left-accepted c set e q = after-done (judge (length set) c) _ set e ∙ ap (λ T. swapped (shifts_of T) m (legs c) set) q
-
-    left-refused : (c : C) (set : List Float) → is_refusal (judge (length set) c) ≡ true → after (judge (length set) c) (swapped (shifts_of (tables c)) m (legs c) set) set ≡ set
-    left-refused c set e = after_refusal (judge (length set) c) _ set e
-
-    true_exchanges : Exchanges true_kind T
-    true_exchanges = record {
-      is_permutation = λ n c e. let a = accepted n c e in exchanging_permutes m (legs c).0 (legs c).1 a.1 a.2;
-      undone = λ n c e. let a = accepted n c e in exchanging-undone m (legs c).0 (legs c).1 a.1 a.2;
-      fills = fills;
-      asks = λ n c e. asks c;
-      left-refused = left-refused;
-      accepted = λ n c e. (accepted n c e).0;
-      keeps = λ c set e q l. ap length (left-accepted c set e q) ∙ length-swapped m (shifts_of T) (legs c) set l;
-      reads = λ c set xs e q l p.
-          let a = accepted (length set) c e in
-          ap (λ s. read_out nan (shifts_of T) s xs) (left-accepted c set e q) ∙ read_swapped m (shifts_of T) (rw q at a.0) (legs c) a.1 a.2 set xs p;
-    }
-
-    -- for any compact set of the stated length, half shifts or not
-    pub true_law : (set : List Float) (cs : List C) → length set ≡ size (shifts_of T) m → Own true_kind T (length set) cs → Law true_kind T set cs
-    true_law = sequences true_kind T true_exchanges
-
 -- tables that pass the guard of a compact call keep the rules
-keeps_rules_lem : (limit m n w : ℕ) (T : ShiftTables) → judged_compact limit m n 1 w T ≡ Done → Laws (shifts_of T)
+pub keeps_rules_lem : (limit m n w : ℕ) (T : ShiftTables) → judged_compact limit m n 1 w T ≡ Done → Laws (shifts_of T)
 keeps_rules_lem limit m n w T e = (done_compact limit m n 1 w T e).rules
 
 -- ---- second order: calls without a type, a table of two pairs
@@ -128,18 +96,13 @@ pub second_refuses : (c : Call2) (set : List Float) → second.refused (length s
 unfolding true_transpose_compact_fc2 true_transpose
 second_refuses c set = refl
 
-fills2 : (f : List Leg → Float) (xs : List Leg) → length xs ≡ 2 → ask2 (λ x y. f (x ∷ y ∷ [])) xs ≡ f xs
+pub fills2 : (f : List Leg → Float) (xs : List Leg) → length xs ≡ 2 → ask2 (λ x y. f (x ∷ y ∷ [])) xs ≡ f xs
 unfolding pick straight tab tab_from
 fills2 f xs l = ap f (pick-straight (0, 0) 2 xs l)
 
-asks2 : (c : Call2) (t : Plain2) (xs : List Leg) → ask2 (exchange2 c t) xs ≡ ask2 t (permute_legs (exchanging 1 0 1) xs)
+pub asks2 : (c : Call2) (t : Plain2) (xs : List Leg) → ask2 (exchange2 c t) xs ≡ ask2 t (permute_legs (exchanging 1 0 1) xs)
 unfolding exchanging partner pick tab tab_from
 asks2 c t xs = refl
-
-pub law2 : (T : ShiftTables) (set : List Float) (cs : List Call2) → length set ≡ size (shifts_of T) 1 → Own second T (length set) cs → Law second T set cs
-law2 T =
-    true_law 1 (λ (c : Call2). c.tables) (λ n (c : Call2). judged_compact limit2 1 n 1 (length c.work) c.tables) (λ (c : Call2). (0, 1)) (λ f x y. f (x ∷ y ∷ [])) exchange2 ask2
-    (λ n c e. (keeps_rules_lem limit2 1 n (length c.work) c.tables e, lit< tt, lit< tt)) fills2 (λ c t xs l. asks2 c t xs) T
 
 -- ---- third order: the types and the table of the calls that are the Rust's
 
@@ -157,11 +120,11 @@ pub third_refuses : (c : Call) (set : List Float) → third.refused (length set)
 unfolding true_transpose_compact_fc3 true_transpose
 third_refuses c set = refl
 
-fills3 : (f : List Leg → Float) (xs : List Leg) → length xs ≡ 3 → ask3 (λ x y w. f (x ∷ y ∷ w ∷ [])) xs ≡ f xs
+pub fills3 : (f : List Leg → Float) (xs : List Leg) → length xs ≡ 3 → ask3 (λ x y w. f (x ∷ y ∷ w ∷ [])) xs ≡ f xs
 unfolding pick straight tab tab_from
 fills3 f xs l = ap f (pick-straight (0, 0) 3 xs l)
 
-inside3 : (z : ℤ) → ((legs3 z).0 < 3) × ((legs3 z).1 < 3)
+pub inside3 : (z : ℤ) → ((legs3 z).0 < 3) × ((legs3 z).1 < 3)
 unfolding legs3
 inside3 (pos zero) = (lit< tt, lit< tt)
 inside3 (pos (suc zero)) = (lit< tt, lit< tt)
@@ -169,18 +132,13 @@ inside3 (pos (suc (suc zero))) = (lit< tt, lit< tt)
 inside3 (pos (suc (suc (suc t)))) = (lit< tt, lit< tt)
 inside3 (negsuc t) = (lit< tt, lit< tt)
 
-asks3 : (z : ℤ) (t : Plain) (xs : List Leg) → ask3 (exchange z t) xs ≡ ask3 t (permute_legs (exchanging 2 (legs3 z).0 (legs3 z).1) xs)
+pub asks3 : (z : ℤ) (t : Plain) (xs : List Leg) → ask3 (exchange z t) xs ≡ ask3 t (permute_legs (exchanging 2 (legs3 z).0 (legs3 z).1) xs)
 unfolding exchange legs3 exchanging partner pick tab tab_from
 asks3 (pos zero) t xs = refl
 asks3 (pos (suc zero)) t xs = refl
 asks3 (pos (suc (suc zero))) t xs = refl
 asks3 (pos (suc (suc (suc k)))) t xs = refl
 asks3 (negsuc k) t xs = refl
-
-pub law3 : (T : ShiftTables) (set : List Float) (cs : List Call) → length set ≡ size (shifts_of T) 2 → Own third T (length set) cs → Law third T set cs
-law3 T =
-    true_law 2 (λ (c : Call). c.tables) (λ n (c : Call). judged_compact limit3 2 n 1 (length c.work) c.tables) (λ (c : Call). legs3 c.type) (λ f x y w. f (x ∷ y ∷ w ∷ [])) (λ (c : Call). exchange c.type) ask3
-    (λ n c e. (keeps_rules_lem limit3 2 n (length c.work) c.tables e, (inside3 c.type).0, (inside3 c.type).1)) fills3 (λ c t xs l. asks3 c.type t xs) T
 
 -- ---- fourth order: type 0 alone, a table of four pairs
 
@@ -207,23 +165,18 @@ pub fourth_refuses : (c : Call) (set : List Float) → fourth.refused (length se
 unfolding true_transpose_compact_fc4 true_transpose
 fourth_refuses c set = refl
 
-fills4 : (f : List Leg → Float) (xs : List Leg) → length xs ≡ 4 → ask4 (λ x y z w. f (x ∷ y ∷ z ∷ w ∷ [])) xs ≡ f xs
+pub fills4 : (f : List Leg → Float) (xs : List Leg) → length xs ≡ 4 → ask4 (λ x y z w. f (x ∷ y ∷ z ∷ w ∷ [])) xs ≡ f xs
 unfolding pick straight tab tab_from
 fills4 f xs l = ap f (pick-straight (0, 0) 4 xs l)
 
-inside4 : (z : ℤ) → ((legs4 z).0 < 4) × ((legs4 z).1 < 4)
+pub inside4 : (z : ℤ) → ((legs4 z).0 < 4) × ((legs4 z).1 < 4)
 unfolding legs4
 inside4 (pos zero) = (lit< tt, lit< tt)
 inside4 (pos (suc t)) = (lit< tt, lit< tt)
 inside4 (negsuc t) = (lit< tt, lit< tt)
 
-asks4 : (z : ℤ) (t : Plain4) (xs : List Leg) → ask4 (exchange4 z t) xs ≡ ask4 t (permute_legs (exchanging 3 (legs4 z).0 (legs4 z).1) xs)
+pub asks4 : (z : ℤ) (t : Plain4) (xs : List Leg) → ask4 (exchange4 z t) xs ≡ ask4 t (permute_legs (exchanging 3 (legs4 z).0 (legs4 z).1) xs)
 unfolding exchange4 legs4 exchanging partner pick tab tab_from
 asks4 (pos zero) t xs = refl
 asks4 (pos (suc k)) t xs = refl
 asks4 (negsuc k) t xs = refl
-
-pub law4 : (T : ShiftTables) (set : List Float) (cs : List Call) → length set ≡ size (shifts_of T) 3 → Own fourth T (length set) cs → Law fourth T set cs
-law4 T =
-    true_law 3 (λ (c : Call). c.tables) (λ n (c : Call). judged_compact limit4 3 n 1 (length c.work) c.tables) (λ (c : Call). legs4 c.type) (λ f x y z w. f (x ∷ y ∷ z ∷ w ∷ [])) (λ (c : Call). exchange4 c.type) ask4
-    (λ n c e. (keeps_rules_lem limit4 3 n (length c.work) c.tables e, (inside4 c.type).0, (inside4 c.type).1)) fills4 (λ c t xs l. asks4 c.type t xs) T

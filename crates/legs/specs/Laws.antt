@@ -116,7 +116,7 @@ module _ (S : Shifts) (m : ℕ) (set : List Float) where
   unfoldable pub all_seen : Seen
   all_seen = times (suc m * others S m set * w) (λ z. look z (leg_sum_at S m set z)) nothing_seen
 
-  line-seen : (e t : ℕ) → t < others S m set → (s : Seen)
+  pub line-seen : (e t : ℕ) → t < others S m set → (s : Seen)
       → line_seen w e t s ≡ look_at ((e * others S m set + t) * w) w (λ k. leg_sum_at S m set ((e * others S m set + t) * w + k)) s
   unfolding line_seen block_sums
   line-seen e t ht s =
@@ -126,19 +126,6 @@ module _ (S : Shifts) (m : ℕ) (set : List Float) where
       sum_is (m - e) t k hk
       ∙ sym (ap₂ (λ q k. leg_sum S m set (m - q / others S m set) (q % others S m set) k) (quotient w q k hk) (remainder w q k hk)
       ∙ ap₂ (λ e t. leg_sum S m set (m - e) t k) (quotient (others S m set) e t ht) (remainder (others S m set) e t ht)))
-
-  pub legs_seen : {c : Seen} → c ≡ times (suc m) (leg_seen w) nothing_seen → c ≡ all_seen
-  unfolding leg_seen all_seen
-  legs_seen e =
-      let G : ℕ → Seen → Seen = λ q. look_at (q * w) w (λ k. leg_sum_at S m set (q * w + k)) in
-      e
-      ∙ times-same (suc m) _ _ nothing_seen (λ l hl s. times-same (others S m set) _ _ s (λ t ht u. line-seen l t ht u))
-      ∙ sym (times_nest (suc m) (others S m set) G nothing_seen)
-      ∙ rows-looked (suc m * others S m set) w (leg_sum_at S m set) G nothing_seen (λ q h c. refl)
-
-  -- the same with the width of a block as the program has it
-  pub legs_seen-w : (c : ℕ) → in_block m ≡ c → {s : Seen} → s ≡ times (suc m) (leg_seen c) nothing_seen → s ≡ all_seen
-  legs_seen-w c ec e = legs_seen (e ∙ ap (λ c. times (suc m) (leg_seen c) nothing_seen) (sym ec))
 
   -- a look at one line is that of the definition
   pub look_is : (c e t : ℕ) (s : Seen) {first : ℕ} {x : List Float} → first ≡ (e * others S m set + t) * c → x ≡ block_sums c (leg_block S m (m - e) t) n set

@@ -89,17 +89,12 @@ fine : (t : Answer) (bad : Bool) → cond bad (with_bad_leg t) t ≡ Done → (b
 fine t false e = (refl, e)
 fine t true e = absurd (none_done t e)
 
-legs_done : (t : Answer) (a b : ℕ) → with_legs t a b ≡ Done → (t ≡ Done) × (a < 4) × (b < 4)
+pub legs_done : (t : Answer) (a b : ℕ) → with_legs t a b ≡ Done → (t ≡ Done) × (a < 4) × (b < 4)
 unfolding with_legs
 legs_done t a b e =
     let (f, d) = fine t (any_above 3 (a ∷ b ∷ [])) e in
     let (ha, (hb, _)) = not_above 3 (a ∷ b ∷ []) f in
     (d, omega arith, omega arith)
-
-pub swap-sound : (lenSet lenWork : ℕ) (T : ShiftTables) (a b : ℕ) → judged_swap lenSet lenWork T a b ≡ Done → Laws (shifts_of T) × (a < 4) × (b < 4)
-swap-sound lenSet lenWork T a b e =
-    let (d, ha, hb) = legs_done (judged_compact limit4 3 lenSet 1 lenWork T) a b (judged_legs lenSet lenWork T a b ∙ e) in
-    ((done_compact limit4 3 lenSet 1 lenWork T d).rules, ha, hb)
 
 -- ---- the call
 
@@ -107,26 +102,3 @@ swap-sound lenSet lenWork T a b e =
 pub swapped-none : (a b : ℕ) (S : Shifts) (old : List Float) → a ≡ b → old ≡ swapped S 3 (a, b) old
 unfolding swapped
 swapped-none a b S old e = sym (rw (eq-eqb a b e) refl)
-
-module _ (set : List Float) (T : ShiftTables) (work : List ℕ) (a b : ℕ) (t r : Answer)
-    (et : t ≡ judged_compact limit4 3 (length set) 1 (length work) T) (er : r ≡ with_legs t a b) where
-  judged : r ≡ judged_swap (length set) (length work) T a b
-  judged = er ∙ ap (λ t. with_legs t a b) et ∙ judged_legs (length set) (length work) T a b
-
-  pub swap-refused : is_refusal r ≡ true → ◌≡◌ {A = Answer × List Float × List ℕ} (r, set, work) (swap_pairs_compact_fc4 set T work a b)
-  unfolding swap_pairs_compact_fc4
-  swap-refused e = refused_call r (swapped (shifts_of T) 3 (a, b) set) set (replicate (length work) 0) work e
-      ∙ ap (λ r. (r, after r (swapped (shifts_of T) 3 (a, b) set) set, after r (replicate (length work) 0) work)) judged
-
-  pub swap-ready : is_refusal r ≡ false → Trading 3 (length set) T × (a < 4) × (b < 4)
-  swap-ready e =
-      let (d, ha, hb) = legs_done t a b (sym er ∙ is_done r e) in
-      (trading T (lit≤ tt) (done_compact limit4 3 (length set) 1 (length work) T (sym et ∙ d)), ha, hb)
-
-  pub swap-done : is_refusal r ≡ false → {new : List Float} {clear : List ℕ} → new ≡ swapped (shifts_of T) 3 (a, b) set → clear ≡ replicate (length work) 0
-      → ◌≡◌ {A = Answer × List Float × List ℕ} (Done, new, clear) (swap_pairs_compact_fc4 set T work a b)
-  unfolding swap_pairs_compact_fc4
-  swap-done e n c =
-      ap₂ (λ x y. (Done, x, y)) n c
-      ∙ done_call r (swapped (shifts_of T) 3 (a, b) set) set (replicate (length work) 0) work e
-      ∙ ap (λ r. (r, after r (swapped (shifts_of T) 3 (a, b) set) set, after r (replicate (length work) 0) work)) judged

@@ -30,7 +30,7 @@ use Rattle.orbits.specs.HalfShift.{Sound, block_in, PairAt}
 use Rattle.orbits.specs.TrueTransposes.{swapped}
 use Rattle.orbits.specs.Moved.{stay_if, stay_if_lem}
 use Rattle.transposes_fc4.specs.Pairs.{from_pairs, Inside54, FirstTwo, same-positions}
-use Rattle.transposes_fc4.specs.Rows.{pair_row, taken_to, first_two_lem, pairs_in, exchanges_legs}
+use Rattle.transposes_fc4.specs.Rows.{pair_row, taken_to, first_two_lem}
 
 -- an order of four legs that undoes itself and moves leg 1 to leg 0 only where no other moves, and the pairs of numbers of a block that change places
 -- under it
@@ -87,11 +87,6 @@ one_loop h o T xs =
     let n = T.n_satom in
     let f = visit nan the_other (blocks_by (shifts_of T) 3 o (stay_if h (shifts_of T) 3 0)) in
     sym (times_nest (T.n_patom * n * n) n f xs ∙ times_nest (T.n_patom * n) n (λ x. times n (λ l. f (x * n + l))) xs)
-
--- two legs
-pub two_legs : (a b : ℕ) → a < 4 → b < 4 → (a ≡ b → ⊥) → {o m : List ℕ} → o ≡ exchanging 3 a b → m ≡ taken_to (pair_row a b) → Swap o m
-two_legs a b ha hb n {o} {m} e f =
-    rw (e, f) (record { is_order = exchanging_permutes 3 a b ha hb; twice = exchanging-twice 3 a b ha hb; runs = first_two_lem a b; inside = pairs_in a b ha hb n; exchanges = exchanges_legs a b ha hb n })
 
 pub swaps : (a b : ℕ) (T : ShiftTables) → a < 4 → b < 4 → (a ≡ b → ⊥) → Laws (shifts_of T) → (old : List Float) → length old ≡ size (shifts_of T) 3
     → pairs4 false (exchanging 3 a b) T old ≡ swapped (shifts_of T) 3 (a, b) old

@@ -53,10 +53,10 @@ unfolding first_in
 first_in_lem n h = ltb-true (get_or first_pairs n 0) 81 (every-at 54 first_in all_in n h)
 
 -- the pairs of row s exchange legs a and b at position k
-exchanged_at : ℕ → ℕ → ℕ → ℕ → Bool
+unfoldable pub exchanged_at : ℕ → ℕ → ℕ → ℕ → Bool
 exchanged_at s a b k = eqb (from_pairs (taken_to s) 27 k) (permuted 3 (exchanging 3 a b) k)
 
-two-rows : (a b : ℕ) → a < 4 → b < 4 → (a ≡ b → ⊥) → (pair_row a b < 24) × (every 81 (exchanged_at (pair_row a b) a b) ≡ true)
+pub two-rows : (a b : ℕ) → a < 4 → b < 4 → (a ≡ b → ⊥) → (pair_row a b < 24) × (every 81 (exchanged_at (pair_row a b) a b) ≡ true)
 unfolding every exchanged_at from_pairs taken_to permuted permutation_at perms4 exchanging partner tab tab_from horner pick rest digits
 two-rows zero zero ha hb n = absurd (n refl)
 two-rows zero (suc zero) ha hb n = (lit< tt, refl)
@@ -79,18 +79,6 @@ two-rows zero (suc (suc (suc (suc b)))) ha hb n = absurd (omega arith)
 two-rows (suc zero) (suc (suc (suc (suc b)))) ha hb n = absurd (omega arith)
 two-rows (suc (suc zero)) (suc (suc (suc (suc b)))) ha hb n = absurd (omega arith)
 two-rows (suc (suc (suc zero))) (suc (suc (suc (suc b)))) ha hb n = absurd (omega arith)
-
-module _ (a b : ℕ) (ha : a < 4) (hb : b < 4) (n : a ≡ b → ⊥) where
-  pub row_below : pair_row a b < 24
-  row_below = (two-rows a b ha hb n).0
-
-  pub exchanges_legs : (k : ℕ) → k < 81 → from_pairs (taken_to (pair_row a b)) 27 k ≡ permuted 3 (exchanging 3 a b) k
-  unfolding exchanged_at
-  exchanges_legs k h = eqb-true _ _ (every-at 81 (exchanged_at (pair_row a b) a b) (two-rows a b ha hb n).1 k h)
-
-  pub pairs_in : Inside54 (taken_to (pair_row a b))
-  unfolding taken_to
-  pairs_in k h = rw (get_or-tab 54 (λ n. permuted 3 (permutation_at (pair_row a b)) (get_or first_pairs n 0)) k 0 h) (permuted_in (pair_row a b) (get_or first_pairs k 0) row_below (first_in_lem k h))
 
 -- where leg 1 comes to stand at leg 0, these two are exchanged
 pub first_two_lem : (a b : ℕ) → get_or (exchanging 3 a b) 0 0 ≡ 1 → exchanging 3 a b ≡ order4 0

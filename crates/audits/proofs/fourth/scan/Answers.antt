@@ -7,9 +7,10 @@ use Rattle.tables.specs.Limits.{limit4}
 use Rattle.tables.specs.Compact.{ShiftTables, shift_tables, shifts_of}
 use Rattle.places.specs.Permutations.{perms4}
 use Rattle.audits.specs.declared.Audit.TheVariants.{Unlike}
-use Rattle.audits.specs.Blocks.{alike-none, fits_w, passed-w, some-w, found-w, all-passed}
+use Rattle.audits.specs.Blocks.{alike-none, fits_w, all-passed}
+use Rattle.audits.proofs.BlocksLaws.{passed-w, some-w, found-w}
 use Rattle.audits.specs.Guard.{block-count}
-use Rattle.audits.specs.Later.{walked}
+use Rattle.audits.proofs.LaterLaws.{walked}
 use Rattle.audits.specs.FourthScanLaws.{in81, orders, blocks-few, blocks-some}
 use Rattle.audits.proofs.fourth.scan.Goals as goal
 

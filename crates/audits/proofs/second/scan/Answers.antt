@@ -6,7 +6,8 @@ use Rattle.tables.specs.Limits.{limit2}
 use Rattle.tables.specs.Compact.{ShiftTables, shift_tables, shifts_of}
 use Rattle.places.specs.Permutations.{perms2}
 use Rattle.audits.specs.declared.Audit.TheVariants.{Unlike}
-use Rattle.audits.specs.Blocks.{fits_w, passed-w, some-w, found-w, all-passed}
+use Rattle.audits.specs.Blocks.{fits_w, all-passed}
+use Rattle.audits.proofs.BlocksLaws.{passed-w, some-w, found-w}
 use Rattle.audits.specs.Guard.{block-count}
 use Rattle.audits.specs.SecondScanLaws.{in9, orders}
 use Rattle.audits.proofs.second.scan.Goals as goal

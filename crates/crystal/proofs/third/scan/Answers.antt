@@ -5,7 +5,8 @@ use Rattle.lists.specs.Digits.{times_power}
 use Rattle.tables.specs.Compact.{ShiftTables, shift_tables, shifts_of}
 use Rattle.rotations.specs.Rotation.{coefficients}
 use Rattle.audits.specs.ThirdScanLaws.{in27}
-use Rattle.crystal.specs.Laws.{operation_seen, operations_seen-w, sends, carts_inside}
+use Rattle.crystal.specs.Laws.{operation_seen, sends, carts_inside}
+use Rattle.crystal.proofs.SeenLaws.{operations_seen-w}
 use Rattle.crystal.proofs.third.scan.Goals as goal
 
 pub loop-r-init : goal.loop-r-init

@@ -2,7 +2,7 @@ use native.Mathlib.Omega.{arith}
 use mathlib.Core.Path.{sym, ap, ◌∙◌}
 use lib.Dec.{lit≤}
 use Rattle.drift.specs.declared.third.LegAnswer.TheVariants.{Report}
-use Rattle.drift.specs.ThirdLaws.{few-atoms, long-set, report-refused, report-done, report-none}
+use Rattle.drift.proofs.ThirdLaws.{few-atoms, long-set, report-refused, report-done, report-none}
 use Rattle.drift.proofs.third.drift_report_fc3.Goals as goal
 
 pub returns-then-num_atom-eq0 : goal.returns-then-num_atom-eq0

@@ -2,7 +2,7 @@ use Prim.Native.Nat.{◌*◌}
 use native.Mathlib.Omega.{arith}
 use mathlib.Core.Path.{ap, ◌∙◌}
 use Rattle.drift.specs.Lines.{look_leg, scanned3, square}
-use Rattle.drift.specs.ThirdLaws.{apart-third, apart-second, apart-first}
+use Rattle.drift.proofs.ThirdLaws.{apart-third, apart-second, apart-first}
 use Rattle.drift.proofs.third.scan.Goals as goal
 
 pub look_leg-third-requires : goal.look_leg-third-requires

@@ -3,7 +3,8 @@ use mathlib.Core.Path.{◌≡◌, ap, ◌∙◌}
 use Rattle.lists.specs.Tab.{times, times_none, times_more}
 use Rattle.tables.specs.Compact.{ShiftTables, shift_tables, shifts_of}
 use Rattle.audits.specs.FourthScanLaws.{in81}
-use Rattle.legs.specs.Laws.{leg_seen, legs_seen-w}
+use Rattle.legs.specs.Laws.{leg_seen}
+use Rattle.legs.proofs.SeenLaws.{legs_seen-w}
 use Rattle.legs.proofs.fourth.scan.Goals as goal
 
 pub loop-e-init : goal.loop-e-init

@@ -1,6 +1,7 @@
 use mathlib.Core.Path.{ap, ◌∙◌}
 use Rattle.tables.specs.Compact.{shift_tables}
-use Rattle.transposes_fc4.specs.Loops.{pairs4, two_legs}
+use Rattle.transposes_fc4.specs.Loops.{pairs4}
+use Rattle.transposes_fc4.proofs.RowsLaws.{two_legs}
 use Rattle.transposes_fc4.proofs.legs.exchange_legs.Goals as goal
 
 pub pairs_of-m-requires : goal.pairs_of-m-requires

@@ -1,5 +1,6 @@
 use mathlib.Core.Path.{ap, ◌∙◌}
-use Rattle.transposes_fc4.specs.Rows.{taken_to, row_below}
+use Rattle.transposes_fc4.specs.Rows.{taken_to}
+use Rattle.transposes_fc4.proofs.RowsLaws.{row_below}
 use Rattle.transposes_fc4.proofs.legs.pairs_of.Goals as goal
 
 pub pair_row-requires : goal.pair_row-requires

@@ -1,5 +1,5 @@
 use mathlib.Core.Path.{sym, ◌∙◌}
-use Rattle.transposes_fc4.specs.Guard.{swap-refused, swap-ready, swap-done}
+use Rattle.transposes_fc4.proofs.GuardLaws.{swap-refused, swap-ready, swap-done}
 use Rattle.transposes_fc4.proofs.swaps.swap_pairs_compact_fc4.Goals as goal
 
 pub returns-then-is_refusal : goal.returns-then-is_refusal

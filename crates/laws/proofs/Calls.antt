@@ -20,7 +20,8 @@ use Rattle.fc4.specs.Mean24.{mean24}
 use Rattle.fc4.specs.Symmetrize as fourth-order
 use Rattle.read_out.specs.FullSet.{full_set}
 use Rattle.read_out.specs.ReadOut.{judged_read_out, compact_to_full, compact_to_full_fc3, compact_to_full_fc4}
-use Rattle.laws.specs.Agree.{GridSet, agrees3, agrees4}
+use Rattle.laws.specs.Agree.{GridSet}
+use Rattle.laws.proofs.AgreeLaws.{agrees3, agrees4}
 
 -- what a call leaves that is done
 left : {A : Type 0} (a : Answer) (new old : A) → a ≡ Done → after a new old ≡ new

@@ -7,7 +7,7 @@ use Rattle.lists.specs.Digits.{times_power}
 use Rattle.tables.specs.Shifts.{Shifts, Laws}
 use Rattle.places.specs.Permutations.{Group}
 use Rattle.orbits.specs.Transposed.{counterpart}
-use Rattle.audits.specs.PlaceLaws.{earlier_tells}
+use Rattle.audits.proofs.EarlierLaws.{earlier_tells}
 use Rattle.audits.specs.Blocks.{AlikeTo, alike-more}
 
 -- ---- one block

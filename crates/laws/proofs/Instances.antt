@@ -32,12 +32,15 @@ use Rattle.laws.specs.Symmetrized.{Symmetric, third, fourth}
 use Rattle.laws.specs.Audits.{third-alike, fourth-alike}
 use Rattle.laws.specs.Sequences.{leaves, spells}
 use Rattle.laws.specs.CallLists.{Kind, Law, permutation_by, feed, fed as fedBy, left as left_by, spelled as spelledBy}
-use Rattle.laws.specs.Transposes.{Call, exchange, refused, permutation_of, fed, spelled, left, Own, ListLaw, law}
+use Rattle.laws.specs.Transposes.{Call, exchange, refused, permutation_of, fed, spelled, left, Own, ListLaw}
+use Rattle.laws.proofs.TransposesLaws.{law}
 use Rattle.orbits.specs.Exchanging.{partner, exchanging}
 use Rattle.orbits.specs.TrueTransposes.{legs3, legs4}
-use Rattle.laws.specs.TrueLists.{Call2, exchange4, second as trueSecond, third as trueThird, fourth as trueFourth, law2, law3, law4}
+use Rattle.laws.specs.TrueLists.{Call2, exchange4, second as trueSecond, third as trueThird, fourth as trueFourth}
+use Rattle.laws.proofs.TrueListsLaws.{law2, law3, law4}
 use Rattle.transposes_fc4.specs.Swaps.{judged_swap}
-use Rattle.laws.specs.SwapLists.{Swap, swaps, law-swaps}
+use Rattle.laws.specs.SwapLists.{Swap, swaps}
+use Rattle.laws.proofs.SwapListsLaws.{law-swaps}
 use Rattle.laws.specs.Sheets.{two_atoms}
 
 -- four atoms, two of them in the primitive cell; row 1 is a half shift

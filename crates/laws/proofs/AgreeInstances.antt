@@ -24,8 +24,8 @@ use Rattle.read_out.specs.FullSet.{length-full}
 use Rattle.read_out.specs.ReadOut.{judged_read_out, compact_to_full, compact_to_full_fc3, compact_to_full_fc4}
 use Rattle.laws.specs.Agree.{GridSet}
 use Rattle.grid.specs.Grid.{on_grid}
-use Rattle.laws.specs.Instances.{four_atoms}
-use Rattle.laws.specs.Calls.{read-out-left, third, fourth}
+use Rattle.laws.proofs.Instances.{four_atoms}
+use Rattle.laws.proofs.Calls.{read-out-left, third, fourth}
 
 pass-read : (judged_read_out limit3 2 1728 864 four_atoms ≡ Done) × (judged_read_out limit4 3 20736 10368 four_atoms ≡ Done)
 unfolding judged_read_out set_length judged_tables judged_entries out_of_range ruled counts_agree rows_injective has_null rows_closed rows_free p2s_back s2pp_kept nsym_lands distinct is_null is_after follows row p2s_at s2pp_at nsym_at every some

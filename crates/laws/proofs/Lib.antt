@@ -1,0 +1,11 @@
+pub mod Instances
+pub mod AgreeInstances
+pub mod Calls
+pub mod AgreeLaws
+pub mod TransposesLaws
+pub mod SecondOrderLaws
+pub mod SheetsLaws
+pub mod SequencesLaws
+pub mod CallListsLaws
+pub mod TrueListsLaws
+pub mod SwapListsLaws
