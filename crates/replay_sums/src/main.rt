@@ -4,8 +4,8 @@
 // out from them.
 #![tactic(auto)]
 
-mod acoustic;
 mod sums;
+mod without_drift;
 
 use replays::Tally;
 use replays::steps::first;
@@ -22,7 +22,7 @@ fn step(part: u64, t: Tally, r: &[u8]) -> Tally {
     if part == SUMS {
         return sums::step(t, r);
     }
-    acoustic::step(t, r)
+    without_drift::step(t, r)
 }
 
 // The records of a page, after those of the pages before.
