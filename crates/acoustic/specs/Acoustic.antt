@@ -7,7 +7,7 @@ use Rattle.std.specs.Float.Ieee.{sub, mul}
 use Rattle.lists.specs.Tab.{tab, times}
 use Rattle.lists.specs.Floats.{plus_zero}
 use Rattle.lists.specs.Digits.{horner, rest, digits}
-use Rattle.tables.specs.declared.Answer.{Answer}
+use Rattle.tables.specs.Answers.{Answer}
 use Rattle.tables.specs.declared.Refusal.TheVariants.{CountAboveLimit}
 use Rattle.tables.specs.Answers.{after, refuse_if}
 use Rattle.tables.specs.Full.{judged_full}

@@ -1,5 +1,5 @@
 -- What the calls answer and leave, refused or done, for every rank at once. Assumes nothing.
-use Rattle.std.specs.Prelude.{◌≡◌, Bool, true, false, not, ◌||◌, List, [], ◌∷◌, eqb, ltb, Float, length, replicate}
+use Rattle.std.specs.Prelude.{Err, Ok, ◌≡◌, Bool, true, false, not, ◌||◌, List, [], ◌∷◌, eqb, ltb, Float, length, replicate}
 use Rattle.std.proofs.Math.Path.{refl, sym, ap}
 use Rattle.std.proofs.Common.{ap₂, ◌∙◌, true≢false, ⊎_elim, one-mul, mul-le-mul, arith, eq-eqb, ne_eqb}
 use Prim.Native.Nat.{ℕ, zero, suc, ◌*◌, ◌-◌, ◌^◌, ◌≤◌, ◌<◌}
@@ -8,8 +8,7 @@ use Rattle.lists.specs.Tests.{split}
 use Rattle.lists.specs.Tab.{times}
 use Rattle.lists.specs.Floats.{plus_zero}
 use Rattle.lists.specs.Digits.{times_power, room_power}
-use Rattle.tables.specs.declared.Answer.{Answer}
-use Rattle.tables.specs.declared.Answer.TheVariants.{Done, Refused}
+use Rattle.tables.specs.Answers.{Answer}
 use Rattle.tables.specs.declared.Refusal.TheVariants.{CountAboveLimit, WrongLength, IndexOutOfRange, BadShiftTables}
 use Rattle.tables.specs.Answers.{number_of, is_refusal, refuse_if, after, is_done, after_refusal, after-done, passed}
 use Rattle.tables.specs.Conditions.{any_above, any_wrong, not_above}
@@ -30,7 +29,7 @@ use Rattle.acoustic.specs.Laws.{Room, rows2}
 
 -- the answer by its conditions: a count above, the lengths of the set, the work bytes, the work numbers and the tables, an entry, a rule
 abbrev answer_by : Bool → Bool → Bool → Bool → Bool → Bool → Bool → Answer
-answer_by x y d f t z w = refuse_if x CountAboveLimit (refuse_if ((y || (d || (f || false))) || t) WrongLength (refuse_if z IndexOutOfRange (refuse_if w BadShiftTables Done)))
+answer_by x y d f t z w = refuse_if x CountAboveLimit (refuse_if ((y || (d || (f || false))) || t) WrongLength (refuse_if z IndexOutOfRange (refuse_if w BadShiftTables (Ok tt))))
 
 above_only : (x y d t z w : Bool) → number_of (answer_by x y d false t z w) ≡ 1 → x ≡ true
 above_only true y d t z w e = refl
@@ -44,7 +43,7 @@ above_only false false false false false false e = absurd (omega arith)
 above_same : (x y d f g t z w : Bool) → x ≡ true → answer_by x y d f t z w ≡ answer_by x y d g t z w
 above_same x y d f g t z w e = rw e
 
-wrong-by : (x y d t z w : Bool) → x ≡ false → Refused WrongLength ≡ answer_by x y d true t z w
+wrong-by : (x y d t z w : Bool) → x ≡ false → Err WrongLength ≡ answer_by x y d true t z w
 wrong-by true y d t z w e = absurd (true≢false e)
 wrong-by false true d t z w e = refl
 wrong-by false false true t z w e = refl
@@ -98,7 +97,7 @@ module _ (limit m lenSet lenDone lenDrift : ℕ) (T : ShiftTables) (a : Answer) 
   pub right_too : lenDrift ≡ stated → a ≡ judged_work limit m lenSet lenDone lenDrift T
   right_too h = set_is ∙ ap by (sym (ap not (eq-eqb lenDrift stated h))) ∙ more_is
 
-  pub wrong-more : (number_of a ≡ 1 → ⊥) → (lenDrift ≡ stated → ⊥) → Refused WrongLength ≡ judged_work limit m lenSet lenDone lenDrift T
+  pub wrong-more : (number_of a ≡ 1 → ⊥) → (lenDrift ≡ stated → ⊥) → Err WrongLength ≡ judged_work limit m lenSet lenDone lenDrift T
   wrong-more d h = wrong-by above set_wrong done_wrong tables_wrong (tables_out_of_range T) unruled (not-one d) ∙ ap by (sym (ap not (ne_eqb lenDrift stated h))) ∙ more_is
 
 -- ---- what passed
@@ -116,7 +115,7 @@ pub record Work (limit m lenSet lenDone lenDrift : ℕ) (T : ShiftTables) : Type
   pub room : Room limit m lenSet lenDrift T
   pub bytes : lenDone ≡ times_power T.n_satom m T.n_patom
 
-pub work-passed : (limit m lenSet lenDone lenDrift : ℕ) (T : ShiftTables) (level : ℕ) → judged_levels limit m lenSet lenDone lenDrift T level ≡ Done
+pub work-passed : (limit m lenSet lenDone lenDrift : ℕ) (T : ShiftTables) (level : ℕ) → judged_levels limit m lenSet lenDone lenDrift T level ≡ Ok tt
     → Work limit m lenSet lenDone lenDrift T
 unfolding size
 work-passed limit m lenSet lenDone lenDrift T level e =
@@ -127,7 +126,7 @@ work-passed limit m lenSet lenDone lenDrift T level e =
       bytes = l.1.0 ∙ block_rooms T.n_patom T.n_satom m;
     }
 
-pub full-passed : (limit m lenSet lenDrift n level : ℕ) → 1 ≤ limit → judged_full_levels limit m lenSet lenDrift n level ≡ Done
+pub full-passed : (limit m lenSet lenDrift n level : ℕ) → 1 ≤ limit → judged_full_levels limit m lenSet lenDrift n level ≡ Ok tt
     → Room limit m lenSet lenDrift (full_tables n) × (n ≤ limit)
 full-passed limit m lenSet lenDrift n level h e =
     let (_, e1) = passed (ltb limit_level level) CountAboveLimit _ e in
@@ -180,7 +179,7 @@ module _ {A B C : Type 0} {a b : Answer} (new old : A) (clear work : B) (clear' 
       rw (e, after_refusal b new old g, after_refusal b clear work g, after_refusal b clear' work' g)
 
   pub done-both : {x : A} {y : B} {z : C} → a ≡ b → is_refusal a ≡ false → x ≡ new → y ≡ clear → z ≡ clear'
-      → ◌≡◌ {A = Answer × A × B × C} (Done, x, y, z) (b, after b new old, after b clear work, after b clear' work')
+      → ◌≡◌ {A = Answer × A × B × C} (Ok tt, x, y, z) (b, after b new old, after b clear work, after b clear' work')
   done-both e h ex ey ez =
       let g : is_refusal b ≡ false = sym (ap is_refusal e) ∙ h in
       rw (after-done b new old g, after-done b clear work g, after-done b clear' work' g, ex, ey, ez, is_done b g)
@@ -191,7 +190,7 @@ module _ {A B : Type 0} {a b : Answer} (new old : A) (clear work : B) where
       let g : is_refusal b ≡ true = sym (ap is_refusal e) ∙ h in
       rw (e, after_refusal b new old g, after_refusal b clear work g)
 
-  done-one : {x : A} {y : B} → a ≡ b → is_refusal a ≡ false → x ≡ new → y ≡ clear → ◌≡◌ {A = Answer × A × B} (Done, x, y) (b, after b new old, after b clear work)
+  done-one : {x : A} {y : B} → a ≡ b → is_refusal a ≡ false → x ≡ new → y ≡ clear → ◌≡◌ {A = Answer × A × B} (Ok tt, x, y) (b, after b new old, after b clear work)
   done-one e h ex ey =
       let g : is_refusal b ≡ false = sym (ap is_refusal e) ∙ h in
       rw (after-done b new old g, after-done b clear work g, ex, ey, is_done b g)
@@ -207,7 +206,7 @@ module _ (limit m : ℕ) (mean : List Float → Float) (os : List (List ℕ)) (s
     compact_work h = work-passed limit m (length set) (length done) (length drift) T level (sym e ∙ is_done a h)
 
     pub compact_done : is_refusal a ≡ false → {x z : List Float} {y : List ℕ} → x ≡ perm_trans_symmetrized mean (shifts_of T) m os level set
-        → y ≡ replicate (length done) 0 → z ≡ replicate (length drift) plus_zero → (Done, x, y, z) ≡ perm_trans_symmetrize_compact limit m mean os set T done drift level
+        → y ≡ replicate (length done) 0 → z ≡ replicate (length drift) plus_zero → (Ok tt, x, y, z) ≡ perm_trans_symmetrize_compact limit m mean os set T done drift level
     unfolding perm_trans_symmetrize_compact
     compact_done h ex ey ez =
         done-both (perm_trans_symmetrized mean (shifts_of T) m os level set) set (replicate (length done) 0) done (replicate (length drift) plus_zero) drift e h ex ey ez
@@ -221,6 +220,6 @@ module _ (limit m : ℕ) (mean : List Float → Float) (os : List (List ℕ)) (s
     full-room l h = full-passed limit m (length set) (length drift) n level l (sym e ∙ is_done a h)
 
     pub full-done : is_refusal a ≡ false → {x z : List Float} → x ≡ perm_trans_symmetrized mean (full_shifts n) m os level set → z ≡ replicate (length drift) plus_zero
-        → (Done, x, z) ≡ perm_trans_symmetrize_full limit m mean os set n drift level
+        → (Ok tt, x, z) ≡ perm_trans_symmetrize_full limit m mean os set n drift level
     unfolding perm_trans_symmetrize_full
     full-done h ex ez = done-one (perm_trans_symmetrized mean (full_shifts n) m os level set) set (replicate (length drift) plus_zero) drift e h ex ez

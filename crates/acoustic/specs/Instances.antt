@@ -1,13 +1,12 @@
 -- The calls and the theorems at tables that exist, with a half shift; and a drift by its value, where the blocks that are stored do not have the sum that
 -- the read-out has. Assumes nothing.
-use Rattle.std.specs.Prelude.{◌≡◌, refl, List, [], ◌∷◌, ◌++◌, ℕ, pos, length, replicate, Float}
+use Rattle.std.specs.Prelude.{Ok, ◌≡◌, refl, List, [], ◌∷◌, ◌++◌, ℕ, pos, length, replicate, Float}
 use Rattle.std.proofs.Common.{ap, ◌∙◌}
 use Rattle.std.specs.Float.{nan, binary64}
 use Rattle.std.specs.Float.Ieee.{add, mul, div, round, of_int, of_bits}
 use Rattle.lists.specs.Tab.{times}
 use Rattle.lists.specs.Tests.{every, some}
 use Rattle.lists.specs.Digits.{horner, rest, digits}
-use Rattle.tables.specs.declared.Answer.TheVariants.{Done}
 use Rattle.tables.specs.Conditions.{out_of_range}
 use Rattle.tables.specs.Shifts.{row, p2s_at, s2pp_at, nsym_at, distinct, is_null, is_after, follows, counts_agree, rows_injective, has_null, rows_closed, rows_free, p2s_back, s2pp_kept, nsym_lands, ruled}
 use Rattle.tables.specs.Limits.{limit3}
@@ -26,12 +25,12 @@ abbrev four_atoms : ShiftTables
 four_atoms = shift_tables (pos 0 ∷ pos 1 ∷ []) (pos 0 ∷ pos 1 ∷ pos 0 ∷ pos 1 ∷ []) (pos 0 ∷ pos 0 ∷ pos 1 ∷ pos 1 ∷ []) (pos 0 ∷ pos 1 ∷ pos 2 ∷ pos 3 ∷ pos 2 ∷ pos 3 ∷ pos 0 ∷ pos 1 ∷ []) 4 2 2
 
 -- a set of 2 × 4² × 27 numbers, 32 bytes and 2 × 4 × 27 numbers of work, two levels
-passes : judged_levels limit3 2 864 32 216 four_atoms 2 ≡ Done
+passes : judged_levels limit3 2 864 32 216 four_atoms 2 ≡ Ok tt
 unfolding drift_length set_length set_blocks judged_tables judged_entries out_of_range ruled counts_agree rows_injective has_null rows_closed rows_free p2s_back s2pp_kept nsym_lands distinct is_null is_after follows row p2s_at s2pp_at nsym_at every some
 passes = refl
 
 module _ (set : List Float) (done : List ℕ) (drift : List Float) (e : length set ≡ 864) (f : length done ≡ 32) (g : length drift ≡ 216) where
-  is_done : (perm_trans_symmetrize_compact limit3 2 mean6 perms3 set four_atoms done drift 2).0 ≡ Done
+  is_done : (perm_trans_symmetrize_compact limit3 2 mean6 perms3 set four_atoms done drift 2).0 ≡ Ok tt
   unfolding perm_trans_symmetrize_compact
   is_done = rw (e, f, g) passes
 

@@ -1,12 +1,11 @@
 -- What the calls mean: level 0 is the symmetrizer, and at every level what is left is alike, whatever the set held. Assumes nothing.
-use Rattle.std.specs.Prelude.{◌≡◌, Bool, false, not, ◌||◌, List, [], ◌∷◌, ℕ, zero, suc, eqb, length, replicate, Float}
+use Rattle.std.specs.Prelude.{Ok, ◌≡◌, Bool, false, not, ◌||◌, List, [], ◌∷◌, ℕ, zero, suc, eqb, length, replicate, Float}
 use Rattle.std.proofs.Math.Path.{refl, subst}
 use Rattle.std.proofs.Common.{sym, ap, ◌∙◌, eq-eqb}
 use Rattle.std.specs.Float.{nan}
 use Rattle.lists.specs.Members.{In}
 use Rattle.lists.specs.Tab.{times}
-use Rattle.tables.specs.declared.Answer.{Answer}
-use Rattle.tables.specs.declared.Answer.TheVariants.{Done}
+use Rattle.tables.specs.Answers.{Answer}
 use Rattle.tables.specs.declared.Refusal.TheVariants.{CountAboveLimit, WrongLength}
 use Rattle.tables.specs.Answers.{is_refusal, refuse_if, after, after-done}
 use Rattle.tables.specs.Conditions.{any_above}
@@ -41,7 +40,7 @@ pub level_none-full : (set : List Float) (n : ℕ) (drift : List Float) → leng
 unfolding perm_trans_symmetrize_full perm_trans_symmetrized set_permutation_symmetry_fc3 judged_full
 level_none-full set n drift h =
     ap (λ (b : Bool).
-    let a = refuse_if (any_above limit3 (n ∷ [])) CountAboveLimit (refuse_if (not (eqb (length set) (set_length n n 2)) || (not b || false)) WrongLength Done) in
+    let a = refuse_if (any_above limit3 (n ∷ [])) CountAboveLimit (refuse_if (not (eqb (length set) (set_length n n 2)) || (not b || false)) WrongLength (Ok tt)) in
     (a, after a (symmetrized nan mean6 (full_shifts n) 2 perms3 set) set)) (eq-eqb (length drift) (drift_length n n 2) h)
 
 pub level_none_fc4 : (set : List Float) (T : ShiftTables) (done : List ℕ) (drift : List Float) → length drift ≡ drift_length T.n_patom T.n_satom 3
@@ -59,7 +58,7 @@ unfolding perm_trans_symmetrize_full_work perm_trans_symmetrized set_permutation
 level_none-full_fc4 set n done drift h =
     ap (λ (b : Bool).
     let a = refuse_if (any_above limit4 (n ∷ [])) CountAboveLimit
-    (refuse_if (not (eqb (length set) (set_length n n 3)) || (not (eqb (length done) (set_blocks n n 3)) || (not b || false))) WrongLength Done) in
+    (refuse_if (not (eqb (length set) (set_length n n 3)) || (not (eqb (length done) (set_blocks n n 3)) || (not b || false))) WrongLength (Ok tt)) in
     (a, after a (symmetrized nan mean24 (full_shifts n) 3 perms4 set) set, after a (replicate (length done) 0) done)) (eq-eqb (length drift) (drift_length n n 3) h)
 
 -- ---- every level ends with the symmetrizer, so that demand 3 holds of what it leaves
@@ -77,7 +76,7 @@ levels_alike mean S L m os G (suc level) set =
 
 -- of a compact set that is not refused, at every order, and of a full set
 module _ (limit m : ℕ) (mean : List Float → Float) (os : List (List ℕ)) (G : Group m os) (set : List Float) where
-  pub compact_alike : (T : ShiftTables) (done : List ℕ) (drift : List Float) (level : ℕ) → (perm_trans_symmetrize_compact limit m mean os set T done drift level).0 ≡ Done
+  pub compact_alike : (T : ShiftTables) (done : List ℕ) (drift : List Float) (level : ℕ) → (perm_trans_symmetrize_compact limit m mean os set T done drift level).0 ≡ Ok tt
       → Alike (shifts_of T) m os (perm_trans_symmetrize_compact limit m mean os set T done drift level).1
   unfolding perm_trans_symmetrize_compact
   compact_alike T done drift level e =
@@ -86,14 +85,14 @@ module _ (limit m : ℕ) (mean : List Float → Float) (os : List (List ℕ)) (G
       subst (Alike (shifts_of T) m os) (sym (after-done a (perm_trans_symmetrized mean (shifts_of T) m os level set) set (ap is_refusal e)))
       (levels_alike mean (shifts_of T) W.room.ready.rules m os G level set)
 
-  pub full-alike : (n : ℕ) (drift : List Float) (level : ℕ) → (perm_trans_symmetrize_full limit m mean os set n drift level).0 ≡ Done
+  pub full-alike : (n : ℕ) (drift : List Float) (level : ℕ) → (perm_trans_symmetrize_full limit m mean os set n drift level).0 ≡ Ok tt
       → Alike (full_shifts n) m os (perm_trans_symmetrize_full limit m mean os set n drift level).1
   unfolding perm_trans_symmetrize_full
   full-alike n drift level e =
       subst (Alike (full_shifts n) m os) (sym (after-done _ (perm_trans_symmetrized mean (full_shifts n) m os level set) set (ap is_refusal e)))
       (levels_alike mean (full_shifts n) (whole-laws n) m os G level set)
 
-  pub full-work-alike : (n : ℕ) (done : List ℕ) (drift : List Float) (level : ℕ) → (perm_trans_symmetrize_full_work limit m mean os set n done drift level).0 ≡ Done
+  pub full-work-alike : (n : ℕ) (done : List ℕ) (drift : List Float) (level : ℕ) → (perm_trans_symmetrize_full_work limit m mean os set n done drift level).0 ≡ Ok tt
       → Alike (full_shifts n) m os (perm_trans_symmetrize_full_work limit m mean os set n done drift level).1
   unfolding perm_trans_symmetrize_full_work
   full-work-alike n done drift level e =
@@ -102,15 +101,15 @@ module _ (limit m : ℕ) (mean : List Float → Float) (os : List (List ℕ)) (G
 
 -- third and fourth order
 pub third-alike : (set : List Float) (T : ShiftTables) (done : List ℕ) (drift : List Float) (level : ℕ)
-    → (perm_trans_symmetrize_compact limit3 2 mean6 perms3 set T done drift level).0 ≡ Done
+    → (perm_trans_symmetrize_compact limit3 2 mean6 perms3 set T done drift level).0 ≡ Ok tt
     → Alike (shifts_of T) 2 perms3 (perm_trans_symmetrize_compact limit3 2 mean6 perms3 set T done drift level).1
 third-alike = compact_alike limit3 2 mean6 perms3 six-group
 
-pub third-full-alike : (set : List Float) (n : ℕ) (drift : List Float) (level : ℕ) → (perm_trans_symmetrize_full limit3 2 mean6 perms3 set n drift level).0 ≡ Done
+pub third-full-alike : (set : List Float) (n : ℕ) (drift : List Float) (level : ℕ) → (perm_trans_symmetrize_full limit3 2 mean6 perms3 set n drift level).0 ≡ Ok tt
     → Alike (full_shifts n) 2 perms3 (perm_trans_symmetrize_full limit3 2 mean6 perms3 set n drift level).1
 third-full-alike = full-alike limit3 2 mean6 perms3 six-group
 
 pub fourth-alike : (set : List Float) (T : ShiftTables) (done : List ℕ) (drift : List Float) (level : ℕ)
-    → (perm_trans_symmetrize_compact limit4 3 mean24 perms4 set T done drift level).0 ≡ Done
+    → (perm_trans_symmetrize_compact limit4 3 mean24 perms4 set T done drift level).0 ≡ Ok tt
     → Alike (shifts_of T) 3 perms4 (perm_trans_symmetrize_compact limit4 3 mean24 perms4 set T done drift level).1
 fourth-alike = compact_alike limit4 3 mean24 perms4 twenty_four_group

@@ -1,7 +1,7 @@
 -- The answer as the number that C gets, beside the set and the two work slices that a call leaves. Assumes nothing.
 use Rattle.std.specs.Prelude.{◌≡◌, ℕ}
 use Rattle.std.proofs.Common.{ap, ◌∙◌}
-use Rattle.tables.specs.declared.Answer.{Answer}
+use Rattle.tables.specs.Answers.{Answer}
 use Rattle.tables.specs.Answers.{number_of}
 
 abbrev pub numbered_both : {A B C : Type 0} → Answer × A × B × C → ℕ × A × B × C

@@ -1,6 +1,6 @@
 -- Where sums are exact, on the grid of document 02, A.10, a set of third order that is alike and has no drift stays as it is, at every level: no number
 -- changes, a -0.0 neither. Assumes nothing.
-use Rattle.std.specs.Prelude.{◌≡◌, Bool, true, false, cond, ◌⊎◌, List, [], ◌∷◌, map, T, ltb, ℤ, pos, length, get_or, Float}
+use Rattle.std.specs.Prelude.{Ok, ◌≡◌, Bool, true, false, cond, ◌⊎◌, List, [], ◌∷◌, map, T, ltb, ℤ, pos, length, get_or, Float}
 use Rattle.std.proofs.Math.Path.{refl, sym, ap}
 use Rattle.std.proofs.Common.{ap₂, ◌∙◌, subst, inl, inr, mul-pos, mul_assoc, mul_right_comm, zero-mul, mod-lt, lit<, lit≤, pow-add, le-ltb, ne_eqb}
 use Prim.Native.Nat.{ℕ, zero, suc, ◌+◌, ◌*◌, ◌-◌, ◌/◌, ◌%◌, ◌^◌, ◌≤◌, ◌<◌, compare}
@@ -18,7 +18,6 @@ use Rattle.lists.specs.Members.{In, in_all}
 use Rattle.lists.specs.Elements.{map_same}
 use Rattle.lists.specs.Digits.{times_power, room_pos}
 use Rattle.common.specs.Laws.Fields.{same-value}
-use Rattle.tables.specs.declared.Answer.TheVariants.{Done}
 use Rattle.tables.specs.Answers.{is_refusal, after-done}
 use Rattle.tables.specs.Limits.{limit3}
 use Rattle.tables.specs.Shifts.{Shifts, Laws}
@@ -314,7 +313,7 @@ module _ (T' : ShiftTables) (F : TablesFit limit3 T') (L : Laws (shifts_of T')) 
 
 -- SUCH A SET STAYS AS IT IS, at every level, compact and full
 pub compact_stays : (set : List Float) (T' : ShiftTables) (done : List ℕ) (drift : List Float) (level : ℕ) → Still (shifts_of T') set
-    → (perm_trans_symmetrize_compact limit3 2 mean6 perms3 set T' done drift level).0 ≡ Done → (perm_trans_symmetrize_compact limit3 2 mean6 perms3 set T' done drift level).1 ≡ set
+    → (perm_trans_symmetrize_compact limit3 2 mean6 perms3 set T' done drift level).0 ≡ Ok tt → (perm_trans_symmetrize_compact limit3 2 mean6 perms3 set T' done drift level).1 ≡ set
 unfolding perm_trans_symmetrize_compact
 compact_stays set T' done drift level Z e =
     let a = judged_levels limit3 2 (length set) (length done) (length drift) T' level in
@@ -323,7 +322,7 @@ compact_stays set T' done drift level Z e =
     ∙ stays T' W.room.ready.fit W.room.ready.rules set Z level
 
 pub full-stays : (set : List Float) (n : ℕ) (drift : List Float) (level : ℕ) → Still (full_shifts n) set
-    → (perm_trans_symmetrize_full limit3 2 mean6 perms3 set n drift level).0 ≡ Done → (perm_trans_symmetrize_full limit3 2 mean6 perms3 set n drift level).1 ≡ set
+    → (perm_trans_symmetrize_full limit3 2 mean6 perms3 set n drift level).0 ≡ Ok tt → (perm_trans_symmetrize_full limit3 2 mean6 perms3 set n drift level).1 ≡ set
 unfolding perm_trans_symmetrize_full
 full-stays set n drift level Z e =
     let a = judged_full_levels limit3 2 (length set) (length drift) n level in

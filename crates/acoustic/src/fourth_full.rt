@@ -15,7 +15,7 @@ use audits::guard::counted;
 use fc4::full::set_permutation_symmetry_fc4;
 use tables::limits::{LIMIT_LEVEL, LIMIT4};
 use tables::sets::{judge_full, set_blocks};
-use tables::{Answer, Refusal, is_refusal};
+use tables::Refusal;
 
 // The drift of every leg: a full set is a compact set in which every atom is its own representative.
 fn full_legs_off(fc4: &mut [f64], drift: &mut [f64], n: usize)
@@ -70,28 +70,25 @@ fn full_symmetrize(fc4: &mut [f64], done: &mut [u8], drift: &mut [f64], n: usize
 }
 
 // Refusals 1 and 2, of both work slices too.
-fn judge_lengths(set_len: usize, done_len: usize, drift_len: usize, n: usize) -> Answer
+fn judge_lengths(set_len: usize, done_len: usize, drift_len: usize, n: usize) -> Result<(), Refusal>
     ensures { result ≡ judged_full_work limit4 3 set_len done_len drift_len n }
 {
-    let a = judge_full(LIMIT4, 3, set_len, n);
-    if is_refusal(a) {
-        return a;
-    }
+    judge_full(LIMIT4, 3, set_len, n)?;
     if done_len != set_blocks(n, n, 3) {
-        return Answer::Refused(Refusal::WrongLength);
+        return Err(Refusal::WrongLength);
     }
     if drift_len == set_blocks(n, n, 2) * 81 {
-        return a;
+        return Ok(());
     }
-    Answer::Refused(Refusal::WrongLength)
+    Err(Refusal::WrongLength)
 }
 
 // The same with the limit of the level.
-fn judge(set_len: usize, done_len: usize, drift_len: usize, n: usize, level: usize) -> Answer
+fn judge(set_len: usize, done_len: usize, drift_len: usize, n: usize, level: usize) -> Result<(), Refusal>
     ensures { result ≡ judged_full_work_levels limit4 3 set_len done_len drift_len n level }
 {
     if level > LIMIT_LEVEL {
-        return Answer::Refused(Refusal::CountAboveLimit);
+        return Err(Refusal::CountAboveLimit);
     }
     judge_lengths(set_len, done_len, drift_len, n)
 }
@@ -104,16 +101,13 @@ pub fn perm_trans_symmetrize_fc4(
     drift: &mut [f64],
     num_atom: usize,
     level: usize,
-) -> Answer
+) -> Result<(), Refusal>
     ensures { (result, fc4.new, done.new, drift.new)
         ≡ perm_trans_symmetrize_full_work limit4 3 mean24 perms4 fc4.old num_atom done.old drift.old level }
 {
-    let a = judge(fc4.len(), done.len(), drift.len(), num_atom, level);
-    if is_refusal(a) {
-        return a;
-    }
+    judge(fc4.len(), done.len(), drift.len(), num_atom, level)?;
     full_symmetrize(fc4, done, drift, num_atom, level);
     lists::clear_bytes(done);
     lists::clear_floats(drift);
-    Answer::Done
+    Ok(())
 }

@@ -13,7 +13,7 @@ use fc3::compact::symmetrize;
 use shifts::judge_compact;
 use tables::limits::{LIMIT_LEVEL, LIMIT3};
 use tables::sets::set_blocks;
-use tables::{Answer, Refusal, is_refusal};
+use tables::Refusal;
 
 // One level.
 fn level_pass(
@@ -102,7 +102,7 @@ fn judge_lengths(
     n_satom: usize,
     n_patom: usize,
     num_trans: usize,
-) -> Answer
+) -> Result<(), Refusal>
     ensures { let T : ShiftTables = shift_tables p2s.now s2pp.now nsym_list.now perms.now n_satom n_patom num_trans in result ≡ judged_work limit3 2 set_len done_len drift_len T }
 {
     let a = judge_compact(
@@ -114,7 +114,7 @@ fn judge_lengths(
     if drift_len == set_blocks(n_patom, n_satom, 1) * 27 {
         return a;
     }
-    Answer::Refused(Refusal::WrongLength)
+    Err(Refusal::WrongLength)
 }
 
 // The same with the limit of the level.
@@ -130,11 +130,11 @@ fn judge(
     n_patom: usize,
     num_trans: usize,
     level: usize,
-) -> Answer
+) -> Result<(), Refusal>
     ensures { let T : ShiftTables = shift_tables p2s.now s2pp.now nsym_list.now perms.now n_satom n_patom num_trans in result ≡ judged_levels limit3 2 set_len done_len drift_len T level }
 {
     if level > LIMIT_LEVEL {
-        return Answer::Refused(Refusal::CountAboveLimit);
+        return Err(Refusal::CountAboveLimit);
     }
     judge_lengths(
         set_len, done_len, drift_len, p2s, s2pp, nsym_list, perms, n_satom, n_patom, num_trans,
@@ -155,12 +155,12 @@ pub fn perm_trans_symmetrize_compact_fc3(
     n_patom: usize,
     num_trans: usize,
     level: usize,
-) -> Answer
+) -> Result<(), Refusal>
     ensures { let T = shift_tables p2s.now s2pp.now nsym_list.now perms.now n_satom n_patom num_trans in
         (result, fc3.new, done.new, drift.new)
         ≡ perm_trans_symmetrize_compact limit3 2 mean6 perms3 fc3.old T done.old drift.old level }
 {
-    let a = judge(
+    judge(
         fc3.len(),
         done.len(),
         drift.len(),
@@ -172,14 +172,11 @@ pub fn perm_trans_symmetrize_compact_fc3(
         n_patom,
         num_trans,
         level,
-    );
-    if is_refusal(a) {
-        return a;
-    }
+    )?;
     all_levels(
         fc3, p2s, s2pp, nsym_list, perms, done, drift, n_satom, n_patom, num_trans, level,
     );
     lists::clear_bytes(done);
     lists::clear_floats(drift);
-    Answer::Done
+    Ok(())
 }

@@ -15,7 +15,7 @@ use audits::guard::counted;
 use fc3::full::symmetrize;
 use tables::limits::{LIMIT_LEVEL, LIMIT3};
 use tables::sets::{judge_full, set_blocks};
-use tables::{Answer, Refusal, is_refusal};
+use tables::Refusal;
 
 // The drift of every leg: a full set is a compact set in which every atom is its own representative.
 fn full_legs_off(fc3: &mut [f64], drift: &mut [f64], n: usize)
@@ -70,25 +70,22 @@ fn full_symmetrize(fc3: &mut [f64], drift: &mut [f64], n: usize, level: usize)
 }
 
 // Refusals 1 and 2, of the work slice too.
-fn judge_lengths(set_len: usize, drift_len: usize, n: usize) -> Answer
+fn judge_lengths(set_len: usize, drift_len: usize, n: usize) -> Result<(), Refusal>
     ensures { result ≡ judged_full limit3 2 set_len ((drift_len, drift_length n n 2) ∷ []) n }
 {
-    let a = judge_full(LIMIT3, 2, set_len, n);
-    if is_refusal(a) {
-        return a;
-    }
+    judge_full(LIMIT3, 2, set_len, n)?;
     if drift_len == set_blocks(n, n, 1) * 27 {
-        return a;
+        return Ok(());
     }
-    Answer::Refused(Refusal::WrongLength)
+    Err(Refusal::WrongLength)
 }
 
 // The same with the limit of the level.
-fn judge(set_len: usize, drift_len: usize, n: usize, level: usize) -> Answer
+fn judge(set_len: usize, drift_len: usize, n: usize, level: usize) -> Result<(), Refusal>
     ensures { result ≡ judged_full_levels limit3 2 set_len drift_len n level }
 {
     if level > LIMIT_LEVEL {
-        return Answer::Refused(Refusal::CountAboveLimit);
+        return Err(Refusal::CountAboveLimit);
     }
     judge_lengths(set_len, drift_len, n)
 }
@@ -100,15 +97,12 @@ pub fn perm_trans_symmetrize_fc3(
     drift: &mut [f64],
     num_atom: usize,
     level: usize,
-) -> Answer
+) -> Result<(), Refusal>
     ensures { (result, fc3.new, drift.new)
         ≡ perm_trans_symmetrize_full limit3 2 mean6 perms3 fc3.old num_atom drift.old level }
 {
-    let a = judge(fc3.len(), drift.len(), num_atom, level);
-    if is_refusal(a) {
-        return a;
-    }
+    judge(fc3.len(), drift.len(), num_atom, level)?;
     full_symmetrize(fc3, drift, num_atom, level);
     lists::clear_floats(drift);
-    Answer::Done
+    Ok(())
 }

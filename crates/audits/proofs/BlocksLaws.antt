@@ -1,5 +1,5 @@
 -- The audit block by block: what a look at a block says of the set. For every rank at once. Assumes nothing.
-use Rattle.std.specs.Prelude.{◌≡◌, refl, Bool, ◌||◌, ◌⊎◌, ℕ, zero, suc, ◌+◌, ◌*◌, ◌-◌, ◌/◌, ◌%◌, ◌≤◌, ◌<◌, Float}
+use Rattle.std.specs.Prelude.{None, Ok, Some, ◌≡◌, refl, Bool, ◌||◌, ◌⊎◌, ℕ, zero, suc, ◌+◌, ◌*◌, ◌-◌, ◌/◌, ◌%◌, ◌≤◌, ◌<◌, Float}
 use Rattle.std.proofs.Math.Path.{sym, ap, ap₂, subst}
 use Rattle.std.proofs.Common.{◌∙◌, inl, inr, div-add-mod', mod-lt, div-lt_iff_lt-mul, arith, ltb-true, lt-ltb}
 use Rattle.std.proofs.Math.Bool.{true, false, cond}
@@ -22,7 +22,6 @@ use Rattle.orbits.specs.Transposed.{counterpart, counterpart-below, permuted_is_
 use Rattle.orbits.specs.Groups.{group_blocks}
 use Rattle.orbits.proofs.Scatter.{permuted-straight}
 use Rattle.audits.specs.declared.Difference.{Difference}
-use Rattle.audits.specs.declared.Audit.TheVariants.{Alike, Unlike}
 use Rattle.lists.specs.Lowest.{lowest, Lowest, lowest_is, is_lowest, lowest-same}
 use Rattle.audits.specs.Audit.{differ, reads, reads_another, unlike, first_place, first_order, difference_at, audited}
 use Rattle.audits.specs.Demand.{index_in, none_alike}
@@ -103,12 +102,12 @@ module _ (S : Shifts) (L : Laws S) (m : ℕ) (os : List (List ℕ)) (t : List �
             ap₂ (made (b * c + k) (get_or set (b * c + k) nan)) orders_are
             ((there_is S L m os t O set ls b hb bs eb) i k hi h ∙ ap (λ o. reads S m os set (b * c + k) (get_or os o [])) orders_are)
 
-        pub block-found : Unlike (difference_in c bs t set b k) ≡ audited S m os set
+        pub block-found : Ok (Some (difference_in c bs t set b k)) ≡ audited S m os set
         unfolding audited
         block-found =
             let l : ltb (first_place S m os set) (size S m) ≡ true = rw (← at_place) (lt-ltb (b * c + k) (size S m) (rw (size_blocks S m) (omega (arith, mul-le-mul_right c hb)))) in
-            ap Unlike (difference_is ∙ ap (difference_at S m os set) at_place)
-            ∙ sym (ap (λ x. cond x (Unlike (difference_at S m os set (first_place S m os set))) Alike) l)
+            ap (λ d. Ok (Some d)) (difference_is ∙ ap (difference_at S m os set) at_place)
+            ∙ sym (ap (λ x. cond x (Ok (Some (difference_at S m os set (first_place S m os set)))) (Ok None)) l)
 
 -- ---- the same, with the width of a block as the program has it
 
@@ -124,5 +123,5 @@ module _ (S : Shifts) (L : Laws S) (m : ℕ) (os : List (List ℕ)) (t : List �
     pub some-w : k < w → some (length bs) (another w bs t set b k) ≡ true
     some-w h = ap (λ c. some (length bs) (another c bs t set b k)) (sym ew) ∙ found_some S L m os t O set ls b hb bs eb k same-look (rw ew h)
 
-    pub found-w : k < w → AlikeTo S m os set b → Unlike (difference_in w bs t set b k) ≡ audited S m os set
-    found-w h A = ap (λ c. Unlike (difference_in c bs t set b k)) (sym ew) ∙ block-found S L m os t O set ls b hb bs eb k same-look (rw ew h) A
+    pub found-w : k < w → AlikeTo S m os set b → Ok (Some (difference_in w bs t set b k)) ≡ audited S m os set
+    found-w h A = ap (λ c. Ok (Some (difference_in c bs t set b k))) (sym ew) ∙ block-found S L m os t O set ls b hb bs eb k same-look (rw ew h) A

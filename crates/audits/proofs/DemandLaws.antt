@@ -1,6 +1,8 @@
 -- ALIKE IS DEMAND 3'S STATEMENT: a set is alike exactly where all permutations of any legs read out the same number, for every rank at once.
 -- Assumes nothing.
-use Rattle.std.specs.Prelude.{◌≡◌, refl, true, not, T, eqb, length}
+use Rattle.audits.specs.declared.Difference.{Difference}
+use Rattle.tables.specs.declared.Refusal.{Refusal}
+use Rattle.std.specs.Prelude.{None, Ok, ◌≡◌, refl, true, not, T, eqb, length}
 use Rattle.std.proofs.Math.Path.{sym, ap}
 use Rattle.std.proofs.Common.{◌∙◌, inl, inr, not-suc-le-zero, le_of_suc-le-suc, arith}
 use Rattle.std.proofs.Math.Bool.{Bool, false, cond, false≢true}
@@ -17,14 +19,12 @@ use Rattle.tables.specs.Shifts.{Shifts, Laws}
 use Rattle.places.specs.Places.{Leg, Legs, stored, legs_at, address, place, at, read_out, size, stored-place, stored_opened, opened_legs, place-place, address-place, place-address, address_below}
 use Rattle.places.specs.Permutations.{permute_legs, Group}
 use Rattle.places.specs.Moves.{source, source-stored}
-use Rattle.audits.specs.declared.Audit.{Audit}
-use Rattle.audits.specs.declared.Audit.TheVariants.{Alike, Unlike, Refused}
 use Rattle.lists.specs.Lowest.{lowest, lowest_is, is_lowest}
 use Rattle.audits.specs.Audit.{differ, reads, reads_another, unlike, first_place, audited, difference_at}
 use Rattle.audits.specs.Demand.{Doubles, SameReadOuts, same-doubles, alike_at, at-alike, none_alike, alike-none, own-number, reads_legs}
 
 module _ (S : Shifts) (L : Laws S) (m : ℕ) (os : List (List ℕ)) (G : Group m os) (set : List Float) where
-  pub demanded : Doubles set → audited S m os set ≡ Alike → SameReadOuts S m os set
+  pub demanded : Doubles set → audited S m os set ≡ Ok None → SameReadOuts S m os set
   unfolding read_out at
   demanded d e σ xs s p =
       let q = address S (stored S xs) in
@@ -33,7 +33,7 @@ module _ (S : Shifts) (L : Laws S) (m : ℕ) (os : List (List ℕ)) (G : Group m
       alike_at S m os set q (alike-none S m os set e q h) σ s ∙ ap (to_bits binary64) (reads_legs S L m os G set σ xs s p) in
       sym (same-doubles (get_or set q nan) (get_or set (address S (stored S (permute_legs σ xs))) nan) (d q) (d (address S (stored S (permute_legs σ xs)))) w)
 
-  pub alike_of : SameReadOuts S m os set → audited S m os set ≡ Alike
+  pub alike_of : SameReadOuts S m os set → audited S m os set ≡ Ok None
   unfolding reads
   alike_of h =
       none_alike S m os set (λ q l.

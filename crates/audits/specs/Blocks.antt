@@ -1,5 +1,5 @@
 -- The audit block by block: what a look at every block in turn says of the set. For every rank at once. Assumes nothing.
-use Rattle.std.specs.Prelude.{◌≡◌, refl, Bool, ◌||◌, ◌⊎◌, ℕ, zero, suc, ◌+◌, ◌*◌, ◌-◌, ◌/◌, ◌%◌, ◌≤◌, ◌<◌, Float}
+use Rattle.std.specs.Prelude.{None, Ok, ◌≡◌, refl, Bool, ◌||◌, ◌⊎◌, ℕ, zero, suc, ◌+◌, ◌*◌, ◌-◌, ◌/◌, ◌%◌, ◌≤◌, ◌<◌, Float}
 use Rattle.std.proofs.Math.Path.{sym, ap, ap₂, subst}
 use Rattle.std.proofs.Common.{◌∙◌, inl, inr, div-add-mod', mod-lt, div-lt_iff_lt-mul, arith, ltb-true, lt-ltb}
 use Rattle.std.proofs.Math.Bool.{true, false, cond}
@@ -22,7 +22,6 @@ use Rattle.orbits.specs.Transposed.{counterpart, counterpart-below, permuted_is_
 use Rattle.orbits.specs.Groups.{group_blocks}
 use Rattle.orbits.proofs.Scatter.{permuted-straight}
 use Rattle.audits.specs.declared.Difference.{Difference}
-use Rattle.audits.specs.declared.Audit.TheVariants.{Alike, Unlike}
 use Rattle.lists.specs.Lowest.{lowest, Lowest, lowest_is, is_lowest, lowest-same}
 use Rattle.audits.specs.Audit.{differ, reads, reads_another, unlike, first_place, first_order, difference_at, audited}
 use Rattle.audits.specs.Demand.{index_in, none_alike}
@@ -145,7 +144,7 @@ module _ (S : Shifts) (L : Laws S) (m : ℕ) (os : List (List ℕ)) (t : List �
             rw e (permuted_is_below m (get_or os (r / c) []) (r % c) (each (r / c) i) k)
 
   -- nothing was found in any block
-  pub all-passed : (b : ℕ) → B ≤ b → AlikeTo S m os set b → Alike ≡ audited S m os set
+  pub all-passed : (b : ℕ) → B ≤ b → AlikeTo S m os set b → Ok None ≡ audited S m os set
   all-passed b h A =
       sym (none_alike S m os set (λ q l.
       let w = mul-le-mul_right c h in

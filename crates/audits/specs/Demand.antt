@@ -1,6 +1,8 @@
 -- ALIKE IS DEMAND 3'S STATEMENT: a set is alike exactly where all permutations of any legs read out the same number, for every rank at once.
 -- A set is a list of doubles: `Doubles`. Assumes nothing.
-use Rattle.std.specs.Prelude.{◌≡◌, refl, true, not, T, eqb, length}
+use Rattle.audits.specs.declared.Difference.{Difference}
+use Rattle.tables.specs.declared.Refusal.{Refusal}
+use Rattle.std.specs.Prelude.{Err, None, Ok, Option, Result, Some, ◌≡◌, refl, true, not, T, eqb, length}
 use Rattle.std.proofs.Math.Path.{sym, ap}
 use Rattle.std.proofs.Common.{◌∙◌, inl, inr, not-suc-le-zero, le_of_suc-le-suc, arith}
 use Rattle.std.proofs.Math.Bool.{Bool, false, cond, false≢true}
@@ -17,8 +19,6 @@ use Rattle.tables.specs.Shifts.{Shifts, Laws}
 use Rattle.places.specs.Places.{Leg, Legs, stored, legs_at, address, place, at, read_out, size, stored-place, stored_opened, opened_legs, place-place, address-place, place-address, address_below}
 use Rattle.places.specs.Permutations.{permute_legs, Group}
 use Rattle.places.specs.Moves.{source, source-stored}
-use Rattle.audits.specs.declared.Audit.{Audit}
-use Rattle.audits.specs.declared.Audit.TheVariants.{Alike, Unlike, Refused}
 use Rattle.lists.specs.Lowest.{lowest, lowest_is, is_lowest}
 use Rattle.audits.specs.Audit.{differ, reads, reads_another, unlike, first_place, audited, difference_at}
 
@@ -72,27 +72,27 @@ module _ (S : Shifts) (m : ℕ) (os : List (List ℕ)) (set : List Float) (q : �
 
 -- ---- the verdict
 
-abbrev is_alike : Audit → Bool
-is_alike Alike = true
-is_alike (Unlike d) = false
-is_alike (Refused r) = false
+abbrev is_alike : Result (Option Difference) Refusal → Bool
+is_alike (Ok None) = true
+is_alike (Ok (Some d)) = false
+is_alike (Err r) = false
 
 module _ (S : Shifts) (m : ℕ) (os : List (List ℕ)) (set : List Float) where
-  pub none_alike : ((q : ℕ) → q < size S m → unlike S m os set q ≡ false) → audited S m os set ≡ Alike
+  pub none_alike : ((q : ℕ) → q < size S m → unlike S m os set q ≡ false) → audited S m os set ≡ Ok None
   unfolding audited first_place
   none_alike h =
       let f = unlike S m os set in
       let e : size S m ≡ lowest (size S m) f = is_lowest (size S m) f (size S m) (record { within = omega arith; passes = λ l. absurd (omega arith); before = h }) in
       let l : ltb (lowest (size S m) f) (size S m) ≡ false = le-ltb (lowest (size S m) f) (size S m) (omega (arith, e)) in
-      ap (λ b. cond b (Unlike (difference_at S m os set (lowest (size S m) f))) Alike) l
+      ap (λ b. cond b (Ok (Some (difference_at S m os set (lowest (size S m) f)))) (Ok None)) l
 
-  pub alike-none : audited S m os set ≡ Alike → (q : ℕ) → q < size S m → unlike S m os set q ≡ false
+  pub alike-none : audited S m os set ≡ Ok None → (q : ℕ) → q < size S m → unlike S m os set q ≡ false
   unfolding audited first_place
   alike-none e q h =
       let f = unlike S m os set in
       let p = lowest_is (size S m) f in
       let l : ltb (lowest (size S m) f) (size S m) ≡ false = refuted (ltb (lowest (size S m) f) (size S m)) (λ t.
-      false≢true (sym (ap is_alike (ap (λ b. cond b (Unlike (difference_at S m os set (lowest (size S m) f))) Alike) t)) ∙ ap is_alike e)) in
+      false≢true (sym (ap is_alike (ap (λ b. cond b (Ok (Some (difference_at S m os set (lowest (size S m) f)))) (Ok None)) t)) ∙ ap is_alike e)) in
       let w = ltb-false (lowest (size S m) f) (size S m) l in
       p.before q (omega arith)
 

@@ -1,12 +1,12 @@
 -- The guards of the audits, what is known of a set that passed one, and the tables of a full set. Assumes nothing.
-use Rattle.std.specs.Prelude.{◌≡◌, Bool, false, not, ◌||◌, List, [], ◌∷◌, map, ℕ, zero, suc, ◌+◌, ◌*◌, ◌-◌, ◌/◌, ◌≤◌, ◌<◌, eqb, ℤ, pos, length, take, drop, replicate, Float}
+use Rattle.audits.specs.declared.Difference.{Difference}
+use Rattle.std.specs.Prelude.{Err, Ok, Option, Result, ◌≡◌, Bool, false, not, ◌||◌, List, [], ◌∷◌, map, ℕ, zero, suc, ◌+◌, ◌*◌, ◌-◌, ◌/◌, ◌≤◌, ◌<◌, eqb, ℤ, pos, length, take, drop, replicate, Float}
 use Rattle.std.proofs.Math.Path.{sym, ap}
 use Rattle.std.proofs.Common.{ap₂, ◌∙◌, subst, le_trans, mul-le-mul, mul-div_cancel, arith, lt-ltb}
 use Rattle.std.proofs.lemmas.List.{length-map, length-replicate, get_or-replicate}
 use Rattle.lists.specs.Tab.{tab, length-tab, get_or-tab, is_tab, part-tab, tab_ext}
 use Rattle.lists.specs.Elements.{Below, straight, get_d_map}
-use Rattle.tables.specs.declared.Answer.{Answer}
-use Rattle.tables.specs.declared.Answer.TheVariants.{Done, Refused as RefusedBy}
+use Rattle.tables.specs.Answers.{Answer}
 use Rattle.tables.specs.declared.Refusal.{Refusal}
 use Rattle.tables.specs.declared.Refusal.TheVariants.{CountAboveLimit, WrongLength}
 use Rattle.tables.specs.Answers.{refuse_if, passed}
@@ -22,8 +22,6 @@ use Rattle.blocks.specs.Block.{fits}
 use Rattle.orbits.specs.Transposed.{in_block_pos, size_blocks}
 use Rattle.places.specs.WholeLaws.{full_shifts, whole-laws}
 use Rattle.places.specs.ReadOuts.{Tables, stored_in, stored-below}
-use Rattle.audits.specs.declared.Audit.{Audit}
-use Rattle.audits.specs.declared.Audit.TheVariants.{Refused}
 use Rattle.audits.specs.Audit.{found_after, audited, audit_compact, audit_full}
 
 -- a set of rank m + 1 that passed
@@ -79,17 +77,17 @@ stored-within limit T h F i hi js b =
 
 -- ---- compact sets
 
-pub ready_compact : (limit m len : ℕ) (T : ShiftTables) → judged_set limit m len [] T ≡ Done → Ready limit m len T
+pub ready_compact : (limit m len : ℕ) (T : ShiftTables) → judged_set limit m len [] T ≡ Ok tt → Ready limit m len T
 unfolding size
 ready_compact limit m len T e =
     let (l, F, L) = done-tables limit _ T e in
     record { fit = F; rules = L; set-length = l.0 }
 
 -- what passed the guard of a call with a work slice passes this one
-chain : (x y t : Bool) (next : Answer) → x ≡ false → y ≡ false → t ≡ false → next ≡ Done → refuse_if x CountAboveLimit (refuse_if ((y || false) || t) WrongLength next) ≡ Done
+chain : (x y t : Bool) (next : Answer) → x ≡ false → y ≡ false → t ≡ false → next ≡ Ok tt → refuse_if x CountAboveLimit (refuse_if ((y || false) || t) WrongLength next) ≡ Ok tt
 chain x y t next ex ey et en = rw (ex, ey, et) en
 
-pub set-done : (limit m len k lenWork : ℕ) (T : ShiftTables) → judged_compact limit m len k lenWork T ≡ Done → judged_set limit m len [] T ≡ Done
+pub set-done : (limit m len k lenWork : ℕ) (T : ShiftTables) → judged_compact limit m len k lenWork T ≡ Ok tt → judged_set limit m len [] T ≡ Ok tt
 unfolding judged_compact judged_tables
 set-done limit m len k lenWork T e =
     let (q1, e1) = passed _ _ _ e in
@@ -99,11 +97,11 @@ set-done limit m len k lenWork T e =
     chain (any_above limit (T.n_satom ∷ (T.n_patom ∷ (T.num_trans ∷ [])))) (not (eqb len (set_length T.n_patom T.n_satom m))) (any_wrong (table_lengths T)) (judged_entries T) q1 y ht e2
 
 module _ (limit m : ℕ) (os : List (List ℕ)) (set : List Float) (T : ShiftTables) where
-  pub compact_refused : (r : Refusal) → judged_set limit m (length set) [] T ≡ RefusedBy r → Refused r ≡ audit_compact limit m os set T
+  pub compact_refused : (r : Refusal) → judged_set limit m (length set) [] T ≡ Err r → Err r ≡ audit_compact limit m os set T
   unfolding audit_compact
   compact_refused r e = sym (ap (λ g. found_after g (audited (shifts_of T) m os set)) e)
 
-  pub compact_done : judged_set limit m (length set) [] T ≡ Done → {a : Audit} → a ≡ audited (shifts_of T) m os set → a ≡ audit_compact limit m os set T
+  pub compact_done : judged_set limit m (length set) [] T ≡ Ok tt → {a : Result (Option Difference) Refusal} → a ≡ audited (shifts_of T) m os set → a ≡ audit_compact limit m os set T
   unfolding audit_compact
   compact_done e p = p ∙ sym (ap (λ g. found_after g (audited (shifts_of T) m os set)) e)
 
@@ -175,7 +173,7 @@ whole-fit limit n h l =
       nsym_fit = record { has = length-replicate n (pos 0); within = nulls };
     }
 
-pub ready-whole : (limit m len n : ℕ) → 1 ≤ limit → judged_full limit m len [] n ≡ Done → Ready limit m len (full_tables n)
+pub ready-whole : (limit m len n : ℕ) → 1 ≤ limit → judged_full limit m len [] n ≡ Ok tt → Ready limit m len (full_tables n)
 unfolding size
 ready-whole limit m len n l e =
     let (few, long, _) = done_full limit m len [] n e in
@@ -186,10 +184,10 @@ ready-whole limit m len n l e =
     }
 
 module _ (limit m : ℕ) (os : List (List ℕ)) (set : List Float) (n : ℕ) where
-  pub whole-refused : (r : Refusal) → judged_full limit m (length set) [] n ≡ RefusedBy r → Refused r ≡ audit_full limit m os set n
+  pub whole-refused : (r : Refusal) → judged_full limit m (length set) [] n ≡ Err r → Err r ≡ audit_full limit m os set n
   unfolding audit_full
   whole-refused r e = sym (ap (λ g. found_after g (audited (full_shifts n) m os set)) e)
 
-  pub whole-done : judged_full limit m (length set) [] n ≡ Done → {a : Audit} → a ≡ audited (shifts_of (full_tables n)) m os set → a ≡ audit_full limit m os set n
+  pub whole-done : judged_full limit m (length set) [] n ≡ Ok tt → {a : Result (Option Difference) Refusal} → a ≡ audited (shifts_of (full_tables n)) m os set → a ≡ audit_full limit m os set n
   unfolding audit_full
   whole-done e p = p ∙ ap (λ S. audited S m os set) (whole-shifts n) ∙ sym (ap (λ g. found_after g (audited (full_shifts n) m os set)) e)

@@ -1,5 +1,5 @@
 -- What the functions that the audits share compute, of one block: the block of each permutation is given, and a table of positions. Assumes nothing.
-use Rattle.std.specs.Prelude.{◌≡◌, Bool, true, false, ◌||◌, ◌⊎◌, List, ℕ, ◌+◌, ◌*◌, ◌≤◌, ◌<◌, ltb, length}
+use Rattle.std.specs.Prelude.{Err, None, Ok, Some, ◌≡◌, Bool, true, false, ◌||◌, ◌⊎◌, List, ℕ, ◌+◌, ◌*◌, ◌≤◌, ◌<◌, ltb, length}
 use Rattle.std.proofs.Math.Path.{refl, sym, ap₂}
 use Rattle.std.proofs.Common.{ap, ◌∙◌, subst, inl, inr, mul-le-mul, mul-le-mul_right, add-one}
 use Rattle.std.proofs.Math.Bool.{cond}
@@ -10,7 +10,6 @@ use borrow.Author.Tests.{eq-eqb, ne_eqb, lt-ltb, le-ltb}
 use Rattle.lists.specs.Tests.{some, some_at, some_of, refuted, not-both, or_true}
 use Rattle.lists.specs.Cases.{lt_or_le}
 use Rattle.audits.specs.declared.Difference.{Difference}
-use Rattle.audits.specs.declared.Audit.TheVariants.{Alike, Unlike, Refused}
 use Rattle.tables.specs.declared.Refusal.TheVariants.{WrongLength}
 use Rattle.lists.specs.Lowest.{lowest, Lowest, lowest_is}
 use Rattle.audits.specs.Audit.{differ, first_difference, same_set}
@@ -154,15 +153,15 @@ order_below {n} {i} f s e = go (lt_or_le i n)
 -- ---- two sets
 
 module _ (a b : List Float) where
-  pub set-refused : (length b ≡ length a → ⊥) → Refused WrongLength ≡ same_set a b
+  pub set-refused : (length b ≡ length a → ⊥) → Err WrongLength ≡ same_set a b
   unfolding same_set
   set-refused n = rw (ne_eqb (length b) (length a) n) refl
 
   module _ (e : length b ≡ length a) (q : ℕ) (f : q ≡ first_difference a b) where
-    pub set_unlike : q < length a → Unlike (record { place = q; order = 0; here = get_or a q nan; there = get_or b q nan }) ≡ same_set a b
+    pub set_unlike : q < length a → Ok (Some (record { place = q; order = 0; here = get_or a q nan; there = get_or b q nan })) ≡ same_set a b
     unfolding same_set
     set_unlike h = rw (eq-eqb (length b) (length a) e, ← f, lt-ltb q (length a) h) refl
 
-    pub set-alike : length a ≤ q → Alike ≡ same_set a b
+    pub set-alike : length a ≤ q → Ok None ≡ same_set a b
     unfolding same_set
     set-alike h = rw (eq-eqb (length b) (length a) e, ← f, le-ltb q (length a) h) refl

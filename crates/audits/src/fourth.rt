@@ -7,14 +7,14 @@ ghost use Rattle.audits.specs.Later.{falling, Next};
 ghost use Rattle.audits.specs.Audit.{audited, audit_compact, audit_full};
 ghost use Rattle.audits.specs.Guard.{Ready, full_tables};
 
-use crate::Audit;
+use crate::Difference;
 use crate::guard::counted;
 use crate::kernel::{difference, look};
 use fc4::group::group_blocks;
 use places::{column_of, row_of};
 use positions::addresses;
 use shifts::judge_set;
-use tables::Answer;
+use tables::Refusal;
 use tables::limits::LIMIT4;
 use tables::sets::judge_full;
 
@@ -59,7 +59,7 @@ fn scan(
     n_satom: usize,
     n_patom: usize,
     num_trans: usize,
-) -> Audit
+) -> Result<Option<Difference>, Refusal>
     requires { let T : ShiftTables = shift_tables p2s.now s2pp.now nsym_list.now perms.now n_satom n_patom num_trans in Ready limit4 3 (length fc.now) T }
     ensures { let T : ShiftTables = shift_tables p2s.now s2pp.now nsym_list.now perms.now n_satom n_patom num_trans in result ≡ audited (shifts_of T) 3 perms4 fc.now }
 {
@@ -70,11 +70,11 @@ fn scan(
         let bs = group_blocks(p2s, s2pp, nsym_list, perms, n_satom, n_patom, num_trans, b);
         let k = look(fc, &bs, &t, 81, b);
         if k < 81 {
-            return Audit::Unlike(difference(fc, &bs, &t, 81, b, k));
+            return Ok(Some(difference(fc, &bs, &t, 81, b, k)));
         }
         b = next(b + 1, count, n_satom);
     }
-    Audit::Alike
+    Ok(None)
 }
 
 // The audit of a compact set, which is read only.
@@ -87,11 +87,11 @@ pub fn audit_compact_fc4(
     n_satom: usize,
     n_patom: usize,
     num_trans: usize,
-) -> Audit
+) -> Result<Option<Difference>, Refusal>
     ensures { let T = shift_tables p2s.now s2pp.now nsym_list.now perms.now n_satom n_patom num_trans in
         result ≡ audit_compact limit4 3 perms4 fc.now T }
 {
-    let a = judge_set(
+    judge_set(
         LIMIT4,
         3,
         fc.len(),
@@ -102,15 +102,12 @@ pub fn audit_compact_fc4(
         n_satom,
         n_patom,
         num_trans,
-    );
-    match a {
-        Answer::Refused(r) => Audit::Refused(r),
-        Answer::Done => scan(fc, p2s, s2pp, nsym_list, perms, n_satom, n_patom, num_trans),
-    }
+    )?;
+    scan(fc, p2s, s2pp, nsym_list, perms, n_satom, n_patom, num_trans)
 }
 
 // A full set is a compact set in which every atom is its own representative.
-fn scan_full(fc: &[f64], n: usize) -> Audit
+fn scan_full(fc: &[f64], n: usize) -> Result<Option<Difference>, Refusal>
     requires { Ready limit4 3 (length fc.now) (full_tables n) × (n ≤ 1024) }
     ensures { result ≡ audited (shifts_of (full_tables n)) 3 perms4 fc.now }
 {
@@ -131,12 +128,9 @@ fn scan_full(fc: &[f64], n: usize) -> Audit
 }
 
 // The audit of a full set.
-pub fn audit_fc4(fc: &[f64], num_atom: usize) -> Audit
+pub fn audit_fc4(fc: &[f64], num_atom: usize) -> Result<Option<Difference>, Refusal>
     ensures { result ≡ audit_full limit4 3 perms4 fc.now num_atom }
 {
-    let a = judge_full(LIMIT4, 3, fc.len(), num_atom);
-    match a {
-        Answer::Refused(r) => Audit::Refused(r),
-        Answer::Done => scan_full(fc, num_atom),
-    }
+    judge_full(LIMIT4, 3, fc.len(), num_atom)?;
+    scan_full(fc, num_atom)
 }

@@ -22,22 +22,14 @@ pub struct Difference {
     pub there: f64,
 }
 
-// Alike: all that are to be the same are. Unlike: some are not.
-#[derive(Clone, Copy)]
-pub enum Audit {
-    Alike,
-    Unlike(Difference),
-    Refused(Refusal),
-}
-
 // A number for each case, beside those of the refusals.
-pub fn number(a: Audit) -> u8
+pub fn number(a: Result<Option<Difference>, Refusal>) -> u8
     ensures { result ≡ audit_number a }
 {
     match a {
-        Audit::Alike => 73,
-        Audit::Unlike(_) => 74,
-        Audit::Refused(r) => tables::refusal_number(r),
+        Ok(None) => 73,
+        Ok(Some(_)) => 74,
+        Err(r) => u8::from(r),
     }
 }
 
@@ -64,20 +56,20 @@ pub fn first_difference(a: &[f64], b: &[f64]) -> usize
 }
 
 // Whether two sets have the same bits, or the first place at which they differ. The second is to have the length of the first.
-pub fn same_set(a: &[f64], b: &[f64]) -> Audit
+pub fn same_set(a: &[f64], b: &[f64]) -> Result<Option<Difference>, Refusal>
     ensures { result ≡ same_set a.now b.now }
 {
     if b.len() != a.len() {
-        return Audit::Refused(Refusal::WrongLength);
+        return Err(Refusal::WrongLength);
     }
     let q = first_difference(a, b);
     if q < a.len() {
-        return Audit::Unlike(Difference {
+        return Ok(Some(Difference {
             place: q,
             order: 0,
             here: a[q],
             there: b[q],
-        });
+        }));
     }
-    Audit::Alike
+    Ok(None)
 }

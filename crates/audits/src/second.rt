@@ -9,12 +9,12 @@ ghost use Rattle.audits.specs.Audit.{audited, audit_compact, audit_full};
 ghost use Rattle.audits.specs.Blocks.{position_table, AlikeTo};
 ghost use Rattle.audits.specs.Guard.{Ready, full_tables};
 
-use crate::Audit;
+use crate::Difference;
 use crate::guard::counted;
 use crate::kernel::{difference, look};
 use places::{column_of, row_of, stored_block2};
 use shifts::judge_set;
-use tables::Answer;
+use tables::Refusal;
 use tables::atoms::{PrimAtom, SuperAtom, p2s_at};
 use tables::limits::LIMIT2;
 use tables::sets::judge_full;
@@ -66,7 +66,7 @@ fn scan(
     n_patom: usize,
     num_trans: usize,
     from: usize,
-) -> Audit
+) -> Result<Option<Difference>, Refusal>
     requires { let T : ShiftTables = shift_tables p2s.now s2pp.now nsym_list.now perms.now n_satom n_patom num_trans in Ready limit2 1 (length fc.now) T × AlikeTo (shifts_of T) 1 perms2 fc.now from }
     ensures { let T : ShiftTables = shift_tables p2s.now s2pp.now nsym_list.now perms.now n_satom n_patom num_trans in result ≡ audited (shifts_of T) 1 perms2 fc.now }
 {
@@ -77,11 +77,11 @@ fn scan(
         let bs = group_blocks(p2s, s2pp, nsym_list, perms, n_satom, n_patom, num_trans, b);
         let k = look(fc, &bs, &t, 9, b);
         if k < 9 {
-            return Audit::Unlike(difference(fc, &bs, &t, 9, b, k));
+            return Ok(Some(difference(fc, &bs, &t, 9, b, k)));
         }
         b += 1;
     }
-    Audit::Alike
+    Ok(None)
 }
 
 // The bits of a stretch of blocks are joined and asked for once; what then differs is looked for block after block.
@@ -94,7 +94,7 @@ fn settle(
     n_satom: usize,
     n_patom: usize,
     num_trans: usize,
-) -> Audit
+) -> Result<Option<Difference>, Refusal>
     requires { let T : ShiftTables = shift_tables p2s.now s2pp.now nsym_list.now perms.now n_satom n_patom num_trans in Ready limit2 1 (length fc.now) T }
     ensures { let T : ShiftTables = shift_tables p2s.now s2pp.now nsym_list.now perms.now n_satom n_patom num_trans in result ≡ audited (shifts_of T) 1 perms2 fc.now }
 {
@@ -113,11 +113,11 @@ pub fn audit_compact_fc2(
     n_satom: usize,
     n_patom: usize,
     num_trans: usize,
-) -> Audit
+) -> Result<Option<Difference>, Refusal>
     ensures { let T = shift_tables p2s.now s2pp.now nsym_list.now perms.now n_satom n_patom num_trans in
         result ≡ audit_compact limit2 1 perms2 fc.now T }
 {
-    let a = judge_set(
+    judge_set(
         LIMIT2,
         1,
         fc.len(),
@@ -128,15 +128,12 @@ pub fn audit_compact_fc2(
         n_satom,
         n_patom,
         num_trans,
-    );
-    match a {
-        Answer::Refused(r) => Audit::Refused(r),
-        Answer::Done => settle(fc, p2s, s2pp, nsym_list, perms, n_satom, n_patom, num_trans),
-    }
+    )?;
+    settle(fc, p2s, s2pp, nsym_list, perms, n_satom, n_patom, num_trans)
 }
 
 // A full set is a compact set in which every atom is its own representative.
-fn scan_full(fc: &[f64], n: usize) -> Audit
+fn scan_full(fc: &[f64], n: usize) -> Result<Option<Difference>, Refusal>
     requires { Ready limit2 1 (length fc.now) (full_tables n) × (n ≤ 1024) }
     ensures { result ≡ audited (shifts_of (full_tables n)) 1 perms2 fc.now }
 {
@@ -157,12 +154,9 @@ fn scan_full(fc: &[f64], n: usize) -> Audit
 }
 
 // The audit of a full set.
-pub fn audit_fc2(fc: &[f64], num_atom: usize) -> Audit
+pub fn audit_fc2(fc: &[f64], num_atom: usize) -> Result<Option<Difference>, Refusal>
     ensures { result ≡ audit_full limit2 1 perms2 fc.now num_atom }
 {
-    let a = judge_full(LIMIT2, 1, fc.len(), num_atom);
-    match a {
-        Answer::Refused(r) => Audit::Refused(r),
-        Answer::Done => scan_full(fc, num_atom),
-    }
+    judge_full(LIMIT2, 1, fc.len(), num_atom)?;
+    scan_full(fc, num_atom)
 }

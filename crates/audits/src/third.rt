@@ -9,12 +9,12 @@ ghost use Rattle.audits.specs.Audit.{audited, audit_compact, audit_full};
 ghost use Rattle.audits.specs.Blocks.{position_table, AlikeTo};
 ghost use Rattle.audits.specs.Guard.{Ready, full_tables};
 
-use crate::Audit;
+use crate::Difference;
 use crate::guard::counted;
 use crate::kernel::{difference, look};
 use places::{column_of, row_of, stored_block3};
 use shifts::judge_set;
-use tables::Answer;
+use tables::Refusal;
 use tables::atoms::{PrimAtom, SuperAtom, p2s_at};
 use tables::limits::LIMIT3;
 use tables::sets::judge_full;
@@ -86,7 +86,7 @@ fn scan(
     n_patom: usize,
     num_trans: usize,
     from: usize,
-) -> Audit
+) -> Result<Option<Difference>, Refusal>
     requires { let T : ShiftTables = shift_tables p2s.now s2pp.now nsym_list.now perms.now n_satom n_patom num_trans in Ready limit3 2 (length fc.now) T × AlikeTo (shifts_of T) 2 perms3 fc.now from }
     ensures { let T : ShiftTables = shift_tables p2s.now s2pp.now nsym_list.now perms.now n_satom n_patom num_trans in result ≡ audited (shifts_of T) 2 perms3 fc.now }
 {
@@ -97,11 +97,11 @@ fn scan(
         let bs = group_blocks(p2s, s2pp, nsym_list, perms, n_satom, n_patom, num_trans, b);
         let k = look(fc, &bs, &t, 27, b);
         if k < 27 {
-            return Audit::Unlike(difference(fc, &bs, &t, 27, b, k));
+            return Ok(Some(difference(fc, &bs, &t, 27, b, k)));
         }
         b += 1;
     }
-    Audit::Alike
+    Ok(None)
 }
 
 // Row after row, and then the row in which some bits differ block after block, for the first place.
@@ -114,7 +114,7 @@ fn settle(
     n_satom: usize,
     n_patom: usize,
     num_trans: usize,
-) -> Audit
+) -> Result<Option<Difference>, Refusal>
     requires { let T : ShiftTables = shift_tables p2s.now s2pp.now nsym_list.now perms.now n_satom n_patom num_trans in Ready limit3 2 (length fc.now) T }
     ensures { let T : ShiftTables = shift_tables p2s.now s2pp.now nsym_list.now perms.now n_satom n_patom num_trans in result ≡ audited (shifts_of T) 2 perms3 fc.now }
 {
@@ -133,11 +133,11 @@ pub fn audit_compact_fc3(
     n_satom: usize,
     n_patom: usize,
     num_trans: usize,
-) -> Audit
+) -> Result<Option<Difference>, Refusal>
     ensures { let T = shift_tables p2s.now s2pp.now nsym_list.now perms.now n_satom n_patom num_trans in
         result ≡ audit_compact limit3 2 perms3 fc.now T }
 {
-    let a = judge_set(
+    judge_set(
         LIMIT3,
         2,
         fc.len(),
@@ -148,15 +148,12 @@ pub fn audit_compact_fc3(
         n_satom,
         n_patom,
         num_trans,
-    );
-    match a {
-        Answer::Refused(r) => Audit::Refused(r),
-        Answer::Done => settle(fc, p2s, s2pp, nsym_list, perms, n_satom, n_patom, num_trans),
-    }
+    )?;
+    settle(fc, p2s, s2pp, nsym_list, perms, n_satom, n_patom, num_trans)
 }
 
 // A full set is a compact set in which every atom is its own representative.
-fn scan_full(fc: &[f64], n: usize) -> Audit
+fn scan_full(fc: &[f64], n: usize) -> Result<Option<Difference>, Refusal>
     requires { Ready limit3 2 (length fc.now) (full_tables n) × (n ≤ 1024) }
     ensures { result ≡ audited (shifts_of (full_tables n)) 2 perms3 fc.now }
 {
@@ -177,12 +174,9 @@ fn scan_full(fc: &[f64], n: usize) -> Audit
 }
 
 // The audit of a full set.
-pub fn audit_fc3(fc: &[f64], num_atom: usize) -> Audit
+pub fn audit_fc3(fc: &[f64], num_atom: usize) -> Result<Option<Difference>, Refusal>
     ensures { result ≡ audit_full limit3 2 perms3 fc.now num_atom }
 {
-    let a = judge_full(LIMIT3, 2, fc.len(), num_atom);
-    match a {
-        Answer::Refused(r) => Audit::Refused(r),
-        Answer::Done => scan_full(fc, num_atom),
-    }
+    judge_full(LIMIT3, 2, fc.len(), num_atom)?;
+    scan_full(fc, num_atom)
 }

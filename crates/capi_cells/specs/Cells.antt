@@ -1,12 +1,11 @@
 -- What gf_compute_permutation answers and leaves: the lattice comes as a slice, which may have another length than nine, the flags of the axes as one that may have
 -- another than three, and the pair that a failed match names goes into two lent slots. Assumes nothing.
-use Rattle.std.specs.Prelude.{◌≡◌, Bool, true, false, cond, not, ◌&&◌, ℕ, ◌≤◌, ◌<◌, eqb, ℤ, length, get_or, set, Float}
+use Rattle.std.specs.Prelude.{Err, ◌≡◌, Bool, true, false, cond, not, ◌&&◌, ℕ, ◌≤◌, ◌<◌, eqb, ℤ, length, get_or, set, Float}
 use Rattle.std.proofs.Math.Path.{refl, ap}
 use Rattle.std.proofs.Common.{◌∙◌, arith}
 use mathlib.Core.List.{List, [], ◌∷◌}
 use borrow.Author.Tests.{eqb-true, lt-ltb, le-ltb}
 use Rattle.lists.specs.Tests.{and_fst, and_snd}
-use Rattle.tables.specs.declared.Answer.TheVariants.{Refused as RefusedBy}
 use Rattle.tables.specs.declared.Refusal.{Refusal}
 use Rattle.tables.specs.declared.Refusal.TheVariants.{CountAboveLimit, WrongLength}
 use Rattle.tables.specs.Answers.{number_of, refuse_if}
@@ -49,7 +48,7 @@ unfoldable pub permutation : List ℤ → List Float → Float → List ℕ → 
 permutation slots lattice symprec periodic positions rotated pair n =
     cond (call_fits (length lattice) (length periodic) (length pair))
     (matching_slots (compute_permutation slots (cell_of lattice symprec periodic) positions rotated n) pair)
-    (number_of (refuse_if (any_above limit2 (n ∷ [])) CountAboveLimit (RefusedBy WrongLength)), slots, pair)
+    (number_of (refuse_if (any_above limit2 (n ∷ [])) CountAboveLimit (Err WrongLength)), slots, pair)
 
 -- ---- laws
 

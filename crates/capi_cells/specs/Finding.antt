@@ -1,8 +1,7 @@
 -- What gf_find_permutation answers and leaves: the lattice comes as a slice, which may have another length than nine, and the flags of the axes as one that may have
 -- another than three. Assumes nothing.
-use Rattle.std.specs.Prelude.{◌≡◌, refl, Bool, true, false, List, [], ◌∷◌, ℕ, ◌≤◌, ◌<◌, ℤ, length, Float}
+use Rattle.std.specs.Prelude.{Err, ◌≡◌, refl, Bool, true, false, List, [], ◌∷◌, ℕ, ◌≤◌, ◌<◌, ℤ, length, Float}
 use Rattle.std.proofs.Common.{subst, lt-ltb, le-ltb}
-use Rattle.tables.specs.declared.Answer.TheVariants.{Refused as RefusedBy}
 use Rattle.tables.specs.declared.Refusal.TheVariants.{CountAboveLimit, WrongLength}
 use Rattle.tables.specs.Answers.{number_of, refuse_if}
 use Rattle.tables.specs.Limits.{limit2}
@@ -21,7 +20,7 @@ pub record Numbered (promised : Finding × List ℤ × List ℕ → Type 0) (r :
 -- by whether the lattice has nine numbers and the flags are three: if not, refusal 2, which comes after refusal 1
 abbrev pub FindsBy : Bool → List ℤ → List ℕ → Cell → List Float → List Float → ℕ → ℕ × List ℤ × List ℕ → Type 0
 FindsBy true slots marks cell positions rotated n r = Numbered (Promise slots marks cell positions rotated n) r
-FindsBy false slots marks cell positions rotated n r = r ≡ (number_of (refuse_if (any_above limit2 (n ∷ [])) CountAboveLimit (RefusedBy WrongLength)), slots, marks)
+FindsBy false slots marks cell positions rotated n r = r ≡ (number_of (refuse_if (any_above limit2 (n ∷ [])) CountAboveLimit (Err WrongLength)), slots, marks)
 
 abbrev pub Finds : List ℤ → List ℕ → List Float → Float → List ℕ → List Float → List Float → ℕ → ℕ × List ℤ × List ℕ → Type 0
 Finds slots marks lattice symprec periodic positions rotated n r =

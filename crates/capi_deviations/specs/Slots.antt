@@ -1,5 +1,5 @@
 -- What the reports answer through C, and what they leave in their slots. Assumes nothing.
-use Rattle.std.specs.Prelude.{◌≡◌, Bool, true, false, cond, ◌&&◌, ◌||◌, List, [], ◌∷◌, ℕ, zero, suc, ◌+◌, ◌/◌, ◌%◌, ◌≤◌, ◌<◌, eqb, length, set, Float}
+use Rattle.std.specs.Prelude.{Err, Ok, Result, ◌≡◌, Bool, true, false, cond, ◌&&◌, ◌||◌, List, [], ◌∷◌, ℕ, zero, suc, ◌+◌, ◌/◌, ◌%◌, ◌≤◌, ◌<◌, eqb, length, set, Float}
 use Rattle.std.proofs.Math.Path.{refl, ap}
 use Rattle.std.proofs.Common.{◌∙◌, zero-lt-suc, arith, eqb-true}
 use Rattle.lists.specs.Tests.{and_fst, and_snd}
@@ -8,15 +8,13 @@ use Rattle.tables.specs.Answers.{refusal_number}
 use Rattle.reports.specs.declared.Deviation.{Deviation}
 use Rattle.reports.specs.declared.Deviation.TheVariants.{Still, Worst, NoNumber}
 use Rattle.reports.specs.declared.Report.{Report}
-use Rattle.reports.specs.declared.ReportAnswer.{ReportAnswer}
-use Rattle.reports.specs.declared.ReportAnswer.TheVariants.{Given, Refused}
 use Rattle.reports.specs.Report.{deviation_number, value_of}
 
 -- 65 still, 66 worst, 67 no number, with the value and the place in the slots; or the number of a refusal, which leaves the slots. The places of a report
 -- are rows of n: the number of the row and the number in it say which.
-unfoldable pub report_slots : ℕ → ReportAnswer → List Float → List ℕ → ℕ × List Float × List ℕ
-report_slots n (Given r) value place = (65 + deviation_number r.deviation, value_of r.deviation ∷ [], r.index / n ∷ r.index % n ∷ [])
-report_slots n (Refused r) value place = (refusal_number r, value, place)
+unfoldable pub report_slots : ℕ → Result Report Refusal → List Float → List ℕ → ℕ × List Float × List ℕ
+report_slots n (Ok r) value place = (65 + deviation_number r.deviation, value_of r.deviation ∷ [], r.index / n ∷ r.index % n ∷ [])
+report_slots n (Err r) value place = (refusal_number r, value, place)
 
 -- how many places an operation has on a set of len numbers; those of a set of none are counted in rows of one
 unfoldable pub row_length : ℕ → ℕ
@@ -28,7 +26,7 @@ abbrev pub report_slots_fit : ℕ → ℕ → Bool
 report_slots_fit lenValue lenPlace = eqb lenValue 1 && eqb lenPlace 2
 
 -- Slots of other lengths are refusal 2, which comes after refusal 1: `above` says that a count is above its limit.
-unfoldable pub report_call : Bool → ℕ → ReportAnswer → List Float → List ℕ → ℕ × List Float × List ℕ
+unfoldable pub report_call : Bool → ℕ → Result Report Refusal → List Float → List ℕ → ℕ × List Float × List ℕ
 report_call above n a value place = cond (report_slots_fit (length value) (length place)) (report_slots n a value place) (cond above 1 2, value, place)
 
 -- ---- laws
@@ -68,7 +66,7 @@ two_slots (_ ∷ (_ ∷ (_ ∷ _))) x y e = absurd (omega (arith, e))
 
 module _ (n : ℕ) (value : List Float) (place : List ℕ) where
   -- a report, written: x is its value, k its number, i and j say its place
-  pub put-given : (a : ReportAnswer) (q : Report) (x : Float) (i j k : ℕ) → (length value ≡ 1) × (length place ≡ 2) → a ≡ Given q
+  pub put-given : (a : Result Report Refusal) (q : Report) (x : Float) (i j k : ℕ) → (length value ≡ 1) × (length place ≡ 2) → a ≡ Ok q
       → x ≡ value_of q.deviation → i ≡ q.index / n → j ≡ q.index % n → k ≡ deviation_number q.deviation
       → (65 + k, set value 0 x, set (set place 0 i) 1 j) ≡ report_slots n a value place
   unfolding report_slots
@@ -78,12 +76,12 @@ module _ (n : ℕ) (value : List Float) (place : List ℕ) where
       rw (v, p, ex, ei, ej, ek, e) refl
 
   -- a refusal leaves the slots
-  pub put_refused : (a : ReportAnswer) (refusal : Refusal) (r : ℕ) → a ≡ Refused refusal → r ≡ refusal_number refusal → (r, value, place) ≡ report_slots n a value place
+  pub put_refused : (a : Result Report Refusal) (refusal : Refusal) (r : ℕ) → a ≡ Err refusal → r ≡ refusal_number refusal → (r, value, place) ≡ report_slots n a value place
   unfolding report_slots
   put_refused a refusal r e er = rw (er, e) refl
 
-  module _ (above : Bool) (a : ReportAnswer) where
-    pub call_given : {b : ReportAnswer} (r : ℕ × List Float × List ℕ) → report_slots_fit (length value) (length place) ≡ true → b ≡ a → r ≡ report_slots n b value place → r ≡ report_call above n a value place
+  module _ (above : Bool) (a : Result Report Refusal) where
+    pub call_given : {b : Result Report Refusal} (r : ℕ × List Float × List ℕ) → report_slots_fit (length value) (length place) ≡ true → b ≡ a → r ≡ report_slots n b value place → r ≡ report_call above n a value place
     unfolding report_call
     call_given r f eb e = e ∙ ap (λ x. report_slots n x value place) eb ∙ rw f refl
 

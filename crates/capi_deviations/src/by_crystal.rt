@@ -7,6 +7,7 @@ ghost use Rattle.tables.specs.Compact.{shift_tables};
 ghost use Rattle.crystal.specs.Crystal.{crystal_report_compact, crystal_report_full};
 ghost use Rattle.capi_deviations.specs.Slots.{row_length, report_call};
 
+use tables::Refusal;
 use crate::{put, slots_fit};
 use capi_reports::auditing::{wrong_slots, wrong_slots_full};
 use tables::limits::{LIMIT2, LIMIT3, LIMIT4};

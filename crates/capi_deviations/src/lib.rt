@@ -10,8 +10,9 @@ ghost use Rattle.std.specs.Prelude.{◌≡◌, false, ◌<◌, length};
 ghost use Rattle.reports.specs.Sets.{set_difference};
 ghost use Rattle.capi_deviations.specs.Slots.{report_slots, report_slots_fit, report_call};
 
+use tables::Refusal;
 use places::{column_of, row_of};
-use reports::ReportAnswer;
+use reports::Report;
 
 // One slot for the value, two for the place.
 pub fn slots_fit(len_value: usize, len_place: usize) -> bool
@@ -21,19 +22,19 @@ pub fn slots_fit(len_value: usize, len_place: usize) -> bool
 }
 
 // Puts a report into the slots: its value, and its place, the number of its row of n and the number in it. A refusal leaves them.
-pub fn put(a: ReportAnswer, n: usize, value: &mut [f64], place: &mut [usize]) -> u8
+pub fn put(a: Result<Report, Refusal>, n: usize, value: &mut [f64], place: &mut [usize]) -> u8
     requires { (0 < n) × (length value.old ≡ 1) × (length place.old ≡ 2) }
     ensures { (result, value.new, place.new) ≡ report_slots n a value.old place.old }
 {
     match a {
-        ReportAnswer::Given(q) => {
+        Ok(q) => {
             let d = q.deviation;
             value[0] = reports::value(d);
             place[0] = row_of(q.index, n);
             place[1] = column_of(q.index, n);
             65 + reports::number(d)
         }
-        ReportAnswer::Refused(r) => tables::refusal_number(r),
+        Err(r) => u8::from(r),
     }
 }
 

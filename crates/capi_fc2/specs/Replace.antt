@@ -1,10 +1,9 @@
 -- What gf_replace_block_fc2 answers and leaves: the block comes as a slice, which may have another length than nine. Assumes nothing.
-use Rattle.std.specs.Prelude.{◌≡◌, Bool, false, cond, ◌||◌, List, [], ◌∷◌, ℕ, ◌+◌, ◌*◌, ◌≤◌, ◌<◌, eqb, length, get_or, Float}
+use Rattle.std.specs.Prelude.{Err, ◌≡◌, Bool, false, cond, ◌||◌, List, [], ◌∷◌, ℕ, ◌+◌, ◌*◌, ◌≤◌, ◌<◌, eqb, length, get_or, Float}
 use Rattle.std.proofs.Common.{sym, ap, ◌∙◌, arith, eq-eqb, ne_eqb, lt-ltb, le-ltb}
 use Rattle.std.specs.Float.{nan}
 use Rattle.lists.specs.Tab.{is_tab}
-use Rattle.tables.specs.declared.Answer.{Answer}
-use Rattle.tables.specs.declared.Answer.TheVariants.{Refused}
+use Rattle.tables.specs.Answers.{Answer}
 use Rattle.tables.specs.declared.Refusal.TheVariants.{CountAboveLimit, WrongLength}
 use Rattle.tables.specs.Answers.{number_of, refuse_if}
 use Rattle.tables.specs.Limits.{limit2}
@@ -18,7 +17,7 @@ unfoldable pub replace_call : List Float → List Float → List Float → ℕ �
 replace_call set sums new i j n =
     cond (eqb (length new) 9)
     (numbered_with (replace_block set sums new i j n))
-    (number_of (refuse_if (any_above limit2 (n ∷ [])) CountAboveLimit (Refused WrongLength)), set, sums)
+    (number_of (refuse_if (any_above limit2 (n ∷ [])) CountAboveLimit (Err WrongLength)), set, sums)
 
 -- nine numbers, read as a block
 pub read_whole_lem : (xs : List Float) → length xs ≡ 9 → block 9 0 xs ≡ xs
@@ -34,7 +33,7 @@ module _ (set sums new : List Float) (i j n : ℕ) where
   of_nine e = rw (eq-eqb (length new) 9 e)
 
   of_other : (length new ≡ 9 → ⊥)
-      → (number_of (refuse_if (any_above limit2 (n ∷ [])) CountAboveLimit (Refused WrongLength)), set, sums) ≡ replace_call set sums new i j n
+      → (number_of (refuse_if (any_above limit2 (n ∷ [])) CountAboveLimit (Err WrongLength)), set, sums) ≡ replace_call set sums new i j n
   unfolding replace_call
   of_other e = rw (ne_eqb (length new) 9 e)
 
@@ -49,8 +48,8 @@ module _ (set sums new : List Float) (i j n : ℕ) where
   -- another length: refusal 1 comes before refusal 2
   pub above : (length new ≡ 9 → ⊥) → limit2 < n → (1, set, sums) ≡ replace_call set sums new i j n
   above e h =
-      sym (ap (λ (b : Bool). (number_of (refuse_if (b || false) CountAboveLimit (Refused WrongLength)), set, sums)) (lt-ltb limit2 n h)) ∙ of_other e
+      sym (ap (λ (b : Bool). (number_of (refuse_if (b || false) CountAboveLimit (Err WrongLength)), set, sums)) (lt-ltb limit2 n h)) ∙ of_other e
 
   pub wrong : (length new ≡ 9 → ⊥) → n ≤ limit2 → (2, set, sums) ≡ replace_call set sums new i j n
   wrong e h =
-      sym (ap (λ (b : Bool). (number_of (refuse_if (b || false) CountAboveLimit (Refused WrongLength)), set, sums)) (le-ltb limit2 n h)) ∙ of_other e
+      sym (ap (λ (b : Bool). (number_of (refuse_if (b || false) CountAboveLimit (Err WrongLength)), set, sums)) (le-ltb limit2 n h)) ∙ of_other e

@@ -12,7 +12,8 @@ ghost use Rattle.tables.specs.Numbered.{numbered, numbered_with};
 ghost use Rattle.capi_fc2.specs.Drift.{drift_slots_fit, drift_slots, drift_call};
 ghost use Rattle.distribute.specs.Fc2.{distribution, distribute_fc2};
 
-use drift::DriftAnswer;
+use tables::Refusal;
+use drift::DriftReport;
 use tables::limits::LIMIT2;
 
 // Symmetrizes a full set.
@@ -100,12 +101,12 @@ pub fn slots_fit(len_value: usize, len_place: usize) -> bool
 }
 
 // Puts a drift's answer into the slots: its value, and its place, rows or columns, the atom and two directions. A refusal leaves them.
-pub fn report(a: DriftAnswer, value: &mut [f64], place: &mut [usize]) -> u8
+pub fn report(a: Result<DriftReport, Refusal>, value: &mut [f64], place: &mut [usize]) -> u8
     requires { (length value.old ≡ 1) × (length place.old ≡ 4) }
     ensures { (result, value.new, place.new) ≡ drift_slots a value.old place.old }
 {
     match a {
-        DriftAnswer::Report(q) => {
+        Ok(q) => {
             let d = q.drift;
             let along = q.along;
             value[0] = reports::value(d);
@@ -115,7 +116,7 @@ pub fn report(a: DriftAnswer, value: &mut [f64], place: &mut [usize]) -> u8
             place[3] = q.l;
             65 + reports::number(d)
         }
-        DriftAnswer::Refused(r) => tables::refusal_number(r),
+        Err(r) => u8::from(r),
     }
 }
 

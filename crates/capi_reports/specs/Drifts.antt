@@ -1,5 +1,6 @@
 -- What the drift reports of compact sets and of third order answer through C, and what they leave in their slots. Assumes nothing.
-use Rattle.std.specs.Prelude.{◌≡◌, Bool, true, false, cond, ◌&&◌, List, [], ◌∷◌, ℕ, ◌+◌, eqb, length, set, Float}
+use Rattle.drift.specs.declared.DriftReport.{DriftReport}
+use Rattle.std.specs.Prelude.{Err, Ok, Result, ◌≡◌, Bool, true, false, cond, ◌&&◌, List, [], ◌∷◌, ℕ, ◌+◌, eqb, length, set, Float}
 use Rattle.std.proofs.Math.Path.{refl, ap}
 use Rattle.std.proofs.Common.{◌∙◌, arith, eqb-true}
 use Rattle.lists.specs.Tests.{and_fst, and_snd}
@@ -8,12 +9,9 @@ use Rattle.tables.specs.Answers.{refusal_number}
 use Rattle.tables.specs.Limits.{limit2, limit3}
 use Rattle.tables.specs.Conditions.{any_above}
 use Rattle.tables.specs.Compact.{ShiftTables}
-use Rattle.drift.specs.declared.DriftAnswer.{DriftAnswer}
 use Rattle.reports.specs.Report.{deviation_number, value_of}
 use Rattle.drift.specs.CompactReport.{drift_report_compact_fc2}
 use Rattle.drift.specs.declared.third.LegReport.{LegReport}
-use Rattle.drift.specs.declared.third.LegAnswer.{LegAnswer}
-use Rattle.drift.specs.declared.third.LegAnswer.TheVariants.{Report, Refused}
 use Rattle.drift.specs.ThirdReport.{drift_report_fc3}
 use Rattle.capi_fc2.specs.Drift.{drift_slots_fit, drift_slots, one-slot}
 
@@ -25,9 +23,9 @@ compact_drift_call fc T value place =
     (cond (any_above limit2 (T.n_satom ∷ (T.n_patom ∷ (T.num_trans ∷ [])))) 1 2, value, place)
 
 -- third order: one slot for the value, six for the place, the leg that is summed over, two atoms and three directions
-unfoldable pub leg_reported : LegAnswer → List Float → List ℕ → ℕ × List Float × List ℕ
-leg_reported (Report r) value place = (65 + deviation_number r.drift, value_of r.drift ∷ [], r.leg ∷ r.first ∷ r.second ∷ r.k ∷ r.l ∷ r.m ∷ [])
-leg_reported (Refused r) value place = (refusal_number r, value, place)
+unfoldable pub leg_reported : Result LegReport Refusal → List Float → List ℕ → ℕ × List Float × List ℕ
+leg_reported (Ok r) value place = (65 + deviation_number r.drift, value_of r.drift ∷ [], r.leg ∷ r.first ∷ r.second ∷ r.k ∷ r.l ∷ r.m ∷ [])
+leg_reported (Err r) value place = (refusal_number r, value, place)
 
 abbrev pub leg_slots_fit : ℕ → ℕ → Bool
 leg_slots_fit lenValue lenPlace = eqb lenValue 1 && eqb lenPlace 6
@@ -56,7 +54,7 @@ six_slots (_ ∷ (_ ∷ (_ ∷ (_ ∷ (_ ∷ (_ ∷ (_ ∷ _))))))) a b c d e f 
 
 module _ (value : List Float) (place : List ℕ) where
   -- a report, written: x is its value, k its number
-  pub leg-put : (q : LegReport) (a : LegAnswer) (x : Float) (k : ℕ) → (length value ≡ 1) × (length place ≡ 6) → a ≡ Report q → x ≡ value_of q.drift → k ≡ deviation_number q.drift
+  pub leg-put : (q : LegReport) (a : Result LegReport Refusal) (x : Float) (k : ℕ) → (length value ≡ 1) × (length place ≡ 6) → a ≡ Ok q → x ≡ value_of q.drift → k ≡ deviation_number q.drift
       → (65 + k, set value 0 x, set (set (set (set (set (set place 0 q.leg) 1 q.first) 2 q.second) 3 q.k) 4 q.l) 5 q.m) ≡ leg_reported a value place
   unfolding leg_reported
   leg-put q a x k (hv, hp) e ex ek =
@@ -65,13 +63,13 @@ module _ (value : List Float) (place : List ℕ) where
       rw (v, p, ex, ek, e) refl
 
   -- a refusal leaves the slots
-  pub leg-kept : (a : LegAnswer) (refusal : Refusal) (r : ℕ) → a ≡ Refused refusal → r ≡ refusal_number refusal → (r, value, place) ≡ leg_reported a value place
+  pub leg-kept : (a : Result LegReport Refusal) (refusal : Refusal) (r : ℕ) → a ≡ Err refusal → r ≡ refusal_number refusal → (r, value, place) ≡ leg_reported a value place
   unfolding leg_reported
   leg-kept a refusal r e er = rw (er, e) refl
 
   -- the calls, step by step: a is the drift's answer, told what was made of it
   module _ (fc : List Float) (n : ℕ) where
-    pub leg-told : (a : LegAnswer) (told : ℕ × List Float × List ℕ) → leg_slots_fit (length value) (length place) ≡ true → a ≡ drift_report_fc3 fc n → told ≡ leg_reported a value place
+    pub leg-told : (a : Result LegReport Refusal) (told : ℕ × List Float × List ℕ) → leg_slots_fit (length value) (length place) ≡ true → a ≡ drift_report_fc3 fc n → told ≡ leg_reported a value place
         → told ≡ leg_drift_call fc n value place
     unfolding leg_drift_call
     leg-told a told fit d e = e ∙ ap (λ x. leg_reported x value place) d ∙ rw fit refl
@@ -81,7 +79,7 @@ module _ (value : List Float) (place : List ℕ) where
     leg-wrong fit e = rw (fit, e) refl
 
   module _ (fc : List Float) (T : ShiftTables) where
-    pub compact_told : (a : DriftAnswer) (told : ℕ × List Float × List ℕ) → drift_slots_fit (length value) (length place) ≡ true → a ≡ drift_report_compact_fc2 fc T → told ≡ drift_slots a value place
+    pub compact_told : (a : Result DriftReport Refusal) (told : ℕ × List Float × List ℕ) → drift_slots_fit (length value) (length place) ≡ true → a ≡ drift_report_compact_fc2 fc T → told ≡ drift_slots a value place
         → told ≡ compact_drift_call fc T value place
     unfolding compact_drift_call
     compact_told a told fit d e = e ∙ ap (λ x. drift_slots x value place) d ∙ rw fit refl

@@ -7,7 +7,8 @@ ghost use Rattle.places.specs.Permutations.{perms2, perms3, perms4};
 ghost use Rattle.audits.specs.Audit.{same_set, audit_compact, audit_full};
 ghost use Rattle.capi_reports.specs.Told.{audit_slots as auditSlotsOf, slots_fit, audit_call};
 
-use audits::Audit;
+use tables::Refusal;
+use audits::Difference;
 use tables::limits::{LIMIT2, LIMIT3, LIMIT4};
 
 // Whether the slots have the stated lengths, two each.
@@ -44,20 +45,20 @@ pub fn wrong_slots_full(limit: usize, n: usize) -> u8
 }
 
 // Puts what was found into the slots: the place and which permutation reads the other number, and both numbers. Alike and refused leave them.
-fn told(a: Audit, place: &mut [usize], numbers: &mut [f64]) -> u8
+fn told(a: Result<Option<Difference>, Refusal>, place: &mut [usize], numbers: &mut [f64]) -> u8
     requires { (length place.old ≡ 2) × (length numbers.old ≡ 2) }
     ensures { (result, place.new, numbers.new) ≡ auditSlotsOf a place.old numbers.old }
 {
     match a {
-        Audit::Alike => 73,
-        Audit::Unlike(d) => {
+        Ok(None) => 73,
+        Ok(Some(d)) => {
             place[0] = d.place;
             place[1] = d.order;
             numbers[0] = d.here;
             numbers[1] = d.there;
             74
         }
-        Audit::Refused(r) => tables::refusal_number(r),
+        Err(r) => u8::from(r),
     }
 }
 

@@ -3,9 +3,10 @@ ghost use Rattle.std.specs.Prelude.{◌≡◌, length};
 ghost use Rattle.tables.specs.Compact.{shift_tables};
 ghost use Rattle.capi_reports.specs.Drifts.{compact_drift_call, leg_reported, leg_slots_fit, leg_drift_call};
 
+use tables::Refusal;
 use crate::auditing::{wrong_slots, wrong_slots_full};
 use capi_fc2::{report, slots_fit};
-use drift::third::LegAnswer;
+use drift::third::LegReport;
 use tables::limits::{LIMIT2, LIMIT3};
 
 // The drift of each row sum and of each column sum of the full set that a compact set reads out to: 65 still, 66 worst, 67 no number, or the number of
@@ -42,12 +43,12 @@ fn leg_slots_fit(len_value: usize, len_place: usize) -> bool
 }
 
 // Puts a drift's answer into the slots: its value, and its place, the leg that is summed over, two atoms and three directions. A refusal leaves them.
-fn leg_report(a: LegAnswer, value: &mut [f64], place: &mut [usize]) -> u8
+fn leg_report(a: Result<LegReport, Refusal>, value: &mut [f64], place: &mut [usize]) -> u8
     requires { (length value.old ≡ 1) × (length place.old ≡ 6) }
     ensures { (result, value.new, place.new) ≡ leg_reported a value.old place.old }
 {
     match a {
-        LegAnswer::Report(q) => {
+        Ok(q) => {
             let d = q.drift;
             value[0] = reports::value(d);
             place[0] = q.leg;
@@ -58,7 +59,7 @@ fn leg_report(a: LegAnswer, value: &mut [f64], place: &mut [usize]) -> u8
             place[5] = q.m;
             65 + reports::number(d)
         }
-        LegAnswer::Refused(r) => tables::refusal_number(r),
+        Err(r) => u8::from(r),
     }
 }
 

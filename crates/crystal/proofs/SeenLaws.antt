@@ -11,8 +11,7 @@ use Rattle.lists.specs.Tab.{times, times-same, times_nest}
 use Rattle.lists.specs.Digits.{times_power, rest, digits, length_digits, rest_div, rest_below, digits-below, quotient, remainder, in_row}
 use Rattle.lists.specs.Elements.{Below, all_map}
 use Rattle.blocks.specs.Block.{block, length-block, get_or-block, fits}
-use Rattle.tables.specs.declared.Answer.{Answer}
-use Rattle.tables.specs.declared.Answer.TheVariants.{Done, Refused as RefusedBy}
+use Rattle.tables.specs.Answers.{Answer}
 use Rattle.tables.specs.declared.Refusal.{Refusal}
 use Rattle.tables.specs.declared.Refusal.TheVariants.{CountAboveLimit, WrongLength, IndexOutOfRange, BadSlab, BadRepresentative, BadShiftTables, NotARoll, NoRoom, NotLawful, OffGrid, UnknownSet}
 use Rattle.tables.specs.Answers.{number_of, refusal_number, refuse_if, passed}
@@ -28,7 +27,6 @@ use Rattle.rotations.specs.Rotation.{rotated}
 use Rattle.read_out.specs.Blocks.{block_of, read_at_lem}
 use Rattle.audits.specs.Guard.{Ready, block_inside, stored-within, full_tables, whole-shifts}
 use Rattle.reports.specs.declared.seen.Seen.{Seen}
-use Rattle.reports.specs.declared.ReportAnswer.TheVariants.{Given, Refused}
 use Rattle.reports.specs.Loops.{look, look_at, look_differences, nothing_seen, concluded}
 use Rattle.reports.specs.Seen.{rows-looked, look-same, report_of, after-done, after-refused}
 use Rattle.crystal.specs.Crystal.{image, image_legs, deviation, deviation_at, crystal_report, judged_operations, earlier, crystal_report_compact, crystal_report_full}

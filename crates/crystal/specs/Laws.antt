@@ -1,6 +1,6 @@
 -- What the loops see, operation by operation and block by block, are the deviations of the definition, one after another, and so is the call's answer.
 -- For every rank at once. Assumes nothing.
-use Rattle.std.specs.Prelude.{◌≡◌, refl, Bool, true, false, cond, ◌⊎◌, List, [], ◌∷◌, map, eqb, leb, ℤ, length, Float}
+use Rattle.std.specs.Prelude.{Err, Ok, ◌≡◌, refl, Bool, true, false, cond, ◌⊎◌, List, [], ◌∷◌, map, eqb, leb, ℤ, length, Float}
 use Rattle.std.proofs.Math.Path.{sym, ap, ap₂, fun_ext}
 use Rattle.std.proofs.Common.{◌∙◌, subst, inl, inr, mul-le-mul_right, eq-eqb, ne_eqb, le-leb}
 use Prim.Native.Nat.{ℕ, suc, ◌+◌, ◌*◌, ◌/◌, ◌%◌, ◌≤◌, ◌<◌}
@@ -12,8 +12,7 @@ use Rattle.lists.specs.Tab.{times, times-same, times_nest}
 use Rattle.lists.specs.Digits.{times_power, rest, digits, length_digits, rest_div, rest_below, digits-below, quotient, remainder, in_row}
 use Rattle.lists.specs.Elements.{Below, all_map}
 use Rattle.blocks.specs.Block.{block, length-block, get_or-block, fits}
-use Rattle.tables.specs.declared.Answer.{Answer}
-use Rattle.tables.specs.declared.Answer.TheVariants.{Done, Refused as RefusedBy}
+use Rattle.tables.specs.Answers.{Answer}
 use Rattle.tables.specs.declared.Refusal.{Refusal}
 use Rattle.tables.specs.declared.Refusal.TheVariants.{CountAboveLimit, WrongLength, IndexOutOfRange, BadSlab, BadRepresentative, BadShiftTables, NotARoll, NoRoom, NotLawful, OffGrid, UnknownSet}
 use Rattle.tables.specs.Answers.{number_of, refusal_number, refuse_if, passed}
@@ -29,7 +28,6 @@ use Rattle.rotations.specs.Rotation.{rotated}
 use Rattle.read_out.specs.Blocks.{block_of, read_at_lem}
 use Rattle.audits.specs.Guard.{Ready, block_inside, stored-within, full_tables, whole-shifts}
 use Rattle.reports.specs.declared.seen.Seen.{Seen}
-use Rattle.reports.specs.declared.ReportAnswer.TheVariants.{Given, Refused}
 use Rattle.reports.specs.Loops.{look, look_at, look_differences, nothing_seen, concluded}
 use Rattle.reports.specs.Seen.{rows-looked, look-same, report_of, after-done, after-refused}
 use Rattle.crystal.specs.Crystal.{image, image_legs, deviation, deviation_at, crystal_report, judged_operations, earlier, crystal_report_compact, crystal_report_full}
@@ -99,7 +97,7 @@ sends {n} {num_rot} O r h = record { each = λ a l. read O.maps (r * n + a) (in_
 
 -- ---- the guard
 
-pub operating : (n num_rot lenCarts : ℕ) (operations : List ℤ) → judged_operations n num_rot lenCarts operations ≡ Done → Operating n num_rot lenCarts operations
+pub operating : (n num_rot lenCarts : ℕ) (operations : List ℤ) → judged_operations n num_rot lenCarts operations ≡ Ok tt → Operating n num_rot lenCarts operations
 unfolding judged_operations
 operating n num_rot lenCarts operations e =
     let (c, e1) = passed _ _ _ e in
@@ -109,9 +107,9 @@ operating n num_rot lenCarts operations e =
     record { few = (not_above 1024 (num_rot ∷ []) c).0; matrices = ls.0; maps = record { has = ls.1.0; within = o } }
 
 -- an answer's number is 0 where it is done, and 1 or more where it is refused
-number-done : (a : Answer) → (a ≡ Done) ⊎ (1 ≤ number_of a)
-number-done Done = inl refl
-number-done (RefusedBy r) = inr (by r)
+number-done : (a : Answer) → (a ≡ Ok tt) ⊎ (1 ≤ number_of a)
+number-done (Ok tt) = inl refl
+number-done (Err r) = inr (by r)
   where
     by : (r : Refusal) → 1 ≤ refusal_number r
     by CountAboveLimit = omega arith
@@ -131,16 +129,16 @@ pub earlier-one : (a b : Answer) → number_of a ≡ 1 → a ≡ earlier a b
 unfolding earlier
 earlier-one a b e = go (number-done b)
   where
-    go : (b ≡ Done) ⊎ (1 ≤ number_of b) → a ≡ cond (eqb (number_of a) 0) b (cond (eqb (number_of b) 0) a (cond (leb (number_of a) (number_of b)) a b))
+    go : (b ≡ Ok tt) ⊎ (1 ≤ number_of b) → a ≡ cond (eqb (number_of a) 0) b (cond (eqb (number_of b) 0) a (cond (leb (number_of a) (number_of b)) a b))
     go (inl d) = rw (ne_eqb (number_of a) 0 (λ z. omega (arith, e, z)), d) refl
     go (inr h) = rw (ne_eqb (number_of a) 0 (λ z. omega (arith, e, z)), ne_eqb (number_of b) 0 (λ z. omega (arith, h, z)), le-leb (number_of a) (number_of b) (omega (arith, e, h))) refl
 
 -- where both are done
-pub both-done : (a b : Answer) → earlier a b ≡ Done → (a ≡ Done) × (b ≡ Done)
+pub both-done : (a b : Answer) → earlier a b ≡ Ok tt → (a ≡ Ok tt) × (b ≡ Ok tt)
 unfolding earlier
 both-done a b e = go (number-done a) (number-done b)
   where
-    go : (a ≡ Done) ⊎ (1 ≤ number_of a) → (b ≡ Done) ⊎ (1 ≤ number_of b) → (a ≡ Done) × (b ≡ Done)
+    go : (a ≡ Ok tt) ⊎ (1 ≤ number_of a) → (b ≡ Ok tt) ⊎ (1 ≤ number_of b) → (a ≡ Ok tt) × (b ≡ Ok tt)
     go (inl d) _ = (d, sym (ap (λ k. cond (eqb k 0) b (cond (eqb (number_of b) 0) a (cond (leb k (number_of b)) a b))) (ap number_of d)) ∙ e)
     go (inr h) (inl d) =
         let n = ne_eqb (number_of a) 0 (λ z. omega (arith, h, z)) in
@@ -155,7 +153,7 @@ both-done a b e = go (number-done a) (number-done b)
         k : eqb (number_of b) 0 ≡ false
         k = ne_eqb (number_of b) 0 (λ z. omega (arith, g, z))
 
-        all : cond (leb (number_of a) (number_of b)) a b ≡ Done
+        all : cond (leb (number_of a) (number_of b)) a b ≡ Ok tt
         all = sym (ap₂ (λ x y. cond x b (cond y a (cond (leb (number_of a) (number_of b)) a b))) n k) ∙ e
 
         either : (t : Bool) → leb (number_of a) (number_of b) ≡ t → ⊥
@@ -202,22 +200,22 @@ image-inside limit m len T R h operations r O b hb w e =
 -- ---- the answer
 
 module _ (limit m : ℕ) (set r_carts : List Float) (operations : List ℤ) (num_rot : ℕ) where
-  pub compact_given : (T : ShiftTables) → earlier (judged_set limit m (length set) [] T) (judged_operations T.n_satom num_rot (length r_carts) operations) ≡ Done
-      → {c : Seen} → c ≡ all_seen (shifts_of T) m r_carts operations set num_rot → Given (concluded c) ≡ crystal_report_compact limit m set r_carts operations T num_rot
+  pub compact_given : (T : ShiftTables) → earlier (judged_set limit m (length set) [] T) (judged_operations T.n_satom num_rot (length r_carts) operations) ≡ Ok tt
+      → {c : Seen} → c ≡ all_seen (shifts_of T) m r_carts operations set num_rot → Ok (concluded c) ≡ crystal_report_compact limit m set r_carts operations T num_rot
   unfolding crystal_report_compact
   compact_given T e f = after-done e (report_is (shifts_of T) m r_carts operations set num_rot f)
 
-  pub compact_refused : (T : ShiftTables) (r : Refusal) → earlier (judged_set limit m (length set) [] T) (judged_operations T.n_satom num_rot (length r_carts) operations) ≡ RefusedBy r
-      → Refused r ≡ crystal_report_compact limit m set r_carts operations T num_rot
+  pub compact_refused : (T : ShiftTables) (r : Refusal) → earlier (judged_set limit m (length set) [] T) (judged_operations T.n_satom num_rot (length r_carts) operations) ≡ Err r
+      → Err r ≡ crystal_report_compact limit m set r_carts operations T num_rot
   unfolding crystal_report_compact
   compact_refused T r e = after-refused (crystal_report (shifts_of T) m r_carts operations set num_rot) e
 
-  pub full-given : (n : ℕ) → earlier (judged_full limit m (length set) [] n) (judged_operations n num_rot (length r_carts) operations) ≡ Done
-      → {c : Seen} → c ≡ all_seen (shifts_of (full_tables n)) m r_carts operations set num_rot → Given (concluded c) ≡ crystal_report_full limit m set r_carts operations n num_rot
+  pub full-given : (n : ℕ) → earlier (judged_full limit m (length set) [] n) (judged_operations n num_rot (length r_carts) operations) ≡ Ok tt
+      → {c : Seen} → c ≡ all_seen (shifts_of (full_tables n)) m r_carts operations set num_rot → Ok (concluded c) ≡ crystal_report_full limit m set r_carts operations n num_rot
   unfolding crystal_report_full
   full-given n e f = after-done e (report_is (full_shifts n) m r_carts operations set num_rot (f ∙ ap (λ S. all_seen S m r_carts operations set num_rot) (whole-shifts n)))
 
-  pub full-refused : (n : ℕ) (r : Refusal) → earlier (judged_full limit m (length set) [] n) (judged_operations n num_rot (length r_carts) operations) ≡ RefusedBy r
-      → Refused r ≡ crystal_report_full limit m set r_carts operations n num_rot
+  pub full-refused : (n : ℕ) (r : Refusal) → earlier (judged_full limit m (length set) [] n) (judged_operations n num_rot (length r_carts) operations) ≡ Err r
+      → Err r ≡ crystal_report_full limit m set r_carts operations n num_rot
   unfolding crystal_report_full
   full-refused n r e = after-refused (crystal_report (full_shifts n) m r_carts operations set num_rot) e

@@ -11,33 +11,33 @@ ghost use Rattle.tables.specs.Answers.{number_of};
 ghost use Rattle.crystal.specs.Crystal.{judged_operations, earlier as earlier_of};
 
 use tables::index::all_below;
-use tables::{Answer, Refusal, number};
+use tables::{Refusal, number};
 
 // The most operations of a call.
 const MOST: usize = 1024;
 
 // Refusals 1, 2 and 3 of num_rot operations on n atoms.
-fn judge_operations(n: usize, num_rot: usize, carts_len: usize, operations: &[i64]) -> Answer
+fn judge_operations(n: usize, num_rot: usize, carts_len: usize, operations: &[i64]) -> Result<(), Refusal>
     requires { n ≤ 1024 }
     ensures { result ≡ judged_operations n num_rot carts_len operations.now }
 {
     if num_rot > MOST {
-        return Answer::Refused(Refusal::CountAboveLimit);
+        return Err(Refusal::CountAboveLimit);
     }
     if carts_len != num_rot * 9 {
-        return Answer::Refused(Refusal::WrongLength);
+        return Err(Refusal::WrongLength);
     }
     if operations.len() != num_rot * n {
-        return Answer::Refused(Refusal::WrongLength);
+        return Err(Refusal::WrongLength);
     }
     if !all_below(operations, n) {
-        return Answer::Refused(Refusal::IndexOutOfRange);
+        return Err(Refusal::IndexOutOfRange);
     }
-    Answer::Done
+    Ok(())
 }
 
 // Of two answers the refusal that comes first.
-fn earlier(a: Answer, b: Answer) -> Answer
+fn earlier(a: Result<(), Refusal>, b: Result<(), Refusal>) -> Result<(), Refusal>
     ensures { result ≡ earlier_of a b }
 {
     let x = number(a);
@@ -55,7 +55,7 @@ fn earlier(a: Answer, b: Answer) -> Answer
 }
 
 // The answer a to the set, and that to the operations on its n atoms. Where a count of the set is above its limit nothing else is looked at.
-pub fn judge(a: Answer, n: usize, num_rot: usize, carts_len: usize, operations: &[i64]) -> Answer
+pub fn judge(a: Result<(), Refusal>, n: usize, num_rot: usize, carts_len: usize, operations: &[i64]) -> Result<(), Refusal>
     requires { (number_of a ≡ 1 → ⊥) → n ≤ 1024 }
     ensures { result ≡ earlier_of a (judged_operations n num_rot carts_len operations.now) }
 {

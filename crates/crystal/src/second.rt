@@ -15,10 +15,10 @@ use crate::judge;
 use audits::guard::counted;
 use places::{column_of, index_of, row_of, stored_block2};
 use reports::seen::{Seen, look_differences, start};
-use reports::{ReportAnswer, conclude};
+use reports::{Report, conclude};
 use rotations::{coefficients2, rotated9};
 use shifts::judge_set;
-use tables::Answer;
+use tables::Refusal;
 use tables::atoms::{PrimAtom, SuperAtom, p2s_at, perms_at};
 use tables::limits::LIMIT2;
 use tables::sets::judge_full;
@@ -130,7 +130,7 @@ pub fn crystal_report_compact_fc2(
     n_patom: usize,
     num_trans: usize,
     num_rot: usize,
-) -> ReportAnswer
+) -> Result<Report, Refusal>
     ensures { let T = shift_tables p2s.now s2pp.now nsym_list.now perms.now n_satom n_patom num_trans in
         result ≡ crystal_report_compact limit2 1 fc.now r_carts.now operations.now T num_rot }
 {
@@ -146,17 +146,12 @@ pub fn crystal_report_compact_fc2(
         n_patom,
         num_trans,
     );
-    let a = judge(s, n_satom, num_rot, r_carts.len(), operations);
-    match a {
-        Answer::Refused(r) => ReportAnswer::Refused(r),
-        Answer::Done => {
-            let seen = scan(
-                fc, p2s, s2pp, nsym_list, perms, r_carts, operations, n_satom, n_patom, num_trans,
-                num_rot,
-            );
-            ReportAnswer::Given(conclude(seen))
-        }
-    }
+    judge(s, n_satom, num_rot, r_carts.len(), operations)?;
+    let seen = scan(
+        fc, p2s, s2pp, nsym_list, perms, r_carts, operations, n_satom, n_patom, num_trans,
+        num_rot,
+    );
+    Ok(conclude(seen))
 }
 
 // A full set is a compact set in which every atom is its own representative.
@@ -190,16 +185,11 @@ pub fn crystal_report_fc2(
     operations: &[i64],
     num_atom: usize,
     num_rot: usize,
-) -> ReportAnswer
+) -> Result<Report, Refusal>
     ensures { result ≡ crystal_report_full limit2 1 fc.now r_carts.now operations.now num_atom num_rot }
 {
     let s = judge_full(LIMIT2, 1, fc.len(), num_atom);
-    let a = judge(s, num_atom, num_rot, r_carts.len(), operations);
-    match a {
-        Answer::Refused(r) => ReportAnswer::Refused(r),
-        Answer::Done => {
-            let seen = scan_full(fc, r_carts, operations, num_atom, num_rot);
-            ReportAnswer::Given(conclude(seen))
-        }
-    }
+    judge(s, num_atom, num_rot, r_carts.len(), operations)?;
+    let seen = scan_full(fc, r_carts, operations, num_atom, num_rot);
+    Ok(conclude(seen))
 }

@@ -15,10 +15,10 @@ use crate::judge;
 use audits::guard::counted;
 use places::{column_of, index_of, row_of, stored_block3};
 use reports::seen::{Seen, look_differences, start};
-use reports::{ReportAnswer, conclude};
+use reports::{Report, conclude};
 use rotations::{coefficients3, rotated27};
 use shifts::judge_set;
-use tables::Answer;
+use tables::Refusal;
 use tables::atoms::{PrimAtom, SuperAtom, p2s_at, perms_at};
 use tables::limits::LIMIT3;
 use tables::sets::judge_full;
@@ -133,7 +133,7 @@ pub fn crystal_report_compact_fc3(
     n_patom: usize,
     num_trans: usize,
     num_rot: usize,
-) -> ReportAnswer
+) -> Result<Report, Refusal>
     ensures { let T = shift_tables p2s.now s2pp.now nsym_list.now perms.now n_satom n_patom num_trans in
         result ≡ crystal_report_compact limit3 2 fc.now r_carts.now operations.now T num_rot }
 {
@@ -149,17 +149,12 @@ pub fn crystal_report_compact_fc3(
         n_patom,
         num_trans,
     );
-    let a = judge(s, n_satom, num_rot, r_carts.len(), operations);
-    match a {
-        Answer::Refused(r) => ReportAnswer::Refused(r),
-        Answer::Done => {
-            let seen = scan(
-                fc, p2s, s2pp, nsym_list, perms, r_carts, operations, n_satom, n_patom, num_trans,
-                num_rot,
-            );
-            ReportAnswer::Given(conclude(seen))
-        }
-    }
+    judge(s, n_satom, num_rot, r_carts.len(), operations)?;
+    let seen = scan(
+        fc, p2s, s2pp, nsym_list, perms, r_carts, operations, n_satom, n_patom, num_trans,
+        num_rot,
+    );
+    Ok(conclude(seen))
 }
 
 // A full set is a compact set in which every atom is its own representative.
@@ -193,16 +188,11 @@ pub fn crystal_report_fc3(
     operations: &[i64],
     num_atom: usize,
     num_rot: usize,
-) -> ReportAnswer
+) -> Result<Report, Refusal>
     ensures { result ≡ crystal_report_full limit3 2 fc.now r_carts.now operations.now num_atom num_rot }
 {
     let s = judge_full(LIMIT3, 2, fc.len(), num_atom);
-    let a = judge(s, num_atom, num_rot, r_carts.len(), operations);
-    match a {
-        Answer::Refused(r) => ReportAnswer::Refused(r),
-        Answer::Done => {
-            let seen = scan_full(fc, r_carts, operations, num_atom, num_rot);
-            ReportAnswer::Given(conclude(seen))
-        }
-    }
+    judge(s, num_atom, num_rot, r_carts.len(), operations)?;
+    let seen = scan_full(fc, r_carts, operations, num_atom, num_rot);
+    Ok(conclude(seen))
 }

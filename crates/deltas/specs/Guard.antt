@@ -1,13 +1,12 @@
 -- What is known of a call that is not refused: everything it reads is there. Assumes nothing.
-use Rattle.std.specs.Prelude.{◌≡◌, Bool, true, false, List, [], ◌∷◌, ℤ, length, replicate, Float}
+use Rattle.std.specs.Prelude.{Ok, ◌≡◌, Bool, true, false, List, [], ◌∷◌, ℤ, length, replicate, Float}
 use Rattle.std.proofs.Common.{sym, ap, ◌∙◌, le_trans, div-lt_iff_lt-mul, mod-lt, mul_assoc, mul_comm, one-mul, pow-suc, mul-le-mul, mul-le-mul_right, arith, lit≤}
 use Rattle.std.proofs.Math.Path.{subst}
 use Prim.Native.Nat.{ℕ, zero, suc, ◌+◌, ◌*◌, ◌/◌, ◌%◌, ◌^◌, ◌<◌, ◌≤◌}
 use Rattle.std.proofs.Math.Nat.{mul-one, pow-zero}
 use Rattle.lists.specs.Digits.{in_row, times_power, room_power}
 use Rattle.lists.specs.Floats.{plus_zero}
-use Rattle.tables.specs.declared.Answer.{Answer}
-use Rattle.tables.specs.declared.Answer.TheVariants.{Done}
+use Rattle.tables.specs.Answers.{Answer}
 use Rattle.tables.specs.declared.Refusal.TheVariants.{CountAboveLimit, WrongLength, IndexOutOfRange}
 use Rattle.tables.specs.Answers.{is_refusal, refuse_if, is_done, after_refusal, after-done, passed}
 use Rattle.tables.specs.Conditions.{any_above, any_wrong, out_of_range, index_at, Readable, IndexTable, read, or_false, not_above, not-wrong}
@@ -30,7 +29,7 @@ pub record Lengths (D : Deltas) (m lengthResult lengthWork : ℕ) : Type 0 where
   pub result_length : lengthResult ≡ D.num_atom ^ m * (3 * 3 ^ m)
   pub work-length : lengthWork ≡ delta_total D * 3 ^ m
 
-pub ready : (limit m : ℕ) (D : Deltas) (lengthResult lengthWork : ℕ) → limit ≤ 256 → judged_deltas limit m D lengthResult lengthWork ≡ Done
+pub ready : (limit m : ℕ) (D : Deltas) (lengthResult lengthWork : ℕ) → limit ≤ 256 → judged_deltas limit m D lengthResult lengthWork ≡ Ok tt
     → Ready D m × Lengths D m lengthResult lengthWork
 unfolding judged_deltas
 ready limit m D lengthResult lengthWork h e =
@@ -156,7 +155,7 @@ counts-small limit num_atom num_site_sym num_disp e =
 pub judged_is : {q1 q2 q3 : Bool} (limit m : ℕ) (D : Deltas) (lengthResult lengthWork b w : ℕ) → b ≡ set_blocks 1 D.num_atom m → w ≡ 3 ^ m
     → q1 ≡ delta_counts_above limit D.num_atom D.num_site_sym D.num_disp
     → q2 ≡ any_wrong (delta_lengths D (b * (3 * w)) b w lengthResult lengthWork) → q3 ≡ out_of_range D.num_atom D.rot_map_syms
-    → refuse_if q1 CountAboveLimit (refuse_if q2 WrongLength (refuse_if q3 IndexOutOfRange Done)) ≡ judged_deltas limit m D lengthResult lengthWork
+    → refuse_if q1 CountAboveLimit (refuse_if q2 WrongLength (refuse_if q3 IndexOutOfRange (Ok tt))) ≡ judged_deltas limit m D lengthResult lengthWork
 unfolding judged_deltas
 judged_is limit m D lengthResult lengthWork b w eb ew e1 e2 e3 =
     let e : _ ≡ any_wrong (delta_lengths D (set_length 1 D.num_atom m) (D.num_atom ^ m) (3 ^ m) lengthResult lengthWork) =
@@ -174,7 +173,7 @@ module _ (limit m : ℕ) (D : Deltas) (result work : List Float) (a : Answer) (e
       rw (← e, after_refusal a (rotated_deltas D m) result h, after_refusal a (replicate (length work) plus_zero) work h)
 
   pub done_call : {result' work' : List Float} → is_refusal a ≡ false → result' ≡ rotated_deltas D m → work' ≡ replicate (length work) plus_zero
-      → (Done, result', work') ≡ rotate_delta limit m D result work
+      → (Ok tt, result', work') ≡ rotate_delta limit m D result work
   unfolding rotate_delta
   done_call h p q =
       rw (← e, after-done a (rotated_deltas D m) result h, after-done a (replicate (length work) plus_zero) work h, p, q, is_done a h)

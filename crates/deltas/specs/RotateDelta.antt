@@ -1,14 +1,13 @@
 -- `rotate_delta_fc2s` and `rotate_delta_fc3s` (document 01, "Third and fourth order"): one definition over m, the number of atoms of a block
 -- of the deltas, 2 or 3. Definitions only.
-use Rattle.std.specs.Prelude.{List, [], ◌∷◌, Bool, ◌||◌, ℕ, zero, suc, ◌+◌, ◌*◌, ◌/◌, ◌%◌, ◌^◌, ℤ, length, get_or, replicate, Float}
+use Rattle.std.specs.Prelude.{Ok, List, [], ◌∷◌, Bool, ◌||◌, ℕ, zero, suc, ◌+◌, ◌*◌, ◌/◌, ◌%◌, ◌^◌, ℤ, length, get_or, replicate, Float}
 use Rattle.std.specs.Float.{nan, binary64}
 use Rattle.std.specs.Float.Ieee.{add, mul}
 use Rattle.lists.specs.Tab.{tab, times}
 use Rattle.blocks.specs.Block.{block}
 use Rattle.lists.specs.Floats.{plus_zero}
 use Rattle.rotations.specs.Rotation.{rotated}
-use Rattle.tables.specs.declared.Answer.{Answer}
-use Rattle.tables.specs.declared.Answer.TheVariants.{Done}
+use Rattle.tables.specs.Answers.{Answer}
 use Rattle.tables.specs.declared.Refusal.TheVariants.{CountAboveLimit, WrongLength, IndexOutOfRange}
 use Rattle.tables.specs.Answers.{after, refuse_if}
 use Rattle.tables.specs.Conditions.{any_above, any_wrong, out_of_range, index_at}
@@ -91,7 +90,7 @@ unfoldable pub judged_deltas : ℕ → ℕ → Deltas → ℕ → ℕ → Answer
 judged_deltas limit m D lengthResult lengthWork =
     refuse_if (delta_counts_above limit D.num_atom D.num_site_sym D.num_disp) CountAboveLimit
     (refuse_if (any_wrong (delta_lengths D (set_length 1 D.num_atom m) (D.num_atom ^ m) (3 ^ m) lengthResult lengthWork)) WrongLength
-    (refuse_if (out_of_range D.num_atom D.rot_map_syms) IndexOutOfRange Done))
+    (refuse_if (out_of_range D.num_atom D.rot_map_syms) IndexOutOfRange (Ok tt)))
 
 -- ---- the calls: the answer, the result and the work slice
 

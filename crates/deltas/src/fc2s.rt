@@ -11,7 +11,7 @@ ghost use Rattle.deltas.specs.RotateDelta.{Deltas, deltas_of, rotated_deltas, ro
 ghost use Rattle.deltas.specs.Rows.{axpy, lead, with_share, share, spread, add_pair};
 ghost use Rattle.deltas.specs.Guard.{Ready, Images};
 
-use tables::Answer;
+use tables::Refusal;
 use tables::atoms::{SuperAtom, perms_at};
 
 // u times x, added to s number by number.
@@ -194,12 +194,12 @@ pub fn rotate_delta_fc2s(
     num_atom: usize,
     num_site_sym: usize,
     num_disp: usize,
-) -> Answer
+) -> Result<(), Refusal>
     ensures { let D = deltas_of delta_fc2s.now inv_u.now site_sym_cart.now
         rot_map_syms.now num_atom num_site_sym num_disp in
         (result, fc3.new, rot_delta.new) ≡ rotate_delta_fc2s D fc3.old rot_delta.old }
 {
-    let a = crate::judge_deltas(
+    crate::judge_deltas(
         tables::limits::LIMIT3,
         2,
         9,
@@ -212,10 +212,7 @@ pub fn rotate_delta_fc2s(
         num_atom,
         num_site_sym,
         num_disp,
-    );
-    if tables::is_refusal(a) {
-        return a;
-    }
+    )?;
     rotate_rows_fc2s(
         fc3,
         delta_fc2s,
@@ -227,5 +224,5 @@ pub fn rotate_delta_fc2s(
         num_disp,
     );
     lists::clear_floats(rot_delta);
-    Answer::Done
+    Ok(())
 }

@@ -11,7 +11,7 @@ ghost use Rattle.deltas.specs.RotateDelta.{Deltas, deltas_of, rotated_deltas, ro
 ghost use Rattle.deltas.specs.Rows.{axpy, lead, with_share, share, spread, add_pair};
 ghost use Rattle.deltas.specs.Guard.{Ready, Images};
 
-use tables::Answer;
+use tables::Refusal;
 use tables::atoms::{SuperAtom, perms_at};
 
 // u times x, added to s number by number.
@@ -221,12 +221,12 @@ pub fn rotate_delta_fc3s(
     num_atom: usize,
     num_site_sym: usize,
     num_disp: usize,
-) -> Answer
+) -> Result<(), Refusal>
     ensures { let D = deltas_of delta_fc3s.now inv_u.now site_sym_cart.now
         rot_map_syms.now num_atom num_site_sym num_disp in
         (result, fc4.new, rot_delta.new) ≡ rotate_delta_fc3s D fc4.old rot_delta.old }
 {
-    let a = crate::judge_deltas(
+    crate::judge_deltas(
         tables::limits::LIMIT4,
         3,
         27,
@@ -239,10 +239,7 @@ pub fn rotate_delta_fc3s(
         num_atom,
         num_site_sym,
         num_disp,
-    );
-    if tables::is_refusal(a) {
-        return a;
-    }
+    )?;
     rotate_rows_fc3s(
         fc4,
         delta_fc3s,
@@ -254,5 +251,5 @@ pub fn rotate_delta_fc3s(
         num_disp,
     );
     lists::clear_floats(rot_delta);
-    Answer::Done
+    Ok(())
 }

@@ -9,7 +9,7 @@ ghost use Rattle.tables.specs.Conditions.{any_wrong};
 ghost use Rattle.deltas.specs.RotateDelta.{Deltas, deltas_of, delta_counts_above, delta_lengths, judged_deltas};
 ghost use Rattle.deltas.specs.Rows.{column as columnOf};
 
-use tables::{Answer, Refusal};
+use tables::Refusal;
 
 // Column n of inv_u, which has three rows of total numbers.
 pub fn column(inv_u: &[f64], n: usize, total: usize) -> [f64; 3]
@@ -90,12 +90,12 @@ pub fn judge_deltas(
     num_atom: usize,
     num_site_sym: usize,
     num_disp: usize,
-) -> Answer
+) -> Result<(), Refusal>
     requires { (limit ≤ 256) × (m ≤ 3) × (w ≡ 3 ^ m) }
     ensures { let D : Deltas = deltas_of deltas.now inv_u.now site_sym_cart.now rot_map_syms.now num_atom num_site_sym num_disp in result ≡ judged_deltas limit m D (length res.now) (length rot_delta.now) }
 {
     if counts_above(limit, num_atom, num_site_sym, num_disp) {
-        return Answer::Refused(Refusal::CountAboveLimit);
+        return Err(Refusal::CountAboveLimit);
     }
     let b = tables::sets::set_blocks(1, num_atom, m);
     if lengths_wrong(
@@ -111,10 +111,10 @@ pub fn judge_deltas(
         num_site_sym,
         num_disp,
     ) {
-        return Answer::Refused(Refusal::WrongLength);
+        return Err(Refusal::WrongLength);
     }
     if !tables::index::all_below(rot_map_syms, num_atom) {
-        return Answer::Refused(Refusal::IndexOutOfRange);
+        return Err(Refusal::IndexOutOfRange);
     }
-    Answer::Done
+    Ok(())
 }

@@ -1,6 +1,6 @@
 -- What the loops see, block by block, are the differences of the definition, one after another, and so is the call's answer. For every rank at once.
 -- Assumes nothing.
-use Rattle.std.specs.Prelude.{◌≡◌, List, [], get_or, Float}
+use Rattle.std.specs.Prelude.{Err, Ok, ◌≡◌, List, [], get_or, Float}
 use Rattle.std.proofs.Math.Path.{sym, ap, ap₂}
 use Rattle.std.proofs.Common.{◌∙◌, subst, mul-le-mul_left, arith}
 use Prim.Native.Nat.{ℕ, ◌+◌, ◌*◌, ◌≤◌, ◌<◌}
@@ -9,7 +9,6 @@ use Rattle.std.specs.Float.{nan}
 use Rattle.std.specs.Float.Ieee.{sub, binary64}
 use Rattle.lists.specs.Tab.{times, times-same, times_nest}
 use Rattle.lists.specs.Digits.{times_power, quotient, remainder, in_row}
-use Rattle.tables.specs.declared.Answer.TheVariants.{Done, Refused as RefusedBy}
 use Rattle.tables.specs.declared.Refusal.{Refusal}
 use Rattle.tables.specs.Shifts.{Shifts, Laws}
 use Rattle.tables.specs.Full.{judged_full}
@@ -22,7 +21,6 @@ use Rattle.audits.specs.Kernel.{there}
 use Rattle.audits.specs.Blocks.{Orders, there_is}
 use Rattle.audits.specs.Guard.{full_tables, whole-shifts}
 use Rattle.reports.specs.declared.seen.Seen.{Seen}
-use Rattle.reports.specs.declared.ReportAnswer.TheVariants.{Given, Refused}
 use Rattle.reports.specs.Loops.{look, look_at, nothing_seen, concluded}
 use Rattle.reports.specs.Seen.{rows-looked, look-same, report_of, after-done, after-refused}
 use Rattle.differences.specs.Difference.{difference, difference_at, order_report, difference_report_compact, difference_report_full}
@@ -92,18 +90,18 @@ module _ (S : Shifts) (L : Laws S) (m : ℕ) (os : List (List ℕ)) (t : List �
 -- ---- the answer
 
 module _ (limit m : ℕ) (os : List (List ℕ)) (set : List Float) where
-  pub compact_given : (T : ShiftTables) → judged_set limit m (length set) [] T ≡ Done → {c : Seen} → c ≡ all_seen (shifts_of T) m os set → Given (concluded c) ≡ difference_report_compact limit m os set T
+  pub compact_given : (T : ShiftTables) → judged_set limit m (length set) [] T ≡ Ok tt → {c : Seen} → c ≡ all_seen (shifts_of T) m os set → Ok (concluded c) ≡ difference_report_compact limit m os set T
   unfolding difference_report_compact
   compact_given T e f = after-done e (report_is (shifts_of T) m os set f)
 
-  pub compact_refused : (T : ShiftTables) (r : Refusal) → judged_set limit m (length set) [] T ≡ RefusedBy r → Refused r ≡ difference_report_compact limit m os set T
+  pub compact_refused : (T : ShiftTables) (r : Refusal) → judged_set limit m (length set) [] T ≡ Err r → Err r ≡ difference_report_compact limit m os set T
   unfolding difference_report_compact
   compact_refused T r e = after-refused (order_report (shifts_of T) m os set) e
 
-  pub full-given : (n : ℕ) → judged_full limit m (length set) [] n ≡ Done → {c : Seen} → c ≡ all_seen (shifts_of (full_tables n)) m os set → Given (concluded c) ≡ difference_report_full limit m os set n
+  pub full-given : (n : ℕ) → judged_full limit m (length set) [] n ≡ Ok tt → {c : Seen} → c ≡ all_seen (shifts_of (full_tables n)) m os set → Ok (concluded c) ≡ difference_report_full limit m os set n
   unfolding difference_report_full
   full-given n e f = after-done e (report_is (full_shifts n) m os set (f ∙ ap (λ S. all_seen S m os set) (whole-shifts n)))
 
-  pub full-refused : (n : ℕ) (r : Refusal) → judged_full limit m (length set) [] n ≡ RefusedBy r → Refused r ≡ difference_report_full limit m os set n
+  pub full-refused : (n : ℕ) (r : Refusal) → judged_full limit m (length set) [] n ≡ Err r → Err r ≡ difference_report_full limit m os set n
   unfolding difference_report_full
   full-refused n r e = after-refused (order_report (full_shifts n) m os set) e

@@ -1,6 +1,6 @@
 -- What a difference report says of a set that is alike: still, or no number where a number is NaN or an infinity. So what a symmetrizer leaves is still
 -- where it is finite: `SameReadOuts` is what crate `laws` proves of it. Assumes nothing.
-use Rattle.std.specs.Prelude.{◌≡◌, refl, Bool, true, false, ◌&&◌, ◌⊎◌, ℕ, zero, suc, ◌+◌, ◌*◌, ◌-◌, ◌/◌, ◌%◌, ◌^◌, ◌<◌, ℤ, length, get_or, Float}
+use Rattle.std.specs.Prelude.{None, Ok, ◌≡◌, refl, Bool, true, false, ◌&&◌, ◌⊎◌, ℕ, zero, suc, ◌+◌, ◌*◌, ◌-◌, ◌/◌, ◌%◌, ◌^◌, ◌<◌, ℤ, length, get_or, Float}
 use Rattle.std.proofs.Common.{sym, ◌∙◌, subst, inl, inr, mul-pos, zero-lt-suc, le_refl, div-lt_iff_lt-mul, mod-lt, arith, pow_pos, eq-eqb, le-ltb}
 use Rattle.std.proofs.Math.Path.{ap}
 use Rattle.std.proofs.lemmas.Bool.{false≢true}
@@ -13,7 +13,6 @@ use Rattle.lists.specs.Digits.{pos_of}
 use Rattle.tables.specs.Shifts.{Shifts, Laws}
 use Rattle.places.specs.Places.{legs_at, place, size, opened_legs, place-place}
 use Rattle.places.specs.Permutations.{Group}
-use Rattle.audits.specs.declared.Audit.TheVariants.{Alike}
 use Rattle.audits.specs.Audit.{reads, audited}
 use Rattle.audits.specs.Demand.{Doubles, SameReadOuts, index_in, own-number}
 use Rattle.audits.proofs.DemandLaws.{demanded}
@@ -109,5 +108,5 @@ module _ (S : Shifts) (L : Laws S) (m : ℕ) (os : List (List ℕ)) (G : Group m
       ap is_zero e ∙ finite_zero (get_or set (r / p) nan) (f (r / p) hq))
 
   -- what an audit calls alike
-  pub alike-told : Doubles set → audited S m os set ≡ Alike → (order_report S m os set ≡ report_at Still 0) ⊎ ((order_report S m os set).deviation ≡ NoNumber)
+  pub alike-told : Doubles set → audited S m os set ≡ Ok None → (order_report S m os set ≡ report_at Still 0) ⊎ ((order_report S m os set).deviation ≡ NoNumber)
   alike-told d e = same-told (demanded S L m os G set d e)

@@ -13,9 +13,9 @@ use fc4::group::group_blocks;
 use places::row_of;
 use positions::addresses;
 use reports::seen::{Seen, start};
-use reports::{ReportAnswer, conclude};
+use reports::{Report, conclude};
 use shifts::judge_set;
-use tables::Answer;
+use tables::Refusal;
 use tables::limits::LIMIT4;
 use tables::sets::judge_full;
 
@@ -54,11 +54,11 @@ pub fn difference_report_compact_fc4(
     n_satom: usize,
     n_patom: usize,
     num_trans: usize,
-) -> ReportAnswer
+) -> Result<Report, Refusal>
     ensures { let T = shift_tables p2s.now s2pp.now nsym_list.now perms.now n_satom n_patom num_trans in
         result ≡ difference_report_compact limit4 3 perms4 fc.now T }
 {
-    let a = judge_set(
+    judge_set(
         LIMIT4,
         3,
         fc.len(),
@@ -69,14 +69,9 @@ pub fn difference_report_compact_fc4(
         n_satom,
         n_patom,
         num_trans,
-    );
-    match a {
-        Answer::Refused(r) => ReportAnswer::Refused(r),
-        Answer::Done => {
-            let seen = scan(fc, p2s, s2pp, nsym_list, perms, n_satom, n_patom, num_trans);
-            ReportAnswer::Given(conclude(seen))
-        }
-    }
+    )?;
+    let seen = scan(fc, p2s, s2pp, nsym_list, perms, n_satom, n_patom, num_trans);
+    Ok(conclude(seen))
 }
 
 // A full set is a compact set in which every atom is its own representative.
@@ -101,15 +96,10 @@ fn scan_full(fc: &[f64], n: usize) -> Seen
 }
 
 // The report of a full set.
-pub fn difference_report_fc4(fc: &[f64], num_atom: usize) -> ReportAnswer
+pub fn difference_report_fc4(fc: &[f64], num_atom: usize) -> Result<Report, Refusal>
     ensures { result ≡ difference_report_full limit4 3 perms4 fc.now num_atom }
 {
-    let a = judge_full(LIMIT4, 3, fc.len(), num_atom);
-    match a {
-        Answer::Refused(r) => ReportAnswer::Refused(r),
-        Answer::Done => {
-            let seen = scan_full(fc, num_atom);
-            ReportAnswer::Given(conclude(seen))
-        }
-    }
+    judge_full(LIMIT4, 3, fc.len(), num_atom)?;
+    let seen = scan_full(fc, num_atom);
+    Ok(conclude(seen))
 }

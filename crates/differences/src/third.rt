@@ -12,9 +12,9 @@ use audits::guard::counted;
 use audits::third::{group_blocks, positions};
 use places::row_of;
 use reports::seen::{Seen, start};
-use reports::{ReportAnswer, conclude};
+use reports::{Report, conclude};
 use shifts::judge_set;
-use tables::Answer;
+use tables::Refusal;
 use tables::limits::LIMIT3;
 use tables::sets::judge_full;
 
@@ -53,11 +53,11 @@ pub fn difference_report_compact_fc3(
     n_satom: usize,
     n_patom: usize,
     num_trans: usize,
-) -> ReportAnswer
+) -> Result<Report, Refusal>
     ensures { let T = shift_tables p2s.now s2pp.now nsym_list.now perms.now n_satom n_patom num_trans in
         result ≡ difference_report_compact limit3 2 perms3 fc.now T }
 {
-    let a = judge_set(
+    judge_set(
         LIMIT3,
         2,
         fc.len(),
@@ -68,14 +68,9 @@ pub fn difference_report_compact_fc3(
         n_satom,
         n_patom,
         num_trans,
-    );
-    match a {
-        Answer::Refused(r) => ReportAnswer::Refused(r),
-        Answer::Done => {
-            let seen = scan(fc, p2s, s2pp, nsym_list, perms, n_satom, n_patom, num_trans);
-            ReportAnswer::Given(conclude(seen))
-        }
-    }
+    )?;
+    let seen = scan(fc, p2s, s2pp, nsym_list, perms, n_satom, n_patom, num_trans);
+    Ok(conclude(seen))
 }
 
 // A full set is a compact set in which every atom is its own representative.
@@ -100,15 +95,10 @@ fn scan_full(fc: &[f64], n: usize) -> Seen
 }
 
 // The report of a full set.
-pub fn difference_report_fc3(fc: &[f64], num_atom: usize) -> ReportAnswer
+pub fn difference_report_fc3(fc: &[f64], num_atom: usize) -> Result<Report, Refusal>
     ensures { result ≡ difference_report_full limit3 2 perms3 fc.now num_atom }
 {
-    let a = judge_full(LIMIT3, 2, fc.len(), num_atom);
-    match a {
-        Answer::Refused(r) => ReportAnswer::Refused(r),
-        Answer::Done => {
-            let seen = scan_full(fc, num_atom);
-            ReportAnswer::Given(conclude(seen))
-        }
-    }
+    judge_full(LIMIT3, 2, fc.len(), num_atom)?;
+    let seen = scan_full(fc, num_atom);
+    Ok(conclude(seen))
 }

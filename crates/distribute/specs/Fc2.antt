@@ -1,13 +1,12 @@
 -- `distribute_fc2` (document 01, "Second order"). Definitions only.
-use Rattle.std.specs.Prelude.{List, [], ◌∷◌, Bool, cond, not, ◌&&◌, ◌||◌, ℕ, zero, suc, ◌+◌, ◌*◌, eqb, ℤ, pos, length, replicate, Float}
+use Rattle.std.specs.Prelude.{Ok, List, [], ◌∷◌, Bool, cond, not, ◌&&◌, ◌||◌, ℕ, zero, suc, ◌+◌, ◌*◌, eqb, ℤ, pos, length, replicate, Float}
 use Rattle.lists.specs.Tab.{times}
 use Rattle.lists.specs.Tests.{some}
 use Rattle.blocks.specs.Block.{block, put_block}
 use Rattle.lines.specs.Sums3x3.{added}
 use Rattle.blocks.specs.Block9.{transposed9}
 use Rattle.rotations.specs.Rotation.{rotated}
-use Rattle.tables.specs.declared.Answer.{Answer}
-use Rattle.tables.specs.declared.Answer.TheVariants.{Done}
+use Rattle.tables.specs.Answers.{Answer}
 use Rattle.tables.specs.declared.Refusal.TheVariants.{CountAboveLimit, WrongLength, IndexOutOfRange, BadRepresentative}
 use Rattle.tables.specs.Answers.{after, refuse_if}
 use Rattle.tables.specs.Conditions.{any_above, any_wrong, out_of_range, index_at}
@@ -109,7 +108,7 @@ judged_distribute_fc2 D num_first num_rot lengthFc lengthWork =
     refuse_if (counts_above_fc2 D.num_pos num_first num_rot (length D.atom_list)) CountAboveLimit
     (refuse_if (any_wrong (lengths_fc2 D num_first num_rot lengthFc lengthWork)) WrongLength
     (refuse_if (entries_out D.atom_list D.fc_indices D.permutations D.map_atoms D.map_syms D.num_pos num_first num_rot) IndexOutOfRange
-    (refuse_if (bad_representative D.atom_list D.map_atoms) BadRepresentative Done)))
+    (refuse_if (bad_representative D.atom_list D.map_atoms) BadRepresentative (Ok tt))))
 
 -- ---- the call: the answer, the set and the work slice
 

@@ -1,5 +1,5 @@
 -- What is known of a call of `distribute_fc2` that is not refused, and the laws of its loops. Assumes nothing.
-use Rattle.std.specs.Prelude.{◌≡◌, refl, Bool, true, false, cond, not, List, [], ◌∷◌, ◌⊎◌, ℕ, zero, suc, ◌+◌, ◌*◌, ◌<◌, ◌≤◌, eqb, ℤ, length, set, replicate, Float}
+use Rattle.std.specs.Prelude.{Ok, ◌≡◌, refl, Bool, true, false, cond, not, List, [], ◌∷◌, ◌⊎◌, ℕ, zero, suc, ◌+◌, ◌*◌, ◌<◌, ◌≤◌, eqb, ℤ, length, set, replicate, Float}
 use Rattle.std.proofs.Math.Path.{sym, ap}
 use Rattle.std.proofs.Common.{◌∙◌, ⊎_elim, mul-le-mul, mul-le-mul_right, not-suc-le-zero, add-one, arith, get_or-set_same, get_or-set_other, eqb-true, eq-eqb, ne_eqb}
 use Rattle.std.proofs.Math.IntN.{pos}
@@ -8,9 +8,8 @@ use Rattle.std.proofs.lemmas.Bool.{not-false}
 use Rattle.lists.specs.Digits.{in_row}
 use Rattle.lists.specs.Cases.{eq_or_ne}
 use Rattle.lists.specs.Tests.{some, some_at, some_of, and_snd, refuted, not-both}
-use Rattle.tables.specs.declared.Answer.TheVariants.{Done}
 use Rattle.tables.specs.declared.Refusal.TheVariants.{CountAboveLimit, WrongLength, IndexOutOfRange, BadRepresentative}
-use Rattle.tables.specs.declared.Answer.{Answer}
+use Rattle.tables.specs.Answers.{Answer}
 use Rattle.tables.specs.Answers.{is_refusal, refuse_if, passed, is_done, after_refusal, after-done}
 use Rattle.tables.specs.Conditions.{any_above, any_wrong, out_of_range, nat, index_at, Readable, IndexTable, read, or_false, not_above, not-wrong}
 use Rattle.tables.specs.Lengths.{set_length2}
@@ -55,7 +54,7 @@ represented_of list map e i h =
     let (k, l, q) = some_at (length list) (λ k. eqb (index_at list k) d) (and_snd (eqb (index_at map d) d) _ (not-false _ n)) in
     (k, l, eqb-true (index_at list k) d q)
 
-pub ready : (D : Distribution) (num_first num_rot lengthFc lengthWork : ℕ) → judged_distribute_fc2 D num_first num_rot lengthFc lengthWork ≡ Done
+pub ready : (D : Distribution) (num_first num_rot lengthFc lengthWork : ℕ) → judged_distribute_fc2 D num_first num_rot lengthFc lengthWork ≡ Ok tt
     → Ready D lengthFc × (lengthWork ≡ D.num_pos)
 unfolding judged_distribute_fc2
 ready D num_first num_rot lengthFc lengthWork e =
@@ -244,7 +243,7 @@ module _ (D : Distribution) (num_first num_rot lengthFc lengthWork : ℕ) where
   -- the four tests and the answer
   pub judged_is : {q1 q2 q3 q5 : Bool} → q1 ≡ counts_above_fc2 D.num_pos num_first num_rot (length D.atom_list)
       → q2 ≡ any_wrong (lengths_fc2 D num_first num_rot lengthFc lengthWork) → q3 ≡ out → q5 ≡ bad_representative D.atom_list D.map_atoms
-      → refuse_if q1 CountAboveLimit (refuse_if q2 WrongLength (refuse_if q3 IndexOutOfRange (refuse_if q5 BadRepresentative Done)))
+      → refuse_if q1 CountAboveLimit (refuse_if q2 WrongLength (refuse_if q3 IndexOutOfRange (refuse_if q5 BadRepresentative (Ok tt))))
       ≡ judged_distribute_fc2 D num_first num_rot lengthFc lengthWork
   unfolding judged_distribute_fc2
   judged_is e1 e2 e3 e5 = rw (e1, e2, e3, e5)
@@ -258,7 +257,7 @@ module _ (D : Distribution) (num_first num_rot : ℕ) (fc : List Float) (work : 
       rw (← e, after_refusal a (distributed_fc2 D fc) fc h, after_refusal a (replicate D.num_pos (pos 0)) work h)
 
   pub done_call : {fc' : List Float} {work' : List ℤ} → is_refusal a ≡ false → fc' ≡ distributed_fc2 D fc → work' ≡ replicate D.num_pos (pos 0)
-      → (Done, fc', work') ≡ distribute_fc2 D num_first num_rot fc work
+      → (Ok tt, fc', work') ≡ distribute_fc2 D num_first num_rot fc work
   unfolding distribute_fc2
   done_call h p q =
       rw (← e, after-done a (distributed_fc2 D fc) fc h, after-done a (replicate D.num_pos (pos 0)) work h, p, q, is_done a h)

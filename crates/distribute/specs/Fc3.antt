@@ -1,6 +1,6 @@
 -- `distribute_fc3` (document 01, "Third and fourth order"). Definitions only.
 use Rattle.std.specs.Prelude.{List, ℕ, ℤ, Float}
-use Rattle.tables.specs.declared.Answer.{Answer}
+use Rattle.tables.specs.Answers.{Answer}
 use Rattle.tables.specs.Limits.{limit3}
 use Rattle.distribute.specs.Slab.{distribute_slab}
 

@@ -1,13 +1,12 @@
 -- One slab of a set filled from another (`distribute_fc3`, `distribute_fc4`), for every order at once. Definitions only.
 -- A block is numbered by its slab and its other k atoms of n, the slab slowest; it has 3 ^ (k + 1) numbers.
-use Rattle.std.specs.Prelude.{List, [], ◌∷◌, map, cond, ℕ, zero, suc, ◌+◌, ◌*◌, ◌/◌, ◌%◌, ◌^◌, eqb, ℤ, length, get_or, Float}
+use Rattle.std.specs.Prelude.{Ok, List, [], ◌∷◌, map, cond, ℕ, zero, suc, ◌+◌, ◌*◌, ◌/◌, ◌%◌, ◌^◌, eqb, ℤ, length, get_or, Float}
 use Rattle.std.specs.Float.{nan}
 use Rattle.lists.specs.Tab.{tab, times}
 use Rattle.lists.specs.Digits.{horner, rest, digits}
 use Rattle.blocks.specs.Block.{block, put_block}
 use Rattle.rotations.specs.Rotation.{rotated}
-use Rattle.tables.specs.declared.Answer.{Answer}
-use Rattle.tables.specs.declared.Answer.TheVariants.{Done}
+use Rattle.tables.specs.Answers.{Answer}
 use Rattle.tables.specs.declared.Refusal.TheVariants.{CountAboveLimit, WrongLength, IndexOutOfRange, BadSlab}
 use Rattle.tables.specs.Answers.{after, refuse_if}
 use Rattle.tables.specs.Conditions.{any_above, any_wrong, out_of_range, bad_slab, index_at}
@@ -33,7 +32,7 @@ judged_slabs limit k lengthFc mapping n lengthRotation num_first target source =
     refuse_if (any_above limit (n ∷ num_first ∷ [])) CountAboveLimit
     (refuse_if (any_wrong ((lengthFc, set_length num_first n k) ∷ (length mapping, n) ∷ (lengthRotation, 9) ∷ [])) WrongLength
     (refuse_if (out_of_range n mapping) IndexOutOfRange
-    (refuse_if (bad_slab num_first target source) BadSlab Done)))
+    (refuse_if (bad_slab num_first target source) BadSlab (Ok tt))))
 
 -- the call: the answer and the set
 unfoldable pub distribute_slab : ℕ → ℕ → List Float → ℕ → ℕ → List ℤ → ℕ → List Float → ℕ → Answer × List Float

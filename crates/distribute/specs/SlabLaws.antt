@@ -1,5 +1,5 @@
 -- The loops fill the target slab. Assumes nothing.
-use Rattle.std.specs.Prelude.{◌≡◌, true, false, ◌⊎◌, eqb, ℤ}
+use Rattle.std.specs.Prelude.{Ok, ◌≡◌, true, false, ◌⊎◌, eqb, ℤ}
 use Rattle.std.proofs.Math.Path.{refl, sym, ap, subst}
 use Rattle.std.proofs.Common.{◌∙◌, inl, inr, div-lt_iff_lt-mul, div-add-mod', mod-lt, add-zero, zero-add, add_assoc, add-one, length-append, ext_get_or, eq-eqb, ne_eqb}
 use Rattle.std.proofs.Math.Bool.{cond}
@@ -16,8 +16,7 @@ use Rattle.lists.specs.Elements.{Below}
 use Rattle.lists.specs.Digits.{horner, times_power, rest, digits, rest_horner, digits-horner, horner-below, room-mul, room-suc, rest_div}
 use Rattle.blocks.specs.Block.{block, put_block, get_or-block, length-block, length-put_block, put-inside, put-outside, block_of_lem, inside}
 use Rattle.rotations.specs.Rotation.{rotated}
-use Rattle.tables.specs.declared.Answer.{Answer}
-use Rattle.tables.specs.declared.Answer.TheVariants.{Done}
+use Rattle.tables.specs.Answers.{Answer}
 use Rattle.tables.specs.Answers.{is_refusal, passed, is_done, after_refusal, after-done}
 use Rattle.tables.specs.Conditions.{index_at, IndexTable, not_above, not-wrong, not_bad_slab}
 use Rattle.tables.specs.Lengths.{set_length}
@@ -275,7 +274,7 @@ pub record Ready (limit k lengthFc : ℕ) (mapping : List ℤ) (n lengthRotation
   pub apart : target ≡ source → ⊥
 
 pub ready : (limit k lengthFc : ℕ) (mapping : List ℤ) (n lengthRotation F target source : ℕ)
-    → judged_slabs limit k lengthFc mapping n lengthRotation F target source ≡ Done → Ready limit k lengthFc mapping n lengthRotation F target source
+    → judged_slabs limit k lengthFc mapping n lengthRotation F target source ≡ Ok tt → Ready limit k lengthFc mapping n lengthRotation F target source
 unfolding judged_slabs
 ready limit k lengthFc mapping n lengthRotation F target source e =
     let (q1, e1) = passed _ _ _ e in
@@ -303,6 +302,6 @@ module _ (limit k : ℕ) (fc : List Float) (target source : ℕ) (mapping : List
   refused h = rw (← e, after_refusal a (distributed mapping rotation n k target source fc) fc h)
 
   pub done_call : {fc' : List Float} → is_refusal a ≡ false → fc' ≡ distributed mapping rotation n k target source fc
-      → (Done, fc') ≡ distribute_slab limit k fc target source mapping n rotation F
+      → (Ok tt, fc') ≡ distribute_slab limit k fc target source mapping n rotation F
   unfolding distribute_slab
   done_call h p = rw (← e, after-done a (distributed mapping rotation n k target source fc) fc h, p, is_done a h)

@@ -7,7 +7,7 @@ ghost use Rattle.distribute.specs.Fc2Laws.{Rows, Ready, Placed};
 
 use lines::nines::added;
 use tables::atoms::{SuperAtom, perms_at};
-use tables::{Answer, Refusal};
+use tables::Refusal;
 
 // Adds the rotated source block to the target block: c has the rotation's coefficients. The source is read first.
 fn add_block(fc2: &mut [f64], c: &[f64; 81], target: usize, source: usize)
@@ -268,11 +268,11 @@ fn judge_distribute_fc2(
     num_pos: usize,
     num_first: usize,
     num_rot: usize,
-) -> Answer
+) -> Result<(), Refusal>
     ensures { let D : Distribution = distribution atom_list.now fc_indices_of_atom_list.now r_carts.now permutations.now map_atoms.now map_syms.now num_pos in result ≡ judged_distribute_fc2 D num_first num_rot (length fc2.now) (length atom_list_reverse.now) }
 {
     if counts_above(num_pos, num_first, num_rot, atom_list.len()) {
-        return Answer::Refused(Refusal::CountAboveLimit);
+        return Err(Refusal::CountAboveLimit);
     }
     if lengths_wrong(
         fc2,
@@ -287,7 +287,7 @@ fn judge_distribute_fc2(
         num_first,
         num_rot,
     ) {
-        return Answer::Refused(Refusal::WrongLength);
+        return Err(Refusal::WrongLength);
     }
     if entries_out(
         atom_list,
@@ -299,12 +299,12 @@ fn judge_distribute_fc2(
         num_first,
         num_rot,
     ) {
-        return Answer::Refused(Refusal::IndexOutOfRange);
+        return Err(Refusal::IndexOutOfRange);
     }
     if bad_representative(atom_list, map_atoms) {
-        return Answer::Refused(Refusal::BadRepresentative);
+        return Err(Refusal::BadRepresentative);
     }
-    Answer::Done
+    Ok(())
 }
 
 // Fills the rows of the listed atoms from those of their representatives: to each block the rotated block is added. fc2 has num_first rows
@@ -321,12 +321,12 @@ pub fn distribute_fc2(
     num_pos: usize,
     num_first: usize,
     num_rot: usize,
-) -> Answer
+) -> Result<(), Refusal>
     ensures { let D = distribution atom_list.now fc_indices_of_atom_list.now r_carts.now
         permutations.now map_atoms.now map_syms.now num_pos in
         (result, fc2.new, atom_list_reverse.new) ≡ distribute_fc2 D num_first num_rot fc2.old atom_list_reverse.old }
 {
-    let a = judge_distribute_fc2(
+    judge_distribute_fc2(
         fc2,
         atom_list,
         fc_indices_of_atom_list,
@@ -338,10 +338,7 @@ pub fn distribute_fc2(
         num_pos,
         num_first,
         num_rot,
-    );
-    if tables::is_refusal(a) {
-        return a;
-    }
+    )?;
     place_atoms(atom_list_reverse, atom_list);
     distribute_atoms(
         fc2,
@@ -355,5 +352,5 @@ pub fn distribute_fc2(
         num_pos,
     );
     lists::clear_ints(atom_list_reverse);
-    Answer::Done
+    Ok(())
 }

@@ -6,7 +6,7 @@ ghost use Rattle.distribute.specs.Slab.{move_block, move};
 ghost use Rattle.blocks.specs.Inside.{BlocksIn};
 ghost use Rattle.distribute.specs.Fc3.{distribute_fc3};
 
-use tables::Answer;
+use tables::Refusal;
 
 // Block target is block source, rotated: c has the rotation's coefficients.
 fn fill_block(fc3: &mut [f64], c: &[f64; 729], target: usize, source: usize)
@@ -72,11 +72,11 @@ pub fn distribute_fc3(
     num_atom: usize,
     rot_cart: &[f64],
     num_first: usize,
-) -> Answer
+) -> Result<(), Refusal>
     ensures { (result, fc3.new)
         ≡ distribute_fc3 fc3.old target source atom_mapping.now num_atom rot_cart.now num_first }
 {
-    let a = crate::slabs::judge_slabs(
+    crate::slabs::judge_slabs(
         tables::limits::LIMIT3,
         2,
         fc3.len(),
@@ -86,11 +86,8 @@ pub fn distribute_fc3(
         num_first,
         target,
         source,
-    );
-    if tables::is_refusal(a) {
-        return a;
-    }
+    )?;
     let c = rotations::coefficients3(blocks::read9(rot_cart, 0));
     fill_slab(fc3, &c, atom_mapping, num_atom, target, source);
-    Answer::Done
+    Ok(())
 }

@@ -6,7 +6,7 @@ ghost use Rattle.distribute.specs.Slab.{move_block, move};
 ghost use Rattle.blocks.specs.Inside.{BlocksIn};
 ghost use Rattle.distribute.specs.Fc4.{distribute_fc4};
 
-use tables::Answer;
+use tables::Refusal;
 
 // Block target is block source, rotated: c has the rotation's coefficients.
 fn fill_block(fc4: &mut [f64], c: &[f64; 6561], target: usize, source: usize)
@@ -95,11 +95,11 @@ pub fn distribute_fc4(
     num_atom: usize,
     rot_cart: &[f64],
     num_first: usize,
-) -> Answer
+) -> Result<(), Refusal>
     ensures { (result, fc4.new)
         ≡ distribute_fc4 fc4.old target source atom_mapping.now num_atom rot_cart.now num_first }
 {
-    let a = crate::slabs::judge_slabs(
+    crate::slabs::judge_slabs(
         tables::limits::LIMIT4,
         3,
         fc4.len(),
@@ -109,11 +109,8 @@ pub fn distribute_fc4(
         num_first,
         target,
         source,
-    );
-    if tables::is_refusal(a) {
-        return a;
-    }
+    )?;
     let c = rotations::coefficients4(blocks::read9(rot_cart, 0));
     fill_slab(fc4, &c, atom_mapping, num_atom, target, source);
-    Answer::Done
+    Ok(())
 }

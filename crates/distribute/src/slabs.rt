@@ -2,7 +2,7 @@
 ghost use Rattle.std.specs.Prelude.{◌≡◌, ◌≤◌};
 ghost use Rattle.distribute.specs.Slab.{judged_slabs};
 
-use tables::{Answer, Refusal};
+use tables::Refusal;
 
 // The first of refusals 1, 2, 3 and 4 that applies, or done, for a set of rank k + 1.
 pub fn judge_slabs(
@@ -15,36 +15,36 @@ pub fn judge_slabs(
     num_first: usize,
     target: usize,
     source: usize,
-) -> Answer
+) -> Result<(), Refusal>
     requires { (limit ≤ 1024) × (k ≤ 3) }
     ensures { result ≡ judged_slabs limit k set_len atom_mapping.now num_atom rotation_length num_first target source }
 {
     if num_atom > limit {
-        return Answer::Refused(Refusal::CountAboveLimit);
+        return Err(Refusal::CountAboveLimit);
     }
     if num_first > limit {
-        return Answer::Refused(Refusal::CountAboveLimit);
+        return Err(Refusal::CountAboveLimit);
     }
     if set_len != tables::sets::set_length(num_first, num_atom, k) {
-        return Answer::Refused(Refusal::WrongLength);
+        return Err(Refusal::WrongLength);
     }
     if atom_mapping.len() != num_atom {
-        return Answer::Refused(Refusal::WrongLength);
+        return Err(Refusal::WrongLength);
     }
     if rotation_length != 9 {
-        return Answer::Refused(Refusal::WrongLength);
+        return Err(Refusal::WrongLength);
     }
     if !tables::index::all_below(atom_mapping, num_atom) {
-        return Answer::Refused(Refusal::IndexOutOfRange);
+        return Err(Refusal::IndexOutOfRange);
     }
     if target >= num_first {
-        return Answer::Refused(Refusal::BadSlab);
+        return Err(Refusal::BadSlab);
     }
     if source >= num_first {
-        return Answer::Refused(Refusal::BadSlab);
+        return Err(Refusal::BadSlab);
     }
     if target == source {
-        return Answer::Refused(Refusal::BadSlab);
+        return Err(Refusal::BadSlab);
     }
-    Answer::Done
+    Ok(())
 }

@@ -1,5 +1,5 @@
 -- The sums that the loops make are those over each leg, one after another, and so is the call's answer. Assumes nothing.
-use Rattle.std.specs.Prelude.{◌≡◌, List, [], ℕ, ◌+◌, ◌*◌, ◌/◌, ◌%◌, ◌≤◌, ◌<◌, length, Float}
+use Rattle.std.specs.Prelude.{Err, Ok, ◌≡◌, List, [], ℕ, ◌+◌, ◌*◌, ◌/◌, ◌%◌, ◌≤◌, ◌<◌, length, Float}
 use Rattle.std.proofs.Math.Path.{refl, sym, ap, ap₂, subst}
 use Rattle.std.proofs.Common.{◌∙◌, div-lt_iff_lt-mul, lit<}
 use Rattle.std.proofs.Math.Nat.{div-add-mod', mod-lt, mul-add-mod_self_right}
@@ -10,7 +10,6 @@ use Rattle.std.specs.Float.Ieee.{add, binary64}
 use Rattle.lists.specs.Tab.{times, times-same, times_nest}
 use Rattle.lists.specs.Tests.{every, some}
 use Rattle.lists.specs.Digits.{horner, quotient, remainder, pos_of}
-use Rattle.tables.specs.declared.Answer.TheVariants.{Done, Refused as RefusedBy}
 use Rattle.tables.specs.declared.Refusal.{Refusal}
 use Rattle.tables.specs.Lengths.{set_length3}
 use Rattle.tables.specs.Full.{judged_full, done_full}
@@ -30,7 +29,6 @@ use Rattle.reports.specs.Loops.{look, nothing_seen, concluded_by}
 use Rattle.reports.specs.Seen.{State, all_seen_lem, reported}
 use Rattle.drift.specs.Laws.{line_of, by-sums}
 use Rattle.drift.specs.declared.third.LegReport.{LegReport}
-use Rattle.drift.specs.declared.third.LegAnswer.TheVariants.{Report, Refused}
 use Rattle.drift.specs.ThirdReport.{entry3, leg_sum, leg_of, sums3, sum_at3, report_at3, still_report3, reported_after3, drift_report_fc3}
 use Rattle.drift.specs.Lines.{first_nine, look_leg, scanned3, Apart}
 
@@ -238,30 +236,30 @@ module _ (xs : List Float) (n : ℕ) where
   abbrev report : LegReport
   report = placed_by still_report3 (report_at3 n) (sums3 n) (sum_at3 n xs) (deviation_in (sums3 n) (sum_at3 n xs))
 
-  pub few-atoms : judged_full limit3 2 (length xs) [] n ≡ Done → n ≤ 256
+  pub few-atoms : judged_full limit3 2 (length xs) [] n ≡ Ok tt → n ≤ 256
   few-atoms e = (done_full limit3 2 (length xs) [] n e).0
 
-  pub long-set : judged_full limit3 2 (length xs) [] n ≡ Done → length xs ≡ n * n * n * 27
+  pub long-set : judged_full limit3 2 (length xs) [] n ≡ Ok tt → length xs ≡ n * n * n * 27
   long-set e = (done_full limit3 2 (length xs) [] n e).1 ∙ set_length3 n n
 
-  pub report-refused : (a : Refusal) → judged_full limit3 2 (length xs) [] n ≡ RefusedBy a → Refused a ≡ drift_report_fc3 xs n
+  pub report-refused : (a : Refusal) → judged_full limit3 2 (length xs) [] n ≡ Err a → Err a ≡ drift_report_fc3 xs n
   unfolding drift_report_fc3
   report-refused a e = sym (ap (λ g. reported_after3 g report) e)
 
-  pub report-done : judged_full limit3 2 (length xs) [] n ≡ Done → (c : Seen) → c ≡ scanned3 n xs → Report (concluded_by still_report3 (report_at3 n) c) ≡ drift_report_fc3 xs n
+  pub report-done : judged_full limit3 2 (length xs) [] n ≡ Ok tt → (c : Seen) → c ≡ scanned3 n xs → Ok (concluded_by still_report3 (report_at3 n) c) ≡ drift_report_fc3 xs n
   unfolding drift_report_fc3
   report-done e c g =
       let st : State (sum_at3 n xs) (sums3 n) c = subst (State (sum_at3 n xs) (sums3 n)) (sym (g ∙ scanned-sums n xs)) (all_seen_lem (sum_at3 n xs) (sums3 n)) in
-      ap Report (reported (sums3 n) (sum_at3 n xs) c st still_report3 (report_at3 n)) ∙ sym (ap (λ h. reported_after3 h report) e)
+      ap Ok (reported (sums3 n) (sum_at3 n xs) c st still_report3 (report_at3 n)) ∙ sym (ap (λ h. reported_after3 h report) e)
 
 -- no atoms, no sums
 none-still : (S : ℕ → Float) → deviation_in 0 S ≡ Still
 unfolding deviation_in some every
 none-still S = refl
 
-pub report-none : (xs : List Float) (n : ℕ) → n ≡ 0 → judged_full limit3 2 (length xs) [] n ≡ Done → Report still_report3 ≡ drift_report_fc3 xs n
+pub report-none : (xs : List Float) (n : ℕ) → n ≡ 0 → judged_full limit3 2 (length xs) [] n ≡ Ok tt → Ok still_report3 ≡ drift_report_fc3 xs n
 unfolding drift_report_fc3
 report-none xs n z e =
     let c : sums3 n ≡ 0 = ap sums3 z in
     let d : deviation_in (sums3 n) (sum_at3 n xs) ≡ Still = ap (λ m. deviation_in m (sum_at3 n xs)) c ∙ none-still (sum_at3 n xs) in
-    ap (λ d. Report (placed_by still_report3 (report_at3 n) (sums3 n) (sum_at3 n xs) d)) (sym d) ∙ sym (ap (λ h. reported_after3 h (report xs n)) e)
+    ap (λ d. Ok (placed_by still_report3 (report_at3 n) (sums3 n) (sum_at3 n xs) d)) (sym d) ∙ sym (ap (λ h. reported_after3 h (report xs n)) e)

@@ -1,5 +1,5 @@
 -- The sums that the loops make, block by stored block, are those of the full set, and so is the report. Assumes nothing.
-use Rattle.std.specs.Prelude.{◌≡◌, refl, ℕ, zero, suc, ◌+◌, ◌*◌, ◌/◌, ◌%◌, ◌≤◌, ◌<◌, ℤ, get_or, Float}
+use Rattle.std.specs.Prelude.{Err, Ok, ◌≡◌, refl, ℕ, zero, suc, ◌+◌, ◌*◌, ◌/◌, ◌%◌, ◌≤◌, ◌<◌, ℤ, get_or, Float}
 use Rattle.std.proofs.Math.Path.{sym, ap, fun_ext}
 use Rattle.std.proofs.Common.{◌∙◌, subst, div-add-mod', lit<, lit≤}
 use mathlib.Core.List.{List, [], ◌∷◌}
@@ -10,7 +10,6 @@ use Rattle.lists.specs.Tab.{times, times-same, times-add, times_nest}
 use Rattle.lists.specs.Elements.{All}
 use Rattle.lists.specs.Digits.{times_power}
 use Rattle.blocks.specs.Block.{block}
-use Rattle.tables.specs.declared.Answer.TheVariants.{Done, Refused as RefusedBy}
 use Rattle.tables.specs.declared.Refusal.{Refusal}
 use Rattle.tables.specs.Shifts.{Shifts}
 use Rattle.tables.specs.Lengths.{set_length}
@@ -27,7 +26,6 @@ use Rattle.lines.specs.Sums3x3.{Sums, zeros, sum_in, more, sum_in_lem}
 use Rattle.lines.specs.DriftLaws.{zeros_in}
 use Rattle.fc2.specs.Full.{full_entry, row_sum, column_sum}
 use Rattle.reports.specs.declared.seen.Seen.{Seen}
-use Rattle.drift.specs.declared.DriftAnswer.TheVariants.{Report, Refused}
 use Rattle.drift.specs.Drift.{sum_at, sum_count, drift_of, report_at, still_report, placed_report, reported_after, drift_report}
 use Rattle.drift.specs.Loops.{look_line, concluded}
 use Rattle.reports.specs.Loops.{look, nothing_seen}
@@ -131,7 +129,7 @@ module _ (set : List Float) (T : ShiftTables) where
   abbrev whole_set : List Float
   whole_set = full_set nan (shifts_of T) 1 set
 
-  pub report-refused : (a : Refusal) → judged_set limit2 1 (length set) [] T ≡ RefusedBy a → Refused a ≡ drift_report_compact_fc2 set T
+  pub report-refused : (a : Refusal) → judged_set limit2 1 (length set) [] T ≡ Err a → Err a ≡ drift_report_compact_fc2 set T
   unfolding drift_report_compact_fc2
   report-refused a e = sym (ap (λ g. reported_after g (placed_report T.n_satom whole_set (drift_of T.n_satom whole_set))) e)
 
@@ -143,16 +141,16 @@ module _ (set : List Float) (T : ShiftTables) where
       subst (State (sum_at T.n_satom whole_set) (sum_count T.n_satom))
       (sym (g ∙ ap (λ f. scanned_compact set f T.n_satom) stored_same ∙ scanned-sums (shifts_of T) set)) (all_seen_lem (sum_at T.n_satom whole_set) (sum_count T.n_satom))
 
-  pub report-done : judged_set limit2 1 (length set) [] T ≡ Done → (c : Seen) → c ≡ scanned_compact set (stored_in T.n_satom T.s2pp T.nsym_list T.perms) T.n_satom
-      → Report (concluded T.n_satom c) ≡ drift_report_compact_fc2 set T
+  pub report-done : judged_set limit2 1 (length set) [] T ≡ Ok tt → (c : Seen) → c ≡ scanned_compact set (stored_in T.n_satom T.s2pp T.nsym_list T.perms) T.n_satom
+      → Ok (concluded T.n_satom c) ≡ drift_report_compact_fc2 set T
   unfolding drift_report_compact_fc2
   report-done e c g =
       let n = T.n_satom in
-      ap Report (reported (sum_count n) (sum_at n whole_set) c (all-looked c g) still_report (report_at n))
+      ap Ok (reported (sum_count n) (sum_at n whole_set) c (all-looked c g) still_report (report_at n))
       ∙ sym (ap (λ h. reported_after h (placed_report n whole_set (drift_of n whole_set))) e)
 
   -- a set that is not refused is reported on as its full set is
-  pub as_full : judged_set limit2 1 (length set) [] T ≡ Done → drift_report_compact_fc2 set T ≡ drift_report whole_set T.n_satom
+  pub as_full : judged_set limit2 1 (length set) [] T ≡ Ok tt → drift_report_compact_fc2 set T ≡ drift_report whole_set T.n_satom
   unfolding drift_report_compact_fc2 drift_report
   as_full e =
       let n = T.n_satom in

@@ -1,7 +1,7 @@
 -- The drift report of a full set (document 01, "Drift report"; document 02, A.4). Definitions only.
-use Rattle.std.specs.Prelude.{List, [], cond, ℕ, ◌-◌, ◌*◌, ◌/◌, ◌%◌, ltb, length, Float}
-use Rattle.tables.specs.declared.Answer.{Answer}
-use Rattle.tables.specs.declared.Answer.TheVariants.{Done, Refused as RefusedBy}
+use Rattle.tables.specs.declared.Refusal.{Refusal}
+use Rattle.std.specs.Prelude.{Err, Ok, Result, List, [], cond, ℕ, ◌-◌, ◌*◌, ◌/◌, ◌%◌, ltb, length, Float}
+use Rattle.tables.specs.Answers.{Answer}
 use Rattle.tables.specs.Full.{judged_full}
 use Rattle.tables.specs.Limits.{limit2}
 use Rattle.fc2.specs.Full.{row_sum, column_sum}
@@ -11,8 +11,6 @@ use Rattle.reports.specs.declared.Deviation.TheVariants.{Still}
 use Rattle.drift.specs.declared.Along.{Along}
 use Rattle.drift.specs.declared.Along.TheVariants.{Rows, Columns}
 use Rattle.drift.specs.declared.DriftReport.{DriftReport}
-use Rattle.drift.specs.declared.DriftAnswer.{DriftAnswer}
-use Rattle.drift.specs.declared.DriftAnswer.TheVariants.{Report, Refused}
 
 -- ---- the cases
 
@@ -21,14 +19,14 @@ along_number Rows = 0
 along_number Columns = 1
 
 -- what the call answers: done, with a report, or a refusal
-abbrev pub answer_of : DriftAnswer → Answer
-answer_of (Report r) = Done
-answer_of (Refused r) = RefusedBy r
+abbrev pub answer_of : Result DriftReport Refusal → Answer
+answer_of (Ok r) = Ok tt
+answer_of (Err r) = Err r
 
 -- the guard's refusal, or the report
-abbrev pub reported_after : Answer → DriftReport → DriftAnswer
-reported_after Done r = Report r
-reported_after (RefusedBy a) r = Refused a
+abbrev pub reported_after : Answer → DriftReport → Result DriftReport Refusal
+reported_after (Ok tt) r = Ok r
+reported_after (Err a) r = Err a
 
 -- ---- the sums, in the order of their places
 
@@ -67,5 +65,5 @@ abbrev pub placed_report : ℕ → List Float → Deviation → DriftReport
 placed_report n xs d = placed_by still_report (report_at n) (sum_count n) (sum_at n xs) d
 
 -- the call's answer
-unfoldable pub drift_report : List Float → ℕ → DriftAnswer
+unfoldable pub drift_report : List Float → ℕ → Result DriftReport Refusal
 drift_report xs n = reported_after (judged_full limit2 1 (length xs) [] n) (placed_report n xs (drift_of n xs))

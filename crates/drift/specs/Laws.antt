@@ -1,5 +1,5 @@
 -- The sums that the loops make are those of the definition, one after another, and so is the call's answer. Assumes nothing.
-use Rattle.std.specs.Prelude.{◌≡◌, true, cond, List, [], ℕ, ◌+◌, ◌-◌, ◌*◌, ◌/◌, ◌%◌, ◌<◌, length, get_or, Float}
+use Rattle.std.specs.Prelude.{Err, Ok, ◌≡◌, true, cond, List, [], ℕ, ◌+◌, ◌-◌, ◌*◌, ◌/◌, ◌%◌, ◌<◌, length, get_or, Float}
 use Rattle.std.proofs.Math.Path.{sym, ap}
 use Rattle.std.proofs.Common.{ap₂, ◌∙◌, subst, div-add-mod', lt-ltb, le-ltb}
 use native.Mathlib.Omega.{arith}
@@ -8,7 +8,6 @@ use Rattle.std.specs.Float.Ieee.{add}
 use Rattle.lists.specs.Tests.{every, every-at}
 use Rattle.lists.specs.Tab.{times, times-same, times-add, times_nest}
 use Rattle.blocks.specs.Block.{block_of_lem, place_of}
-use Rattle.tables.specs.declared.Answer.TheVariants.{Done, Refused as RefusedBy}
 use Rattle.tables.specs.declared.Refusal.{Refusal}
 use Rattle.tables.specs.Full.{judged_full, done_full}
 use Rattle.tables.specs.Lengths.{set_length2}
@@ -21,7 +20,6 @@ use Rattle.fc2.specs.Full.{row_sum, column_sum}
 use Rattle.fc2.specs.FullPlaceLaws.{entry-at}
 use Rattle.fc2.specs.FullDriftLaws.{row-sum}
 use Rattle.drift.specs.declared.Along.TheVariants.{Rows, Columns}
-use Rattle.drift.specs.declared.DriftAnswer.TheVariants.{Report, Refused}
 use Rattle.reports.specs.declared.seen.Seen.{Seen}
 use Rattle.drift.specs.Drift.{line_sum, along_of, atom_of, sum_at, sum_count, drift_of, report_at, still_report, placed_report, reported_after, drift_report}
 use Rattle.drift.specs.Loops.{look_line, look_lines, scanned, concluded}
@@ -112,19 +110,19 @@ module _ (n : ℕ) (xs : List Float) where
 
 module _ (xs : List Float) (n : ℕ) where
   -- what is known of a set that is reported on
-  pub sized : judged_full limit2 1 (length xs) [] n ≡ Done → Sized n n (length xs)
+  pub sized : judged_full limit2 1 (length xs) [] n ≡ Ok tt → Sized n n (length xs)
   sized e =
       let (few, long, _) = done_full limit2 1 (length xs) [] n e in
       record { few = few; small = few; long = long ∙ set_length2 n n }
 
-  pub report-refused : (a : Refusal) → judged_full limit2 1 (length xs) [] n ≡ RefusedBy a → Refused a ≡ drift_report xs n
+  pub report-refused : (a : Refusal) → judged_full limit2 1 (length xs) [] n ≡ Err a → Err a ≡ drift_report xs n
   unfolding drift_report
   report-refused a e = sym (ap (λ g. reported_after g (placed_report n xs (drift_of n xs))) e)
 
   pub all-looked : (c : Seen) → c ≡ scanned n xs → State (sum_at n xs) (sum_count n) c
   all-looked c g = subst (State (sum_at n xs) (sum_count n)) (sym (g ∙ scanned-sums n xs)) (all_seen_lem (sum_at n xs) (sum_count n))
 
-  pub report-done : judged_full limit2 1 (length xs) [] n ≡ Done → (c : Seen) → c ≡ scanned n xs → Report (concluded n c) ≡ drift_report xs n
+  pub report-done : judged_full limit2 1 (length xs) [] n ≡ Ok tt → (c : Seen) → c ≡ scanned n xs → Ok (concluded n c) ≡ drift_report xs n
   unfolding drift_report
   report-done e c g =
-      ap Report (reported (sum_count n) (sum_at n xs) c (all-looked c g) still_report (report_at n)) ∙ sym (ap (λ h. reported_after h (placed_report n xs (drift_of n xs))) e)
+      ap Ok (reported (sum_count n) (sum_at n xs) c (all-looked c g) still_report (report_at n)) ∙ sym (ap (λ h. reported_after h (placed_report n xs (drift_of n xs))) e)

@@ -1,10 +1,10 @@
 -- The drift report of a full set of third order: the sums over each of its legs, by the rule of the report at second order (crate `drift`). Definitions only.
-use Rattle.std.specs.Prelude.{List, [], ◌∷◌, cond, ℕ, zero, suc, ◌*◌, ◌/◌, ◌%◌, eqb, length, Float}
+use Rattle.tables.specs.declared.Refusal.{Refusal}
+use Rattle.std.specs.Prelude.{Err, Ok, Result, List, [], ◌∷◌, cond, ℕ, zero, suc, ◌*◌, ◌/◌, ◌%◌, eqb, length, Float}
 use Rattle.std.specs.Float.{nan, binary64}
 use Rattle.std.specs.Float.Ieee.{add}
 use Rattle.lists.specs.Tab.{times}
-use Rattle.tables.specs.declared.Answer.{Answer}
-use Rattle.tables.specs.declared.Answer.TheVariants.{Done, Refused as RefusedBy}
+use Rattle.tables.specs.Answers.{Answer}
 use Rattle.tables.specs.Limits.{limit3}
 use Rattle.places.specs.Places.{at}
 use Rattle.places.specs.WholeLaws.{full_shifts}
@@ -14,8 +14,6 @@ use Rattle.reports.specs.declared.Deviation.TheVariants.{Still}
 use Rattle.reports.specs.Report.{deviation_in, placed_by}
 use Rattle.tables.specs.Full.{judged_full}
 use Rattle.drift.specs.declared.third.LegReport.{LegReport}
-use Rattle.drift.specs.declared.third.LegAnswer.{LegAnswer}
-use Rattle.drift.specs.declared.third.LegAnswer.TheVariants.{Report, Refused}
 
 -- the number of a set for atoms h, i, j and directions k, l, m
 unfoldable pub entry3 : ℕ → List Float → ℕ → ℕ → ℕ → ℕ → ℕ → ℕ → Float
@@ -45,12 +43,12 @@ abbrev pub still_report3 : LegReport
 still_report3 = record { drift = Still; leg = 2; first = 0; second = 0; k = 0; l = 0; m = 0 }
 
 -- the guard's refusal, or the report
-abbrev pub reported_after3 : Answer → LegReport → LegAnswer
-reported_after3 Done r = Report r
-reported_after3 (RefusedBy a) r = Refused a
+abbrev pub reported_after3 : Answer → LegReport → Result LegReport Refusal
+reported_after3 (Ok tt) r = Ok r
+reported_after3 (Err a) r = Err a
 
 -- the call's answer
-unfoldable pub drift_report_fc3 : List Float → ℕ → LegAnswer
+unfoldable pub drift_report_fc3 : List Float → ℕ → Result LegReport Refusal
 drift_report_fc3 xs n =
     let S = sum_at3 n xs in
     reported_after3 (judged_full limit3 2 (length xs) [] n) (placed_by still_report3 (report_at3 n) (sums3 n) S (deviation_in (sums3 n) S))

@@ -1,6 +1,7 @@
 -- What a report says, place by place: no sum's absolute value exceeds the worst, the place that is named has it, and no earlier place has it; the
 -- first sum that is no number; all sums zero. Assumes nothing.
-use Rattle.std.specs.Prelude.{◌≡◌, Bool, ℕ, ◌+◌, ◌-◌, ◌*◌, ◌/◌, ◌%◌, ◌<◌, ltb, length, Float}
+use Rattle.tables.specs.declared.Refusal.{Refusal}
+use Rattle.std.specs.Prelude.{Err, Ok, Result, ◌≡◌, Bool, ℕ, ◌+◌, ◌-◌, ◌*◌, ◌/◌, ◌%◌, ◌<◌, ltb, length, Float}
 use Rattle.std.proofs.Math.Path.{refl, sym, ap, ap₂}
 use Rattle.std.proofs.Common.{◌∙◌, subst, ⊎_elim, arith, lt-ltb, le-ltb, ltb-true, ltb-false}
 use Rattle.std.proofs.Math.Bool.{true, false, cond}
@@ -11,8 +12,7 @@ use Rattle.std.specs.Float.Ieee.{lt, eq, is_nan}
 use Rattle.lists.specs.Tab.{times}
 use Rattle.lists.specs.Tests.{every, some, every-at, every_of, some_at, some_of, refuted, split}
 use Rattle.blocks.specs.Block.{block_of_lem, place_of}
-use Rattle.tables.specs.declared.Answer.{Answer}
-use Rattle.tables.specs.declared.Answer.TheVariants.{Done, Refused as RefusedBy}
+use Rattle.tables.specs.Answers.{Answer}
 use Rattle.tables.specs.Full.{judged_full}
 use Rattle.tables.specs.Limits.{limit2}
 use Rattle.reports.specs.declared.Deviation.{Deviation}
@@ -20,8 +20,6 @@ use Rattle.reports.specs.declared.Deviation.TheVariants.{Still, Worst, NoNumber}
 use Rattle.drift.specs.declared.Along.{Along}
 use Rattle.drift.specs.declared.Along.TheVariants.{Rows, Columns}
 use Rattle.drift.specs.declared.DriftReport.{DriftReport}
-use Rattle.drift.specs.declared.DriftAnswer.{DriftAnswer}
-use Rattle.drift.specs.declared.DriftAnswer.TheVariants.{Report, Refused}
 use Rattle.reports.specs.declared.seen.Seen.{Seen}
 use Rattle.drift.specs.Drift.{along_number, line_sum, along_of, atom_of, sum_at, sum_count, drift_of, report_at, still_report, placed_report, reported_after, drift_report}
 use Rattle.reports.specs.Report.{deviation_number, value_of, absolute, is_zero, first_of, worst_of, deviation_in}
@@ -176,24 +174,24 @@ module _ (xs : List Float) (n : ℕ) where
   looked = all_seen_lem (sum_at n xs) (sum_count n)
 
   -- the report of an answer
-  after-guard : (a : Answer) (p q : DriftReport) → reported_after a p ≡ Report q → q ≡ p
-  after-guard Done p q e = sym (ap report_in e)
+  after-guard : (a : Answer) (p q : DriftReport) → reported_after a p ≡ Ok q → q ≡ p
+  after-guard (Ok tt) p q e = sym (ap report_in e)
     where
-      report_in : DriftAnswer → DriftReport
-      report_in (Report r) = r
-      report_in (Refused a) = still_report
-  after-guard (RefusedBy a) p q e = absurd (let z = ap is_report e in omega (arith, z))
+      report_in : Result DriftReport Refusal → DriftReport
+      report_in (Ok r) = r
+      report_in (Err a) = still_report
+  after-guard (Err a) p q e = absurd (let z = ap is_report e in omega (arith, z))
     where
-      is_report : DriftAnswer → ℕ
-      is_report (Report r) = 1
-      is_report (Refused a) = 0
+      is_report : Result DriftReport Refusal → ℕ
+      is_report (Ok r) = 1
+      is_report (Err a) = 0
 
   placed_drift : (d : Deviation) → (placed_report n xs d).drift ≡ d
   placed_drift Still = refl
   placed_drift (Worst v) = refl
   placed_drift NoNumber = refl
 
-  module _ (q : DriftReport) (told : drift_report xs n ≡ Report q) where
+  module _ (q : DriftReport) (told : drift_report xs n ≡ Ok q) where
     report_is : q ≡ placed_report n xs (drift_of n xs)
     unfolding drift_report
     report_is = after-guard (judged_full limit2 1 (length xs) [] n) (placed_report n xs (drift_of n xs)) q told

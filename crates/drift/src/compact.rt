@@ -7,12 +7,12 @@ ghost use Rattle.drift.specs.CompactReport.{drift_report_compact_fc2};
 ghost use Rattle.drift.specs.CompactLaws.{Held, compact_row_sums, column_sums, look_rows, look_compact_columns, scanned_compact};
 
 use crate::seen::{calm, look_line};
-use crate::{DriftAnswer, conclude};
+use crate::{DriftReport, conclude};
 use lines::nine::more;
 use places::stored_block2;
 use reports::seen::{Seen, start};
 use shifts::judge_set;
-use tables::Answer;
+use tables::Refusal;
 use tables::atoms::SuperAtom;
 use tables::limits::LIMIT2;
 
@@ -116,11 +116,11 @@ pub fn drift_report_compact_fc2(
     n_satom: usize,
     n_patom: usize,
     num_trans: usize,
-) -> DriftAnswer
+) -> Result<DriftReport, Refusal>
     ensures { let T = shift_tables p2s.now s2pp.now nsym_list.now perms.now n_satom n_patom num_trans in
         result ≡ drift_report_compact_fc2 fc.now T }
 {
-    let a = judge_set(
+    judge_set(
         LIMIT2,
         1,
         fc.len(),
@@ -131,12 +131,7 @@ pub fn drift_report_compact_fc2(
         n_satom,
         n_patom,
         num_trans,
-    );
-    match a {
-        Answer::Refused(r) => DriftAnswer::Refused(r),
-        Answer::Done => {
-            let seen = scan(fc, s2pp, nsym_list, perms, n_satom);
-            DriftAnswer::Report(conclude(n_satom, seen))
-        }
-    }
+    )?;
+    let seen = scan(fc, s2pp, nsym_list, perms, n_satom);
+    Ok(conclude(n_satom, seen))
 }

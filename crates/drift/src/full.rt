@@ -7,12 +7,12 @@ ghost use Rattle.drift.specs.Drift.{drift_report};
 ghost use Rattle.drift.specs.Loops as loops;
 
 use crate::seen::{calm, look_line};
-use crate::{DriftAnswer, conclude};
+use crate::{DriftReport, conclude};
 use lines::line_sums;
 use lines::nine::more;
 use places::index_of;
 use reports::seen::{Seen, start};
-use tables::Answer;
+use tables::Refusal;
 
 // Looks at n lines of n blocks: line i begins with block i * apart, and its blocks stand step apart.
 fn look_lines(fc: &[f64], first: usize, apart: usize, step: usize, n: usize, c: Seen) -> Seen
@@ -46,15 +46,10 @@ fn scan_set(fc: &[f64], n: usize) -> Seen
 }
 
 // The drift of each row sum over the second atom and of each column sum over the first, and its place.
-pub fn drift_report(fc: &[f64], n_satom: usize) -> DriftAnswer
+pub fn drift_report(fc: &[f64], n_satom: usize) -> Result<DriftReport, Refusal>
     ensures { result ≡ drift_report fc.now n_satom }
 {
-    let a = tables::sets::judge_full(tables::limits::LIMIT2, 1, fc.len(), n_satom);
-    match a {
-        Answer::Refused(r) => DriftAnswer::Refused(r),
-        Answer::Done => {
-            let seen = scan_set(fc, n_satom);
-            DriftAnswer::Report(conclude(n_satom, seen))
-        }
-    }
+    tables::sets::judge_full(tables::limits::LIMIT2, 1, fc.len(), n_satom)?;
+    let seen = scan_set(fc, n_satom);
+    Ok(conclude(n_satom, seen))
 }

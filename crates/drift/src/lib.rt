@@ -14,7 +14,7 @@ ghost use Rattle.drift.specs.Loops as loops;
 use places::{column_of, row_of};
 use reports::Deviation;
 use reports::seen::Seen;
-use tables::{Answer, Refusal};
+use tables::Refusal;
 
 // Which sums a report names: that of a row, over the second atom, or that of a column, over the first.
 #[derive(Clone, Copy)]
@@ -33,12 +33,6 @@ pub struct DriftReport {
     pub l: usize,
 }
 
-#[derive(Clone, Copy)]
-pub enum DriftAnswer {
-    Report(DriftReport),
-    Refused(Refusal),
-}
-
 // A number for rows and for columns.
 pub fn along_number(a: Along) -> usize
     ensures { result ≡ along_number a }
@@ -50,12 +44,12 @@ pub fn along_number(a: Along) -> usize
 }
 
 // Done, or the refusal.
-pub fn answer(r: DriftAnswer) -> Answer
+pub fn answer(r: Result<DriftReport, Refusal>) -> Result<(), Refusal>
     ensures { result ≡ answer_of r }
 {
     match r {
-        DriftAnswer::Report(_) => Answer::Done,
-        DriftAnswer::Refused(r) => Answer::Refused(r),
+        Ok(_) => Ok(()),
+        Err(r) => Err(r),
     }
 }
 

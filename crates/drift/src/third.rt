@@ -12,7 +12,7 @@ use reports::Deviation;
 use reports::seen::{Seen, start};
 use tables::limits::LIMIT3;
 use tables::sets::judge_full;
-use tables::{Answer, Refusal};
+use tables::Refusal;
 
 // The drift and its place: the leg that is summed over, 0, 1 or 2, the atoms of the two others, and the directions.
 #[derive(Clone, Copy)]
@@ -24,12 +24,6 @@ pub struct LegReport {
     pub k: usize,
     pub l: usize,
     pub m: usize,
-}
-
-#[derive(Clone, Copy)]
-pub enum LegAnswer {
-    Report(LegReport),
-    Refused(Refusal),
 }
 
 // The sums over the last leg come first.
@@ -132,18 +126,13 @@ fn scan(fc: &[f64], n: usize) -> Seen
 }
 
 // The drift of the sums over each leg of a full set, and its place.
-pub fn drift_report_fc3(fc: &[f64], num_atom: usize) -> LegAnswer
+pub fn drift_report_fc3(fc: &[f64], num_atom: usize) -> Result<LegReport, Refusal>
     ensures { result ≡ drift_report_fc3 fc.now num_atom }
 {
-    let a = judge_full(LIMIT3, 2, fc.len(), num_atom);
-    match a {
-        Answer::Refused(r) => LegAnswer::Refused(r),
-        Answer::Done => {
-            if num_atom == 0 {
-                return LegAnswer::Report(still());
-            }
-            let seen = scan(fc, num_atom);
-            LegAnswer::Report(conclude(num_atom, seen))
-        }
+    judge_full(LIMIT3, 2, fc.len(), num_atom)?;
+    if num_atom == 0 {
+        return Ok(still());
     }
+    let seen = scan(fc, num_atom);
+    Ok(conclude(num_atom, seen))
 }

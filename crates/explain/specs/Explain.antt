@@ -1,8 +1,7 @@
 -- Why shift tables are refused: which count, which table, which entry, or which rule, with the rows and atoms that break it. Definitions only.
-use Rattle.std.specs.Prelude.{Bool, false, not, cond, ◌&&◌, List, [], ◌∷◌, ℕ, eqb, ltb, ℤ, pos, length, get_or}
+use Rattle.std.specs.Prelude.{Err, Ok, Bool, false, not, cond, ◌&&◌, List, [], ◌∷◌, ℕ, eqb, ltb, ℤ, pos, length, get_or}
 use Rattle.lists.specs.Tests.{some}
 use Rattle.lists.specs.Lowest.{lowest}
-use Rattle.tables.specs.declared.Answer.TheVariants.{Done, Refused}
 use Rattle.tables.specs.declared.Refusal.{Refusal}
 use Rattle.tables.specs.declared.Refusal.TheVariants.{CountAboveLimit, WrongLength, IndexOutOfRange, BadShiftTables}
 use Rattle.tables.specs.Conditions.{any_above, any_wrong, below, out_of_range}
@@ -103,7 +102,7 @@ first_broken S = lowest 8 (λ r. broken (rule_at S r))
 -- ---- the call
 
 abbrev pub because : Refusal → ℕ → ℕ → ℕ → ℕ → Explanation
-because r which first second third = record { answer = Refused r; which = which; first = first; second = second; third = third }
+because r which first second third = record { answer = Err r; which = which; first = first; second = second; third = third }
 
 unfoldable pub bad_entry : ShiftTables → Explanation
 bad_entry T =
@@ -124,4 +123,4 @@ explain_shift_tables T =
     (cond (any_wrong (table_lengths T)) (because WrongLength (first_wrong (table_lengths T)) 0 0 0)
     (cond (tables_out_of_range T) (bad_entry T)
     (cond (not (ruled (shifts_of T))) (broken_rule (shifts_of T))
-    (record { answer = Done; which = 0; first = 0; second = 0; third = 0 }))))
+    (record { answer = Ok tt; which = 0; first = 0; second = 0; third = 0 }))))

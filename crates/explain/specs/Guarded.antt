@@ -1,12 +1,11 @@
 -- How the call goes from the guard's number to the explanation. Assumes nothing.
-use Rattle.std.specs.Prelude.{◌≡◌, Bool, not, cond, ℕ, ◌≤◌, ◌<◌}
+use Rattle.std.specs.Prelude.{Ok, ◌≡◌, Bool, not, cond, ℕ, ◌≤◌, ◌<◌}
 use Rattle.std.proofs.Math.Path.{refl}
 use Rattle.std.proofs.Common.{sym, ap, ◌∙◌, arith}
 use Rattle.std.proofs.Math.Bool.{true, false}
 use mathlib.Core.List.{[]}
 use borrow.Author.Tests.{not-true}
-use Rattle.tables.specs.declared.Answer.{Answer}
-use Rattle.tables.specs.declared.Answer.TheVariants.{Done}
+use Rattle.tables.specs.Answers.{Answer}
 use Rattle.tables.specs.declared.Refusal.TheVariants.{CountAboveLimit, WrongLength, BadShiftTables}
 use Rattle.tables.specs.Answers.{number_of}
 use Rattle.tables.specs.Limits.{limit2}
@@ -110,7 +109,7 @@ module _ (T : ShiftTables) where
   x2 = because WrongLength (first_wrong (table_lengths T)) 0 0 0
 
   abbrev x0 : Explanation
-  x0 = record { answer = Done; which = 0; first = 0; second = 0; third = 0 }
+  x0 = record { answer = Ok tt; which = 0; first = 0; second = 0; third = 0 }
 
   module _ {x : Answer} {k : ℕ} (ex : x ≡ judged_tables limit2 [] T) (ek : k ≡ number_of x) where
     number_is : k ≡ chain a w o r 1 2 3 6 0

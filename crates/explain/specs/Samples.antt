@@ -1,8 +1,7 @@
 -- What the call says of a few tables, worked out. Assumes nothing.
-use Rattle.std.specs.Prelude.{◌≡◌, refl, List, [], ◌∷◌, ℤ, pos, negsuc}
+use Rattle.std.specs.Prelude.{Ok, ◌≡◌, refl, List, [], ◌∷◌, ℤ, pos, negsuc}
 use Rattle.lists.specs.Tests.{every, some}
 use Rattle.lists.specs.Lowest.{lowest}
-use Rattle.tables.specs.declared.Answer.TheVariants.{Done}
 use Rattle.tables.specs.declared.Refusal.TheVariants.{IndexOutOfRange, BadShiftTables}
 use Rattle.tables.specs.Conditions.{out_of_range}
 use Rattle.tables.specs.Shifts.{row, p2s_at, s2pp_at, nsym_at, distinct, is_null, is_after, follows, counts_agree, rows_injective, has_null, rows_closed, rows_free, p2s_back, s2pp_kept, nsym_lands, ruled}
@@ -21,7 +20,7 @@ abbrev exchanges : List ℤ
 exchanges = pos 0 ∷ pos 1 ∷ pos 2 ∷ pos 1 ∷ pos 0 ∷ pos 2 ∷ pos 2 ∷ pos 1 ∷ pos 0 ∷ []
 
 -- tables that are good; an entry that is negative; row 1 of nsym_list, which sends atom 1 to 2; rows 1 and 2, one after the other
-pub explained : (explain_shift_tables (three (pos 0 ∷ pos 2 ∷ pos 1 ∷ []) ring) ≡ record { answer = Done; which = 0; first = 0; second = 0; third = 0 })
+pub explained : (explain_shift_tables (three (pos 0 ∷ pos 2 ∷ pos 1 ∷ []) ring) ≡ record { answer = Ok tt; which = 0; first = 0; second = 0; third = 0 })
     × ((explain_shift_tables (three (pos 0 ∷ negsuc 0 ∷ pos 1 ∷ []) ring) ≡ because IndexOutOfRange 3 1 0 0)
     × ((explain_shift_tables (three (pos 0 ∷ pos 1 ∷ pos 2 ∷ []) ring) ≡ because BadShiftTables 7 1 0 0)
     × (explain_shift_tables (three (pos 0 ∷ pos 1 ∷ pos 2 ∷ []) exchanges) ≡ because BadShiftTables 3 1 2 0)))

@@ -13,9 +13,9 @@ ghost use Rattle.tables.specs.Compact.{ShiftTables, shift_tables, shifts_of, tab
 ghost use Rattle.explain.specs.Explain.{first_above, first_wrong, first_beyond, because as becauseOf, bad_entry, broken_rule, explain_shift_tables};
 
 use shifts::check_shift_tables;
+use tables::Refusal;
 use tables::index::all_below;
 use tables::limits::LIMIT2;
-use tables::{Answer, Refusal};
 
 // What check_shift_tables answers, and what a refusal is about.
 // 1: `which` is 0 n_satom, 1 n_patom, 2 num_trans: the first that is above the limit.
@@ -25,7 +25,7 @@ use tables::{Answer, Refusal};
 // What is not named is 0.
 #[derive(Clone, Copy)]
 pub struct Explanation {
-    pub answer: Answer,
+    pub answer: Result<(), Refusal>,
     pub which: usize,
     pub first: usize,
     pub second: usize,
@@ -105,7 +105,7 @@ fn because(r: Refusal, which: usize, first: usize, second: usize, third: usize) 
     ensures { result ≡ becauseOf r which first second third }
 {
     Explanation {
-        answer: Answer::Refused(r),
+        answer: Err(r),
         which: which,
         first: first,
         second: second,
@@ -203,7 +203,7 @@ pub fn explain_shift_tables(
         return broken_rule(p2s, s2pp, nsym_list, perms, n_satom, n_patom, num_trans);
     }
     Explanation {
-        answer: Answer::Done,
+        answer: Ok(()),
         which: 0,
         first: 0,
         second: 0,

@@ -5,7 +5,7 @@ use Rattle.std.specs.Prelude.{List, [], ◌∷◌, cond, ◌&&◌, ℕ, eqb, len
 use Rattle.std.specs.Float.{nan, binary64}
 use Rattle.std.specs.Float.Ieee.{add, sub, mul, neg}
 use Rattle.lists.specs.Tab.{times}
-use Rattle.tables.specs.declared.Answer.{Answer}
+use Rattle.tables.specs.Answers.{Answer}
 use Rattle.tables.specs.declared.Refusal.TheVariants.{CountAboveLimit}
 use Rattle.tables.specs.Answers.{after, refuse_if}
 use Rattle.tables.specs.Conditions.{any_above}

@@ -1,11 +1,10 @@
 -- Sheets 3 and 4 of document 01, of the full symmetrizer's definition. Assumes nothing.
-use Rattle.std.specs.Prelude.{◌≡◌, refl, List, [], ◌∷◌, ℕ, ◌≤◌, length, get_or, replicate, Float}
+use Rattle.std.specs.Prelude.{Ok, ◌≡◌, refl, List, [], ◌∷◌, ℕ, ◌≤◌, length, get_or, replicate, Float}
 use Rattle.std.proofs.Common.{ap, ◌∙◌, lit≤}
 use Rattle.std.specs.Float.{nan, binary64}
 use Rattle.std.specs.Float.Ieee.{add, div, neg, of_bits}
 use Rattle.lists.specs.Tab.{tab, tab_from, times}
 use Rattle.blocks.specs.Block.{block}
-use Rattle.tables.specs.declared.Answer.TheVariants.{Done}
 use Rattle.tables.specs.Lengths.{set_length}
 use Rattle.lists.specs.Digits.{horner, rest, digits}
 use Rattle.places.specs.Places.{address, size, legs_of, place, at, fill as fillPlaces}
@@ -34,8 +33,8 @@ unfolding symmetrized_full on_site_blocks fill_full fillPlaces full_shifts place
 one-atom level xs = refl
 
 -- 3: one atom, any level that is not refused, whatever the set holds: nine times -0.0
-pub sheet3 : (level : ℕ) (xs : List Float) → level ≤ 1000 → length xs ≡ 9 → perm_trans_symmetrize_fc xs 1 level ≡ (Done, replicate 9 minus_zero)
-sheet3 level xs h e = call_within xs 1 level (lit≤ tt) h e ∙ ap (λ l. (Done, l)) (one-atom level xs)
+pub sheet3 : (level : ℕ) (xs : List Float) → level ≤ 1000 → length xs ≡ 9 → perm_trans_symmetrize_fc xs 1 level ≡ (Ok tt, replicate 9 minus_zero)
+sheet3 level xs h e = call_within xs 1 level (lit≤ tt) h e ∙ ap (λ l. (Ok tt, l)) (one-atom level xs)
 
 -- block (0, 0) of two atoms at level 0, from block (0, 1)
 from_other : List Float → List Float
@@ -57,7 +56,7 @@ sums4 = refl
 
 -- 4: level 0 on two atoms, where block (0, 1) has 2 at [0][1], 4 at [1][0] and else zeros, the other blocks anything: block (0, 0) is -3 there, else -0.0
 pub sheet4 : (xs : List Float) → length xs ≡ 36 → block 9 1 xs ≡ sheet4-given
-    → ((perm_trans_symmetrize_fc xs 2 0).0 ≡ Done) × (block 9 0 (perm_trans_symmetrize_fc xs 2 0).1 ≡ sheet4_wanted)
+    → ((perm_trans_symmetrize_fc xs 2 0).0 ≡ Ok tt) × (block 9 0 (perm_trans_symmetrize_fc xs 2 0).1 ≡ sheet4_wanted)
 sheet4 xs e g =
     let c = call_within xs 2 0 (lit≤ tt) (lit≤ tt) e in
     (ap (λ r. r.0) c, ap (λ r. block 9 0 r.1) c ∙ from-other xs ∙ ap from_other g ∙ sums4)

@@ -1,11 +1,10 @@
 -- What the loops of full.rt leave is the symmetrized set, and what the call's answer says. Assumes nothing.
-use Rattle.std.specs.Prelude.{◌≡◌, true, false, List, [], ◌∷◌, length, Float}
+use Rattle.std.specs.Prelude.{Ok, ◌≡◌, true, false, List, [], ◌∷◌, length, Float}
 use Rattle.std.proofs.Math.Path.{refl, ap}
 use Rattle.std.proofs.Common.{sym, ◌∙◌, le-ltb}
 use Prim.Native.Nat.{ℕ, zero, suc, ◌*◌, ◌≤◌}
 use Rattle.lists.specs.Tab.{times, length-tab}
-use Rattle.tables.specs.declared.Answer.{Answer}
-use Rattle.tables.specs.declared.Answer.TheVariants.{Done}
+use Rattle.tables.specs.Answers.{Answer}
 use Rattle.tables.specs.declared.Refusal.TheVariants.{CountAboveLimit}
 use Rattle.tables.specs.Answers.{is_refusal, passed, after-done, after_refusal, is_done}
 use Rattle.tables.specs.Conditions.{any_above}
@@ -74,12 +73,12 @@ module _ (a : Answer) (xs : List Float) (n level : ℕ) (e : a ≡ judged_full_l
   unfolding perm_trans_symmetrize_fc
   call_refused h = rw (sym e) (ap (λ l. (a, l)) (sym (after_refusal a (symmetrized_full n level xs) xs h)))
 
-  pub call_done : is_refusal a ≡ false → (Done, symmetrized_full n level xs) ≡ perm_trans_symmetrize_fc xs n level
+  pub call_done : is_refusal a ≡ false → (Ok tt, symmetrized_full n level xs) ≡ perm_trans_symmetrize_fc xs n level
   unfolding perm_trans_symmetrize_fc
   call_done h = rw (sym e) (ap (λ b. (b, symmetrized_full n level xs)) (sym (is_done a h)) ∙ ap (λ l. (a, l)) (sym (after-done a (symmetrized_full n level xs) xs h)))
 
 -- a call within the limits, with a set of the stated length, is done
-pub call_within : (xs : List Float) (n level : ℕ) → n ≤ 1024 → level ≤ 1000 → length xs ≡ n * n * 9 → perm_trans_symmetrize_fc xs n level ≡ (Done, symmetrized_full n level xs)
+pub call_within : (xs : List Float) (n level : ℕ) → n ≤ 1024 → level ≤ 1000 → length xs ≡ n * n * 9 → perm_trans_symmetrize_fc xs n level ≡ (Ok tt, symmetrized_full n level xs)
 call_within xs n level h g e =
-    let j : judged_full_levels (length xs) n level ≡ Done = rw (le-ltb 1000 level g) (sym (full-passes limit2 1 (length xs) n h (e ∙ sym (set_length2 n n)))) in
-    sym (call_done Done xs n level (sym j) refl)
+    let j : judged_full_levels (length xs) n level ≡ Ok tt = rw (le-ltb 1000 level g) (sym (full-passes limit2 1 (length xs) n h (e ∙ sym (set_length2 n n)))) in
+    sym (call_done (Ok tt) xs n level (sym j) refl)

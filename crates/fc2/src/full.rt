@@ -8,7 +8,7 @@ use crate::columns::column_drift;
 use lines::nines::balance;
 use places::full2;
 use tables::atoms::SuperAtom;
-use tables::{Answer, Refusal};
+use tables::Refusal;
 
 // The mean of an on-site block and itself transposed; its own diagonal is left alone, as in the Rust.
 fn evened(b: [f64; 9]) -> [f64; 9]
@@ -84,23 +84,20 @@ fn symmetrize(fc: &mut [f64], n: usize, level: usize)
     set_translational_symmetry_fc(fc, n);
 }
 
-fn judge_levels(len: usize, n: usize, level: usize) -> Answer
+fn judge_levels(len: usize, n: usize, level: usize) -> Result<(), Refusal>
     ensures { result ≡ judged_full_levels «len» n level }
 {
     if level > tables::limits::LIMIT_LEVEL {
-        return Answer::Refused(Refusal::CountAboveLimit);
+        return Err(Refusal::CountAboveLimit);
     }
     tables::sets::judge_full(tables::limits::LIMIT2, 1, len, n)
 }
 
 // Symmetrizes a full set (document 01, "Second order"): per level column drift, row drift and pair averages, at the end the on-site blocks.
-pub fn perm_trans_symmetrize_fc(fc: &mut [f64], n_satom: usize, level: usize) -> Answer
+pub fn perm_trans_symmetrize_fc(fc: &mut [f64], n_satom: usize, level: usize) -> Result<(), Refusal>
     ensures { (result, fc.new) ≡ perm_trans_symmetrize_fc fc.old n_satom level }
 {
-    let a = judge_levels(fc.len(), n_satom, level);
-    if tables::is_refusal(a) {
-        return a;
-    }
+    judge_levels(fc.len(), n_satom, level)?;
     symmetrize(fc, n_satom, level);
-    Answer::Done
+    Ok(())
 }

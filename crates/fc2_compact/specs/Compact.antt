@@ -1,7 +1,7 @@
 -- Compact sets of second order (document 01, "Second order", "Shift tables"): what the two calls leave, by the passes of crate `fc2_compact`. Assumes nothing.
 use Rattle.std.specs.Prelude.{Bool, cond, List, ℕ, length, replicate, ltb, Float}
 use Rattle.lists.specs.Tab.{times}
-use Rattle.tables.specs.declared.Answer.{Answer}
+use Rattle.tables.specs.Answers.{Answer}
 use Rattle.tables.specs.declared.Refusal.TheVariants.{CountAboveLimit}
 use Rattle.tables.specs.Answers.{after, refuse_if}
 use Rattle.tables.specs.Limits.{limit2, limit_level}

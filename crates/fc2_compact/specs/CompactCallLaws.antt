@@ -1,8 +1,7 @@
 -- What the two calls on compact sets of second order leave, refused or done. Assumes nothing.
-use Rattle.std.specs.Prelude.{◌≡◌, Bool, true, false, cond, List, ℕ, ltb, Float, length, replicate}
+use Rattle.std.specs.Prelude.{Ok, ◌≡◌, Bool, true, false, cond, List, ℕ, ltb, Float, length, replicate}
 use Rattle.std.proofs.Common.{sym, ap, ◌∙◌}
-use Rattle.tables.specs.declared.Answer.{Answer}
-use Rattle.tables.specs.declared.Answer.TheVariants.{Done}
+use Rattle.tables.specs.Answers.{Answer}
 use Rattle.tables.specs.declared.Refusal.TheVariants.{CountAboveLimit}
 use Rattle.tables.specs.Answers.{is_refusal, after, is_done, after_refusal, after-done, passed}
 use Rattle.tables.specs.Lengths.{set_length2}
@@ -14,7 +13,7 @@ use Rattle.fc2_compact.specs.Compact.{judged2, judged_levels, symmetrized_compac
 use Rattle.fc2_compact.specs.Code.{Ready}
 
 -- a call that is not refused has what its work asks
-pub ready_of : (l : List Float) (T : ShiftTables) (w : List ℕ) → judged2 l T w ≡ Done → Ready T (length l)
+pub ready_of : (l : List Float) (T : ShiftTables) (w : List ℕ) → judged2 l T w ≡ Ok tt → Ready T (length l)
 ready_of l T w e =
     let C = done_compact limit2 1 (length l) 1 (length w) T e in
     record { fit = C.fit; rules = C.rules; has = C.set-length ∙ set_length2 T.n_patom T.n_satom }
@@ -26,7 +25,7 @@ module _ {A B : Type 0} {a b : Answer} (new old : A) (clear work : B) where
       let g : is_refusal b ≡ true = sym (ap is_refusal e) ∙ h in
       rw (e, after_refusal b new old g, after_refusal b clear work g)
 
-  call_done : {w : A} {d : B} → a ≡ b → is_refusal a ≡ false → w ≡ new → d ≡ clear → ◌≡◌ {A = Answer × A × B} (Done, w, d) (b, after b new old, after b clear work)
+  call_done : {w : A} {d : B} → a ≡ b → is_refusal a ≡ false → w ≡ new → d ≡ clear → ◌≡◌ {A = Answer × A × B} (Ok tt, w, d) (b, after b new old, after b clear work)
   call_done e h ew ed =
       let g : is_refusal b ≡ false = sym (ap is_refusal e) ∙ h in
       rw (after-done b new old g, after-done b clear work g, ew, ed, is_done b g)
@@ -43,7 +42,7 @@ module _ (l : List Float) (T : ShiftTables) (w : List ℕ) {a : Answer} where
   index_refused t e h = call_refused (cond t (transposed (shifts_of T) l) (averaged_compact (shifts_of T) l)) l (zeros_of w) w e h
 
   pub index_done : {v : List Float} {d : List ℕ} (t : Bool) → a ≡ judged2 l T w → is_refusal a ≡ false
-      → v ≡ cond t (transposed (shifts_of T) l) (averaged_compact (shifts_of T) l) → d ≡ zeros_of w → (Done, v, d) ≡ set_index_permutation_symmetry_compact_fc l T w t
+      → v ≡ cond t (transposed (shifts_of T) l) (averaged_compact (shifts_of T) l) → d ≡ zeros_of w → (Ok tt, v, d) ≡ set_index_permutation_symmetry_compact_fc l T w t
   unfolding set_index_permutation_symmetry_compact_fc
   index_done t e h ev ed = call_done (cond t (transposed (shifts_of T) l) (averaged_compact (shifts_of T) l)) l (zeros_of w) w e h ev ed
 
@@ -55,6 +54,6 @@ module _ (l : List Float) (T : ShiftTables) (w : List ℕ) {a : Answer} where
   symmetrize_refused level e h = call_refused (symmetrized_compact (shifts_of T) level l) l (zeros_of w) w e h
 
   pub symmetrize_done : {v : List Float} {d : List ℕ} (level : ℕ) → a ≡ judged_levels l T w level → is_refusal a ≡ false
-      → v ≡ symmetrized_compact (shifts_of T) level l → d ≡ zeros_of w → (Done, v, d) ≡ perm_trans_symmetrize_compact_fc l T w level
+      → v ≡ symmetrized_compact (shifts_of T) level l → d ≡ zeros_of w → (Ok tt, v, d) ≡ perm_trans_symmetrize_compact_fc l T w level
   unfolding perm_trans_symmetrize_compact_fc
   symmetrize_done level e h ev ed = call_done (symmetrized_compact (shifts_of T) level l) l (zeros_of w) w e h ev ed

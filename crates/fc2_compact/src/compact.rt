@@ -13,7 +13,7 @@ use crate::pairs::{average_pass, transpose_pass};
 use crate::rows::{drift_pass, site_pass};
 use shifts::judge_compact;
 use tables::limits::{LIMIT_LEVEL, LIMIT2};
-use tables::{Answer, Refusal};
+use tables::Refusal;
 
 // One level: twice the transpose and the row drift, then the averages.
 fn level_pass(
@@ -116,7 +116,7 @@ fn judge(
     n_satom: usize,
     n_patom: usize,
     num_trans: usize,
-) -> Answer
+) -> Result<(), Refusal>
     ensures { let T : ShiftTables = shift_tables p2s.now s2pp.now nsym_list.now perms.now n_satom n_patom num_trans in result ≡ judged_compact limit2 1 set_len 1 work_len T }
 {
     judge_compact(
@@ -136,11 +136,11 @@ fn judge_levels(
     n_patom: usize,
     num_trans: usize,
     level: usize,
-) -> Answer
+) -> Result<(), Refusal>
     ensures { let T : ShiftTables = shift_tables p2s.now s2pp.now nsym_list.now perms.now n_satom n_patom num_trans in result ≡ refuse_if (ltb limit_level level) Refusal.CountAboveLimit (judged_compact limit2 1 set_len 1 work_len T) }
 {
     if level > LIMIT_LEVEL {
-        return Answer::Refused(Refusal::CountAboveLimit);
+        return Err(Refusal::CountAboveLimit);
     }
     judge(
         set_len, work_len, p2s, s2pp, nsym_list, perms, n_satom, n_patom, num_trans,
@@ -160,11 +160,11 @@ pub fn set_index_permutation_symmetry_compact_fc(
     n_patom: usize,
     num_trans: usize,
     transpose: bool,
-) -> Answer
+) -> Result<(), Refusal>
     ensures { let T = shift_tables p2s.now s2pp.now nsym_list.now perms.now n_satom n_patom num_trans in
         (result, fc.new, done.new) ≡ set_index_permutation_symmetry_compact_fc fc.old T done.old transpose }
 {
-    let a = judge(
+    judge(
         fc.len(),
         done.len(),
         p2s,
@@ -174,15 +174,12 @@ pub fn set_index_permutation_symmetry_compact_fc(
         n_satom,
         n_patom,
         num_trans,
-    );
-    if tables::is_refusal(a) {
-        return a;
-    }
+    )?;
     exchange(
         fc, p2s, s2pp, nsym_list, perms, n_satom, n_patom, num_trans, transpose,
     );
     lists::clear_bytes(done);
-    Answer::Done
+    Ok(())
 }
 
 // Exchanges the atoms of every pair of a compact set, those that a half shift exchanges too.
@@ -196,11 +193,11 @@ pub fn true_transpose_compact_fc2(
     n_satom: usize,
     n_patom: usize,
     num_trans: usize,
-) -> Answer
+) -> Result<(), Refusal>
     ensures { let T = shift_tables p2s.now s2pp.now nsym_list.now perms.now n_satom n_patom num_trans in
         (result, fc.new, done.new) ≡ true_transpose_compact_fc2 fc.old T done.old }
 {
-    let a = judge(
+    judge(
         fc.len(),
         done.len(),
         p2s,
@@ -210,15 +207,12 @@ pub fn true_transpose_compact_fc2(
         n_satom,
         n_patom,
         num_trans,
-    );
-    if tables::is_refusal(a) {
-        return a;
-    }
+    )?;
     transpose_pass(
         fc, p2s, s2pp, nsym_list, perms, n_satom, n_patom, num_trans, false,
     );
     lists::clear_bytes(done);
-    Answer::Done
+    Ok(())
 }
 
 // Symmetrizes a compact set: per level twice the transpose and the row drift, then the averages; at the end the on-site blocks.
@@ -233,11 +227,11 @@ pub fn perm_trans_symmetrize_compact_fc(
     n_patom: usize,
     num_trans: usize,
     level: usize,
-) -> Answer
+) -> Result<(), Refusal>
     ensures { let T = shift_tables p2s.now s2pp.now nsym_list.now perms.now n_satom n_patom num_trans in
         (result, fc.new, done.new) ≡ perm_trans_symmetrize_compact_fc fc.old T done.old level }
 {
-    let a = judge_levels(
+    judge_levels(
         fc.len(),
         done.len(),
         p2s,
@@ -248,13 +242,10 @@ pub fn perm_trans_symmetrize_compact_fc(
         n_patom,
         num_trans,
         level,
-    );
-    if tables::is_refusal(a) {
-        return a;
-    }
+    )?;
     symmetrize(
         fc, p2s, s2pp, nsym_list, perms, n_satom, n_patom, num_trans, level,
     );
     lists::clear_bytes(done);
-    Answer::Done
+    Ok(())
 }

@@ -1,6 +1,6 @@
 -- The loops of a full set of third order: they go over sorted atoms, whose blocks are the first of their groups.
 -- Assumes nothing.
-use Rattle.std.specs.Prelude.{◌≡◌, true, false, ℕ, ◌+◌, ◌*◌, ◌-◌, ◌≤◌, ◌<◌, List, [], ◌∷◌, length, Float}
+use Rattle.std.specs.Prelude.{Ok, ◌≡◌, true, false, ℕ, ◌+◌, ◌*◌, ◌-◌, ◌≤◌, ◌<◌, List, [], ◌∷◌, length, Float}
 use Rattle.std.proofs.Math.Path.{refl, sym, ap, ap₂}
 use Rattle.std.proofs.Common.{◌∙◌, subst, inl, inr, le_trans, le_refl, mul-le-mul, mul-le-mul_right}
 use native.Mathlib.Omega.{arith}
@@ -9,8 +9,7 @@ use Rattle.lists.specs.Tab.{times, times-add, times-same, times_nest, times-idle
 use Rattle.lists.specs.Elements.{All, pick}
 use Rattle.lists.specs.Digits.{horner, times_power, in_row}
 use Rattle.tables.specs.Limits.{limit3}
-use Rattle.tables.specs.declared.Answer.{Answer}
-use Rattle.tables.specs.declared.Answer.TheVariants.{Done}
+use Rattle.tables.specs.Answers.{Answer}
 use Rattle.tables.specs.Answers.{is_refusal, after, is_done, after_refusal, after-done}
 use Rattle.tables.specs.Full.{judged_full, done_full}
 use Rattle.tables.specs.Lengths.{set_length3}
@@ -303,7 +302,7 @@ module _ (set : List Float) (n : ℕ) (a : Answer) (e : a ≡ judged_full limit3
       let (few, long, _) = done_full limit3 2 (length set) [] n (sym e ∙ is_done a r) in
       record { atoms = few; set-length = long ∙ sym (size_whole n 2) }
 
-  pub full-done : is_refusal a ≡ false → {new : List Float} → new ≡ symmetrized nan mean6 (full_shifts n) 2 perms3 set → ◌≡◌ {A = Answer × List Float} (Done, new) (set_permutation_symmetry_fc3 set n)
+  pub full-done : is_refusal a ≡ false → {new : List Float} → new ≡ symmetrized nan mean6 (full_shifts n) 2 perms3 set → ◌≡◌ {A = Answer × List Float} (Ok tt, new) (set_permutation_symmetry_fc3 set n)
   unfolding set_permutation_symmetry_fc3
   full-done r {new} l =
       ap₂ (λ x y. (x, y)) (sym (is_done a r)) (l ∙ sym (after-done a (symmetrized nan mean6 (full_shifts n) 2 perms3 set) set r))

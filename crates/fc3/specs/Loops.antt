@@ -1,5 +1,5 @@
 -- The loops of third order: what the six blocks of a group are at given atoms, and the nested loops as one loop over all blocks. Assumes nothing.
-use Rattle.std.specs.Prelude.{◌≡◌, true, false, cond, ℕ, ◌+◌, ◌*◌, ◌≤◌, ◌<◌, List, [], ◌∷◌, eqb, length, get_or, replicate, Float}
+use Rattle.std.specs.Prelude.{Ok, ◌≡◌, true, false, cond, ℕ, ◌+◌, ◌*◌, ◌≤◌, ◌<◌, List, [], ◌∷◌, eqb, length, get_or, replicate, Float}
 use Rattle.std.proofs.Math.Path.{refl, ap, ap₂}
 use Rattle.std.proofs.Common.{sym, ◌∙◌, eq-eqb, ne_eqb}
 use native.Mathlib.Omega.{arith}
@@ -10,8 +10,7 @@ use Rattle.lists.specs.Elements.{pick}
 use Rattle.lists.specs.Digits.{horner, times_power, in_row}
 use Rattle.tables.specs.Shifts.{Shifts, p2s_at}
 use Rattle.tables.specs.Limits.{limit3}
-use Rattle.tables.specs.declared.Answer.{Answer}
-use Rattle.tables.specs.declared.Answer.TheVariants.{Done}
+use Rattle.tables.specs.Answers.{Answer}
 use Rattle.tables.specs.Answers.{is_refusal, after, is_done, refused_call, done_call}
 use Rattle.tables.specs.Conditions.{Readable, index_at, read}
 use Rattle.tables.specs.Compact.{ShiftTables, shifts_of, Compact, judged_compact, p2s_is}
@@ -263,9 +262,9 @@ module _ (set : List Float) (T : ShiftTables) (work : List ℕ) (a : Answer) (e 
   symmetrize_ready r = done_compact limit3 2 (length set) 2 (length work) T (sym e ∙ is_done a r)
 
   pub symmetrize_done : is_refusal a ≡ false → {new : List Float} {clear : List ℕ} → new ≡ symmetrized nan mean6 (shifts_of T) 2 perms3 set → clear ≡ replicate (length work) 0
-      → ◌≡◌ {A = Answer × List Float × List ℕ} (Done, new, clear) (set_permutation_symmetry_compact_fc3 set T work)
+      → ◌≡◌ {A = Answer × List Float × List ℕ} (Ok tt, new, clear) (set_permutation_symmetry_compact_fc3 set T work)
   unfolding set_permutation_symmetry_compact_fc3
   symmetrize_done r n w =
-      ap₂ (λ x y. (Done, x, y)) n w
+      ap₂ (λ x y. (Ok tt, x, y)) n w
       ∙ done_call a (symmetrized nan mean6 (shifts_of T) 2 perms3 set) set (replicate (length work) 0) work r
       ∙ ap (λ a. (a, after a (symmetrized nan mean6 (shifts_of T) 2 perms3 set) set, after a (replicate (length work) 0) work)) e

@@ -1,7 +1,7 @@
 -- The symmetrizers of third order (document 01, "Third and fourth order"): what the calls answer and what they leave. Definitions only.
 use Rattle.std.specs.Prelude.{List, [], ℕ, length, replicate, Float}
 use Rattle.std.specs.Float.{nan}
-use Rattle.tables.specs.declared.Answer.{Answer}
+use Rattle.tables.specs.Answers.{Answer}
 use Rattle.tables.specs.Answers.{after}
 use Rattle.tables.specs.Full.{judged_full}
 use Rattle.tables.specs.Compact.{ShiftTables, shifts_of, judged_compact}

@@ -14,7 +14,7 @@ use places::{block3, stored_block3};
 use shifts::judge_compact;
 use tables::atoms::{PrimAtom, SuperAtom, p2s_at};
 use tables::limits::LIMIT3;
-use tables::{Answer, is_refusal};
+use tables::Refusal;
 
 // The six blocks of a group are done.
 fn mark(done: &mut [u8], b0: usize, b1: usize, b2: usize, b3: usize, b4: usize, b5: usize)
@@ -226,11 +226,11 @@ pub fn set_permutation_symmetry_compact_fc3(
     n_satom: usize,
     n_patom: usize,
     num_trans: usize,
-) -> Answer
+) -> Result<(), Refusal>
     ensures { let T = shift_tables p2s.now s2pp.now nsym_list.now perms.now n_satom n_patom num_trans in
         (result, fc3.new, done.new) ≡ set_permutation_symmetry_compact_fc3 fc3.old T done.old }
 {
-    let a = judge_compact(
+    judge_compact(
         LIMIT3,
         2,
         fc3.len(),
@@ -243,12 +243,9 @@ pub fn set_permutation_symmetry_compact_fc3(
         n_satom,
         n_patom,
         num_trans,
-    );
-    if is_refusal(a) {
-        return a;
-    }
+    )?;
     symmetrize(
         fc3, p2s, s2pp, nsym_list, perms, done, n_satom, n_patom, num_trans,
     );
-    Answer::Done
+    Ok(())
 }

@@ -13,7 +13,7 @@ use places::full3;
 use tables::atoms::SuperAtom;
 use tables::limits::LIMIT3;
 use tables::sets::judge_full;
-use tables::{Answer, is_refusal};
+use tables::Refusal;
 
 // The group of a, a, a: one block.
 fn group_same(fc3: &mut [f64], num_atom: usize, a: SuperAtom)
@@ -112,13 +112,10 @@ pub fn symmetrize(fc3: &mut [f64], num_atom: usize)
 }
 
 // The set is symmetrized: all six permutations of any three legs hold the same number.
-pub fn set_permutation_symmetry_fc3(fc3: &mut [f64], num_atom: usize) -> Answer
+pub fn set_permutation_symmetry_fc3(fc3: &mut [f64], num_atom: usize) -> Result<(), Refusal>
     ensures { (result, fc3.new) ≡ set_permutation_symmetry_fc3 fc3.old num_atom }
 {
-    let a = judge_full(LIMIT3, 2, fc3.len(), num_atom);
-    if is_refusal(a) {
-        return a;
-    }
+    judge_full(LIMIT3, 2, fc3.len(), num_atom)?;
     symmetrize(fc3, num_atom);
-    Answer::Done
+    Ok(())
 }

@@ -1,5 +1,5 @@
 -- The symmetrizers' loops of fourth order, over any shift tables: one visit, all of them, and the calls. Assumes nothing.
-use Rattle.std.specs.Prelude.{◌≡◌, true, false, ℕ, ◌≤◌, ◌<◌, List, [], ◌∷◌, length, get_or, replicate, Float}
+use Rattle.std.specs.Prelude.{Ok, ◌≡◌, true, false, ℕ, ◌≤◌, ◌<◌, List, [], ◌∷◌, length, get_or, replicate, Float}
 use Rattle.std.proofs.Math.Path.{refl, sym, ap}
 use Rattle.std.proofs.Common.{ap₂, ◌∙◌, eq-eqb, ne_eqb}
 use Rattle.std.proofs.Math.ListN.{set}
@@ -9,8 +9,7 @@ use Rattle.lists.specs.Tab.{times}
 use Rattle.lists.specs.Digits.{times_power}
 use Rattle.tables.specs.Shifts.{Shifts, Laws}
 use Rattle.tables.specs.Limits.{limit4}
-use Rattle.tables.specs.declared.Answer.{Answer}
-use Rattle.tables.specs.declared.Answer.TheVariants.{Done}
+use Rattle.tables.specs.Answers.{Answer}
 use Rattle.tables.specs.Answers.{is_refusal, after, is_done, refused_call, done_call}
 use Rattle.tables.specs.Full.{judged_full, done_full}
 use Rattle.tables.specs.Compact.{ShiftTables, shifts_of, Compact, judged_compact}
@@ -86,7 +85,7 @@ module _ (S : Shifts) (set : List Float) (work : List ℕ) (a : Answer) where
   -- the work slice cleared, the loop run, and the work slice cleared again
   done-leaves : Laws S → length set ≡ size S 3 → length work ≡ times_power S.n_satom 3 S.n_patom → is_refusal a ≡ false → {cleared marked clear : List ℕ} {new : List Float}
       → cleared ≡ replicate (length work) 0 → ◌≡◌ {A = State} (new, marked) (times (length cleared) (visit_at S) (set, cleared)) → clear ≡ replicate (length marked) 0 → length marked ≡ length cleared
-      → ◌≡◌ {A = Answer × List Float × List ℕ} (Done, new, clear) (leaves a)
+      → ◌≡◌ {A = Answer × List Float × List ℕ} (Ok tt, new, clear) (leaves a)
   done-leaves L ls lw r {cleared} {marked} {clear} {new} c l z k =
       let lc : length cleared ≡ length work = ap length c ∙ length-replicate (length work) 0 in
       let B = times_power S.n_satom 3 S.n_patom in
@@ -94,7 +93,7 @@ module _ (S : Shifts) (set : List Float) (work : List ℕ) (a : Answer) where
       ap (λ s. s.0) l ∙ ap (λ n. (times n (visit_at S) (set, cleared)).0) (lc ∙ lw)
       ∙ marked-leaves mean24 S L 3 perms4 twenty_four_group set cleared ls (lc ∙ lw) (λ b h. ap (λ l. get_or l b 0) c ∙ get_or-replicate (length work) b 0 0 (rw lw h)) in
       let w : clear ≡ replicate (length work) 0 = z ∙ ap (λ m. replicate m 0) (k ∙ lc) in
-      ap₂ (λ x y. (Done, x, y)) n w
+      ap₂ (λ x y. (Ok tt, x, y)) n w
       ∙ done_call a (symmetrized nan mean24 S 3 perms4 set) set (replicate (length work) 0) work r
 
 -- the compact set
@@ -112,7 +111,7 @@ module _ (set : List Float) (T : ShiftTables) (work : List ℕ) (a : Answer) (e 
 
   pub symmetrize_done : is_refusal a ≡ false → {cleared marked clear : List ℕ} {new : List Float}
       → cleared ≡ replicate (length work) 0 → ◌≡◌ {A = State} (new, marked) (times (length cleared) (visit_at (shifts_of T)) (set, cleared)) → clear ≡ replicate (length marked) 0 → length marked ≡ length cleared
-      → ◌≡◌ {A = Answer × List Float × List ℕ} (Done, new, clear) (set_permutation_symmetry_compact_fc4 set T work)
+      → ◌≡◌ {A = Answer × List Float × List ℕ} (Ok tt, new, clear) (set_permutation_symmetry_compact_fc4 set T work)
   unfolding set_permutation_symmetry_compact_fc4
   symmetrize_done r c l z k =
       let R = symmetrize_ready r in
@@ -142,7 +141,7 @@ module _ (set : List Float) (work : List ℕ) (n : ℕ) (a : Answer) (e : a ≡ 
 
   pub full-done : is_refusal a ≡ false → {cleared marked clear : List ℕ} {new : List Float}
       → cleared ≡ replicate (length work) 0 → ◌≡◌ {A = State} (new, marked) (times (length cleared) (visit_at (full_shifts n)) (set, cleared)) → clear ≡ replicate (length marked) 0 → length marked ≡ length cleared
-      → ◌≡◌ {A = Answer × List Float × List ℕ} (Done, new, clear) (set_permutation_symmetry_fc4 set work n)
+      → ◌≡◌ {A = Answer × List Float × List ℕ} (Ok tt, new, clear) (set_permutation_symmetry_fc4 set work n)
   unfolding set_permutation_symmetry_fc4 full_shifts
   full-done r c l z k =
       let R = full-ready r in

@@ -11,7 +11,7 @@ use lists::clear_bytes;
 use positions::addresses;
 use shifts::judge_compact;
 use tables::limits::LIMIT4;
-use tables::{Answer, is_refusal};
+use tables::Refusal;
 
 // One visit: block b is passed over if its group was met before. Its own mark tells, since the marks of a group are set together.
 fn visit(
@@ -74,11 +74,11 @@ pub fn set_permutation_symmetry_compact_fc4(
     n_satom: usize,
     n_patom: usize,
     num_trans: usize,
-) -> Answer
+) -> Result<(), Refusal>
     ensures { let T = shift_tables p2s.now s2pp.now nsym_list.now perms.now n_satom n_patom num_trans in
         (result, fc4.new, done.new) ≡ set_permutation_symmetry_compact_fc4 fc4.old T done.old }
 {
-    let a = judge_compact(
+    judge_compact(
         LIMIT4,
         3,
         fc4.len(),
@@ -91,15 +91,12 @@ pub fn set_permutation_symmetry_compact_fc4(
         n_satom,
         n_patom,
         num_trans,
-    );
-    if is_refusal(a) {
-        return a;
-    }
+    )?;
     let t = addresses();
     clear_bytes(done);
     all_blocks(
         fc4, p2s, s2pp, nsym_list, perms, done, n_satom, n_patom, num_trans, &t,
     );
     clear_bytes(done);
-    Answer::Done
+    Ok(())
 }

@@ -14,7 +14,7 @@ use lists::clear_bytes;
 use positions::addresses;
 use tables::limits::LIMIT4;
 use tables::sets::{judge_full, set_blocks};
-use tables::{Answer, Refusal, is_refusal};
+use tables::Refusal;
 
 // One visit, as in a compact set.
 fn full_visit(fc4: &mut [f64], done: &mut [u8], num_atom: usize, t: &[u8; 1944], b: usize)
@@ -41,30 +41,24 @@ fn full_blocks(fc4: &mut [f64], done: &mut [u8], num_atom: usize, t: &[u8; 1944]
 }
 
 // Refusals 1 and 2, of the done table too.
-fn judge(set_len: usize, work_len: usize, num_atom: usize) -> Answer
+fn judge(set_len: usize, work_len: usize, num_atom: usize) -> Result<(), Refusal>
     ensures { result ≡ judged_full limit4 3 set_len ((work_len, set_blocks num_atom num_atom 3) ∷ []) num_atom }
 {
-    let a = judge_full(LIMIT4, 3, set_len, num_atom);
-    if is_refusal(a) {
-        return a;
-    }
+    judge_full(LIMIT4, 3, set_len, num_atom)?;
     if work_len == set_blocks(num_atom, num_atom, 3) {
-        return a;
+        return Ok(());
     }
-    Answer::Refused(Refusal::WrongLength)
+    Err(Refusal::WrongLength)
 }
 
 // The set is symmetrized: all 24 permutations of any four legs hold the same number. The done table comes in with anything and is left with zeros.
-pub fn set_permutation_symmetry_fc4(fc4: &mut [f64], done: &mut [u8], num_atom: usize) -> Answer
+pub fn set_permutation_symmetry_fc4(fc4: &mut [f64], done: &mut [u8], num_atom: usize) -> Result<(), Refusal>
     ensures { (result, fc4.new, done.new) ≡ set_permutation_symmetry_fc4 fc4.old done.old num_atom }
 {
-    let a = judge(fc4.len(), done.len(), num_atom);
-    if is_refusal(a) {
-        return a;
-    }
+    judge(fc4.len(), done.len(), num_atom)?;
     let t = addresses();
     clear_bytes(done);
     full_blocks(fc4, done, num_atom, &t);
     clear_bytes(done);
-    Answer::Done
+    Ok(())
 }

@@ -1,6 +1,6 @@
 -- The law of the calls used at tables and a set that exist: two atoms in the primitive cell and a half shift, any slices of the stated lengths, any set on
 -- the grid, and one that is named. And why the law asks for the grid: off it the mean of six turns on the order of its terms. Assumes nothing.
-use Rattle.std.specs.Prelude.{◌≡◌, List, [], ◌∷◌, ℕ, replicate, Float}
+use Rattle.std.specs.Prelude.{Ok, ◌≡◌, List, [], ◌∷◌, ℕ, replicate, Float}
 use Rattle.std.proofs.Math.Path.{refl, ap}
 use Rattle.std.proofs.Common.{◌∙◌}
 use Rattle.std.proofs.Math.ListN.{length}
@@ -8,7 +8,6 @@ use Rattle.std.proofs.lemmas.List.{length-replicate, get_or-replicate}
 use Rattle.std.specs.Float.Ieee.{nan, of_bits, add, div, sum, round}
 use Rattle.std.specs.Float.{binary64}
 use Rattle.lists.specs.Tests.{every, some}
-use Rattle.tables.specs.declared.Answer.TheVariants.{Done}
 use Rattle.tables.specs.Conditions.{out_of_range}
 use Rattle.tables.specs.Shifts.{row, p2s_at, s2pp_at, nsym_at, distinct, is_null, is_after, follows, counts_agree, rows_injective, has_null, rows_closed, rows_free, p2s_back, s2pp_kept, nsym_lands, ruled}
 use Rattle.tables.specs.Limits.{limit3, limit4}
@@ -27,21 +26,21 @@ use Rattle.grid.specs.Grid.{on_grid}
 use Rattle.laws.proofs.Instances.{four_atoms}
 use Rattle.laws.proofs.Calls.{read-out-left, third, fourth}
 
-pass-read : (judged_read_out limit3 2 1728 864 four_atoms ≡ Done) × (judged_read_out limit4 3 20736 10368 four_atoms ≡ Done)
+pass-read : (judged_read_out limit3 2 1728 864 four_atoms ≡ Ok tt) × (judged_read_out limit4 3 20736 10368 four_atoms ≡ Ok tt)
 unfolding judged_read_out set_length judged_tables judged_entries out_of_range ruled counts_agree rows_injective has_null rows_closed rows_free p2s_back s2pp_kept nsym_lands distinct is_null is_after follows row p2s_at s2pp_at nsym_at every some
 pass-read = (refl, refl)
 
-pass_compact : (judged_compact limit3 2 864 2 32 four_atoms ≡ Done) × (judged_compact limit4 3 10368 3 128 four_atoms ≡ Done)
+pass_compact : (judged_compact limit3 2 864 2 32 four_atoms ≡ Ok tt) × (judged_compact limit4 3 10368 3 128 four_atoms ≡ Ok tt)
 unfolding judged_compact set_length set_blocks judged_tables judged_entries out_of_range ruled counts_agree rows_injective has_null rows_closed rows_free p2s_back s2pp_kept nsym_lands distinct is_null is_after follows row p2s_at s2pp_at nsym_at every some
 pass_compact = (refl, refl)
 
 -- third order
 module _ (full set : List Float) (work : List ℕ) (l : length full ≡ 1728) (e : length set ≡ 864) (f : length work ≡ 32) where
-  read3 : (compact_to_full_fc3 full set four_atoms).0 ≡ Done
+  read3 : (compact_to_full_fc3 full set four_atoms).0 ≡ Ok tt
   unfolding compact_to_full
   read3 = rw (l, e) pass-read.0
 
-  compact3 : (set_permutation_symmetry_compact_fc3 set four_atoms work).0 ≡ Done
+  compact3 : (set_permutation_symmetry_compact_fc3 set four_atoms work).0 ≡ Ok tt
   unfolding set_permutation_symmetry_compact_fc3
   compact3 = rw (e, f) pass_compact.0
 
@@ -49,7 +48,7 @@ module _ (full set : List Float) (work : List ℕ) (l : length full ≡ 1728) (e
   unfolding size full_shifts set_length
   long3 = ap length (read-out-left limit3 2 full set four_atoms read3) ∙ length-full nan (shifts_of four_atoms) 2 set
 
-  full3 : (set_permutation_symmetry_fc3 (compact_to_full_fc3 full set four_atoms).1 4).0 ≡ Done
+  full3 : (set_permutation_symmetry_fc3 (compact_to_full_fc3 full set four_atoms).1 4).0 ≡ Ok tt
   unfolding set_permutation_symmetry_fc3 judged_full set_length
   full3 = rw long3 refl
 
@@ -72,11 +71,11 @@ third_of_ones full work l f = third-met full (replicate 864 one) work l (length-
 
 -- fourth order
 module _ (full set : List Float) (work fullWork : List ℕ) (l : length full ≡ 20736) (e : length set ≡ 10368) (f : length work ≡ 128) (h : length fullWork ≡ 256) where
-  read4 : (compact_to_full_fc4 full set four_atoms).0 ≡ Done
+  read4 : (compact_to_full_fc4 full set four_atoms).0 ≡ Ok tt
   unfolding compact_to_full
   read4 = rw (l, e) pass-read.1
 
-  compact4 : (set_permutation_symmetry_compact_fc4 set four_atoms work).0 ≡ Done
+  compact4 : (set_permutation_symmetry_compact_fc4 set four_atoms work).0 ≡ Ok tt
   unfolding set_permutation_symmetry_compact_fc4
   compact4 = rw (e, f) pass_compact.1
 
@@ -84,7 +83,7 @@ module _ (full set : List Float) (work fullWork : List ℕ) (l : length full ≡
   unfolding size full_shifts set_length
   long4 = ap length (read-out-left limit4 3 full set four_atoms read4) ∙ length-full nan (shifts_of four_atoms) 3 set
 
-  full4 : (set_permutation_symmetry_fc4 (compact_to_full_fc4 full set four_atoms).1 fullWork 4).0 ≡ Done
+  full4 : (set_permutation_symmetry_fc4 (compact_to_full_fc4 full set four_atoms).1 fullWork 4).0 ≡ Ok tt
   unfolding set_permutation_symmetry_fc4 judged_full set_length set_blocks
   full4 = rw (long4, h) refl
 

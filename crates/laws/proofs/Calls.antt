@@ -1,11 +1,10 @@
 -- Compact and full agree on the grid, said of the calls (document 02, A.11): where none of them is refused, a set that is read out and then
 -- symmetrized has the bits of one that is symmetrized and then read out. Assumes nothing.
-use Rattle.std.specs.Prelude.{◌≡◌, List, ℕ, length, Float}
+use Rattle.std.specs.Prelude.{Ok, ◌≡◌, List, ℕ, length, Float}
 use Rattle.std.proofs.Math.Path.{sym, ap}
 use Rattle.std.proofs.Common.{◌∙◌}
 use Rattle.std.specs.Float.Ieee.{nan}
-use Rattle.tables.specs.declared.Answer.{Answer}
-use Rattle.tables.specs.declared.Answer.TheVariants.{Done}
+use Rattle.tables.specs.Answers.{Answer}
 use Rattle.tables.specs.Answers.{is_refusal, after, after-done}
 use Rattle.tables.specs.Shifts.{Laws}
 use Rattle.tables.specs.Compact.{ShiftTables, shifts_of}
@@ -24,12 +23,12 @@ use Rattle.laws.specs.Agree.{GridSet}
 use Rattle.laws.proofs.AgreeLaws.{agrees3, agrees4}
 
 -- what a call leaves that is done
-left : {A : Type 0} (a : Answer) (new old : A) → a ≡ Done → after a new old ≡ new
+left : {A : Type 0} (a : Answer) (new old : A) → a ≡ Ok tt → after a new old ≡ new
 left a new old e = after-done a new old (ap is_refusal e)
 
 -- reading out: what is left, and what is known of the tables
-module _ (limit m : ℕ) (full set : List Float) (T : ShiftTables) (d : (compact_to_full limit m full set T).0 ≡ Done) where
-  judged : judged_read_out limit m (length full) (length set) T ≡ Done
+module _ (limit m : ℕ) (full set : List Float) (T : ShiftTables) (d : (compact_to_full limit m full set T).0 ≡ Ok tt) where
+  judged : judged_read_out limit m (length full) (length set) T ≡ Ok tt
   judged = unfold compact_to_full in d
 
   pub read-out-left : (compact_to_full limit m full set T).1 ≡ full_set nan (shifts_of T) m set
@@ -51,8 +50,8 @@ module _ (limit m : ℕ) (full set : List Float) (T : ShiftTables) (d : (compact
 
 -- THIRD ORDER
 module _ (T : ShiftTables) (full set : List Float) (work : List ℕ) where
-  pub third : (compact_to_full_fc3 full set T).0 ≡ Done → (third-order.set_permutation_symmetry_compact_fc3 set T work).0 ≡ Done
-      → (third-order.set_permutation_symmetry_fc3 (compact_to_full_fc3 full set T).1 T.n_satom).0 ≡ Done → GridSet set
+  pub third : (compact_to_full_fc3 full set T).0 ≡ Ok tt → (third-order.set_permutation_symmetry_compact_fc3 set T work).0 ≡ Ok tt
+      → (third-order.set_permutation_symmetry_fc3 (compact_to_full_fc3 full set T).1 T.n_satom).0 ≡ Ok tt → GridSet set
       → (third-order.set_permutation_symmetry_fc3 (compact_to_full_fc3 full set T).1 T.n_satom).1
       ≡ (compact_to_full_fc3 full (third-order.set_permutation_symmetry_compact_fc3 set T work).1 T).1
   third r c f g =
@@ -68,17 +67,17 @@ module _ (T : ShiftTables) (full set : List Float) (work : List ℕ) where
       ∙ sym (again limit3 2 full set T r C l)
       ∙ ap (λ s. (compact_to_full_fc3 full s T).1) (sym k)
     where
-      compact_left : (third-order.set_permutation_symmetry_compact_fc3 set T work).0 ≡ Done → (third-order.set_permutation_symmetry_compact_fc3 set T work).1 ≡ symmetrized nan mean6 (shifts_of T) 2 perms3 set
+      compact_left : (third-order.set_permutation_symmetry_compact_fc3 set T work).0 ≡ Ok tt → (third-order.set_permutation_symmetry_compact_fc3 set T work).1 ≡ symmetrized nan mean6 (shifts_of T) 2 perms3 set
       compact_left c = unfold third-order.set_permutation_symmetry_compact_fc3 in left _ (symmetrized nan mean6 (shifts_of T) 2 perms3 set) set c
 
-      full-left : (third-order.set_permutation_symmetry_fc3 (compact_to_full_fc3 full set T).1 T.n_satom).0 ≡ Done
+      full-left : (third-order.set_permutation_symmetry_fc3 (compact_to_full_fc3 full set T).1 T.n_satom).0 ≡ Ok tt
           → (third-order.set_permutation_symmetry_fc3 (compact_to_full_fc3 full set T).1 T.n_satom).1 ≡ symmetrized nan mean6 (full_shifts T.n_satom) 2 perms3 (compact_to_full_fc3 full set T).1
       full-left f = unfold third-order.set_permutation_symmetry_fc3 in left _ (symmetrized nan mean6 (full_shifts T.n_satom) 2 perms3 (compact_to_full_fc3 full set T).1) (compact_to_full_fc3 full set T).1 f
 
 -- FOURTH ORDER
 module _ (T : ShiftTables) (full set : List Float) (work fullWork : List ℕ) where
-  pub fourth : (compact_to_full_fc4 full set T).0 ≡ Done → (fourth-order.set_permutation_symmetry_compact_fc4 set T work).0 ≡ Done
-      → (fourth-order.set_permutation_symmetry_fc4 (compact_to_full_fc4 full set T).1 fullWork T.n_satom).0 ≡ Done → GridSet set
+  pub fourth : (compact_to_full_fc4 full set T).0 ≡ Ok tt → (fourth-order.set_permutation_symmetry_compact_fc4 set T work).0 ≡ Ok tt
+      → (fourth-order.set_permutation_symmetry_fc4 (compact_to_full_fc4 full set T).1 fullWork T.n_satom).0 ≡ Ok tt → GridSet set
       → (fourth-order.set_permutation_symmetry_fc4 (compact_to_full_fc4 full set T).1 fullWork T.n_satom).1
       ≡ (compact_to_full_fc4 full (fourth-order.set_permutation_symmetry_compact_fc4 set T work).1 T).1
   fourth r c f g =
@@ -93,10 +92,10 @@ module _ (T : ShiftTables) (full set : List Float) (work fullWork : List ℕ) wh
       ∙ sym (again limit4 3 full set T r C l)
       ∙ ap (λ s. (compact_to_full_fc4 full s T).1) (sym k)
     where
-      compact_left : (fourth-order.set_permutation_symmetry_compact_fc4 set T work).0 ≡ Done → (fourth-order.set_permutation_symmetry_compact_fc4 set T work).1 ≡ symmetrized nan mean24 (shifts_of T) 3 perms4 set
+      compact_left : (fourth-order.set_permutation_symmetry_compact_fc4 set T work).0 ≡ Ok tt → (fourth-order.set_permutation_symmetry_compact_fc4 set T work).1 ≡ symmetrized nan mean24 (shifts_of T) 3 perms4 set
       compact_left c = unfold fourth-order.set_permutation_symmetry_compact_fc4 in left _ (symmetrized nan mean24 (shifts_of T) 3 perms4 set) set c
 
-      full-left : (fourth-order.set_permutation_symmetry_fc4 (compact_to_full_fc4 full set T).1 fullWork T.n_satom).0 ≡ Done
+      full-left : (fourth-order.set_permutation_symmetry_fc4 (compact_to_full_fc4 full set T).1 fullWork T.n_satom).0 ≡ Ok tt
           → (fourth-order.set_permutation_symmetry_fc4 (compact_to_full_fc4 full set T).1 fullWork T.n_satom).1 ≡ symmetrized nan mean24 (full_shifts T.n_satom) 3 perms4 (compact_to_full_fc4 full set T).1
       full-left f =
           unfold fourth-order.set_permutation_symmetry_fc4 in left _ (symmetrized nan mean24 (full_shifts T.n_satom) 3 perms4 (compact_to_full_fc4 full set T).1) (compact_to_full_fc4 full set T).1 f

@@ -1,7 +1,7 @@
 -- The laws of demand 3, of the true transposes and of the swaps used at tables and lists that exist, where a weaker law would say nothing: two atoms in
 -- the primitive cell, with and without a half shift; repeated atoms; refused calls that bring other tables; lists of other lengths; legs named falling,
 -- and equal legs. The sets and work slices are any of the stated lengths. Assumes nothing.
-use Rattle.std.specs.Prelude.{◌≡◌, true, false, ℕ, zero, suc, ◌<◌, ℤ, pos, negsuc, length, get_or, Float}
+use Rattle.std.specs.Prelude.{Err, None, Ok, ◌≡◌, true, false, ℕ, zero, suc, ◌<◌, ℤ, pos, negsuc, length, get_or, Float}
 use Rattle.std.proofs.Math.Path.{refl, ap}
 use Rattle.std.proofs.Common.{sym, ◌∙◌, true≢false, suc-ne-zero, arith, lit<}
 use mathlib.Core.List.{List, [], ◌∷◌}
@@ -9,7 +9,6 @@ use Rattle.std.specs.Float.Ieee.{nan}
 use Rattle.lists.specs.Tab.{tab, tab_from}
 use Rattle.lists.specs.Tests.{every, some}
 use Rattle.lists.specs.Elements.{pick, straight}
-use Rattle.tables.specs.declared.Answer.TheVariants.{Done, Refused}
 use Rattle.tables.specs.declared.Refusal.TheVariants.{WrongLength, IndexOutOfRange}
 use Rattle.tables.specs.Answers.{is_refusal}
 use Rattle.tables.specs.Conditions.{out_of_range}
@@ -25,7 +24,6 @@ use Rattle.fc3.specs.Symmetrize.{set_permutation_symmetry_compact_fc3}
 use Rattle.fc4.specs.Mean24.{mean24}
 use Rattle.fc4.specs.Symmetrize.{set_permutation_symmetry_compact_fc4}
 use Rattle.transposes_fc3.specs.Fc3.{judged_transpose}
-use Rattle.audits.specs.declared.Audit.TheVariants.{Alike}
 use Rattle.audits.specs.Audit.{audit_compact}
 use Rattle.audits.specs.Demand.{index_in}
 use Rattle.laws.specs.Symmetrized.{Symmetric, third, fourth}
@@ -61,7 +59,7 @@ S6 = shifts_of six_atoms
 
 -- ---- the symmetrizers: sets of 2 × 4² × 27 and 2 × 4³ × 81 numbers
 
-passes : (judged_compact limit3 2 864 2 32 four_atoms ≡ Done) × (judged_compact limit4 3 10368 3 128 four_atoms ≡ Done)
+passes : (judged_compact limit3 2 864 2 32 four_atoms ≡ Ok tt) × (judged_compact limit4 3 10368 3 128 four_atoms ≡ Ok tt)
 unfolding judged_compact set_length set_blocks judged_tables judged_entries out_of_range ruled counts_agree rows_injective has_null rows_closed rows_free p2s_back s2pp_kept nsym_lands distinct is_null is_after follows row p2s_at s2pp_at nsym_at every some
 passes = (refl, refl)
 
@@ -69,7 +67,7 @@ module _ (set : List Float) (work : List ℕ) (e : length set ≡ 864) (f : leng
   abbrev new3 : List Float
   new3 = (set_permutation_symmetry_compact_fc3 set four_atoms work).1
 
-  done3 : (set_permutation_symmetry_compact_fc3 set four_atoms work).0 ≡ Done
+  done3 : (set_permutation_symmetry_compact_fc3 set four_atoms work).0 ≡ Ok tt
   unfolding set_permutation_symmetry_compact_fc3
   done3 = rw (e, f) passes.0
 
@@ -87,7 +85,7 @@ module _ (set : List Float) (work : List ℕ) (e : length set ≡ 864) (f : leng
       (at 1 (lit< tt), at 2 (lit< tt), at 3 (lit< tt), at 4 (lit< tt), at 5 (lit< tt))
 
   -- and an audit of what the call leaves says alike
-  pub third-audited : Alike ≡ audit_compact limit3 2 perms3 new3 four_atoms
+  pub third-audited : Ok None ≡ audit_compact limit3 2 perms3 new3 four_atoms
   third-audited = third-alike set four_atoms work done3
 
   -- one atom twice, in one direction and in another
@@ -98,14 +96,14 @@ module _ (set : List Float) (work : List ℕ) (e : length set ≡ 10368) (f : le
   abbrev new4 : List Float
   new4 = (set_permutation_symmetry_compact_fc4 set four_atoms work).1
 
-  done4 : (set_permutation_symmetry_compact_fc4 set four_atoms work).0 ≡ Done
+  done4 : (set_permutation_symmetry_compact_fc4 set four_atoms work).0 ≡ Ok tt
   unfolding set_permutation_symmetry_compact_fc4
   done4 = rw (e, f) passes.1
 
   pub fourth-holds : Symmetric mean24 S4 3 perms4 set new4
   fourth-holds = fourth set four_atoms work done4
 
-  pub fourth-audited : Alike ≡ audit_compact limit4 3 perms4 new4 four_atoms
+  pub fourth-audited : Ok None ≡ audit_compact limit4 3 perms4 new4 four_atoms
   fourth-audited = fourth-alike set four_atoms work done4
 
   -- the last of the 24 orders, for any legs, and for one leg three times
@@ -153,7 +151,7 @@ six-atoms-met (suc zero) ht h a ha = absurd (suc-ne-zero 3 (h 0 (lit< tt)))
 six-atoms-met (suc (suc zero)) ht h a ha = absurd (suc-ne-zero 1 (h 0 (lit< tt)))
 six-atoms-met (suc (suc (suc t))) ht h a ha = omega arith
 
-answers : (judged_transpose 1944 12 six_atoms ≡ Done) × (judged_transpose 1944 12 two_atoms ≡ Refused WrongLength)
+answers : (judged_transpose 1944 12 six_atoms ≡ Ok tt) × (judged_transpose 1944 12 two_atoms ≡ Err WrongLength)
 unfolding judged_compact set_length set_blocks judged_tables judged_entries out_of_range ruled counts_agree rows_injective has_null rows_closed rows_free p2s_back s2pp_kept nsym_lands distinct is_null is_after follows row p2s_at s2pp_at nsym_at every some
 answers = (refl, refl)
 
@@ -205,9 +203,9 @@ module _ (set : List Float) (work : List ℕ) (e : length set ≡ 1944) (f : len
 
 -- ---- the true transposes, over four atoms that a half shift exchanges
 
-true_answers : (judged_compact limit2 1 72 1 8 four_atoms ≡ Done) × (judged_compact limit2 1 72 1 8 six_atoms ≡ Refused WrongLength)
-    × (judged_compact limit3 2 864 1 8 four_atoms ≡ Done) × (judged_compact limit3 2 864 1 8 six_atoms ≡ Refused WrongLength)
-    × (judged_compact limit4 3 10368 1 8 four_atoms ≡ Done) × (judged_compact limit4 3 10368 1 8 six_atoms ≡ Refused WrongLength)
+true_answers : (judged_compact limit2 1 72 1 8 four_atoms ≡ Ok tt) × (judged_compact limit2 1 72 1 8 six_atoms ≡ Err WrongLength)
+    × (judged_compact limit3 2 864 1 8 four_atoms ≡ Ok tt) × (judged_compact limit3 2 864 1 8 six_atoms ≡ Err WrongLength)
+    × (judged_compact limit4 3 10368 1 8 four_atoms ≡ Ok tt) × (judged_compact limit4 3 10368 1 8 six_atoms ≡ Err WrongLength)
 unfolding judged_compact set_length set_blocks judged_tables judged_entries out_of_range ruled counts_agree rows_injective has_null rows_closed rows_free p2s_back s2pp_kept nsym_lands distinct is_null is_after follows row p2s_at s2pp_at nsym_at every some
 true_answers = (refl, refl, refl, refl, refl, refl)
 
@@ -315,8 +313,8 @@ swap_calls work =
     ∷ record { leg_a = 1; leg_b = 1; tables = four_atoms; work = work }
     ∷ record { leg_a = 3; leg_b = 1; tables = four_atoms; work = work } ∷ []
 
-swap-answers : (judged_swap 10368 8 four_atoms 0 2 ≡ Done) × (judged_swap 10368 8 four_atoms 4 0 ≡ Refused IndexOutOfRange)
-    × (judged_swap 10368 8 four_atoms 1 1 ≡ Done) × (judged_swap 10368 8 four_atoms 3 1 ≡ Done)
+swap-answers : (judged_swap 10368 8 four_atoms 0 2 ≡ Ok tt) × (judged_swap 10368 8 four_atoms 4 0 ≡ Err IndexOutOfRange)
+    × (judged_swap 10368 8 four_atoms 1 1 ≡ Ok tt) × (judged_swap 10368 8 four_atoms 3 1 ≡ Ok tt)
 unfolding judged_swap set_length set_blocks out_of_range ruled counts_agree rows_injective has_null rows_closed rows_free p2s_back s2pp_kept nsym_lands distinct is_null is_after follows row p2s_at s2pp_at nsym_at every some
 swap-answers = (refl, refl, refl, refl)
 

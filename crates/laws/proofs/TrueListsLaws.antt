@@ -1,10 +1,9 @@
 -- The law of sequences for the true transposes at second, third and fourth order, of specs/TrueLists.antt's kinds of calls. Assumes nothing.
-use Rattle.std.specs.Prelude.{◌≡◌, true, false, ℕ, suc, List, [], ◌∷◌, Float}
+use Rattle.std.specs.Prelude.{Ok, ◌≡◌, true, false, ℕ, suc, List, [], ◌∷◌, Float}
 use Rattle.std.proofs.Common.{ap, ◌∙◌, lit<}
 use Rattle.std.proofs.Math.ListN.{length}
 use Rattle.std.specs.Float.Ieee.{nan}
-use Rattle.tables.specs.declared.Answer.{Answer}
-use Rattle.tables.specs.declared.Answer.TheVariants.{Done}
+use Rattle.tables.specs.Answers.{Answer}
 use Rattle.tables.specs.Answers.{is_refusal, after, is_done, after_refusal, after-done}
 use Rattle.tables.specs.Limits.{limit2, limit3, limit4}
 use Rattle.tables.specs.Compact.{ShiftTables, shifts_of, judged_compact}
@@ -19,7 +18,7 @@ use Rattle.laws.specs.TrueLists.{length-swapped, read_swapped, true_kind, Sound,
 
 module _ {C P : Type 0} (m : ℕ) (tables : C → ShiftTables) (judge : ℕ → C → Answer) (legs : C → ℕ × ℕ)
     (fillBy : (List Leg → Float) → P) (feedBy : C → P → P) (askBy : P → List Leg → Float) where
-  module _ (sound : (n : ℕ) (c : C) → judge n c ≡ Done → Sound m tables judge legs fillBy feedBy askBy c)
+  module _ (sound : (n : ℕ) (c : C) → judge n c ≡ Ok tt → Sound m tables judge legs fillBy feedBy askBy c)
       (fills : (f : List Leg → Float) (xs : List Leg) → length xs ≡ suc m → askBy (fillBy f) xs ≡ f xs)
       (asks : (c : C) (t : P) (xs : List Leg) → length xs ≡ suc m → askBy (feedBy c t) xs ≡ askBy t (permute_legs (exchanging m (legs c).0 (legs c).1) xs))
       (T : ShiftTables) where

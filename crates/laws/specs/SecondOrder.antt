@@ -1,6 +1,6 @@
 -- What the symmetrizers of second order leave is alike: the averages of a compact set, and a full or a compact set symmetrized at one level or more.
 -- At level 0 only the on-site blocks are made anew, so a set that was not alike may stay so. Assumes nothing.
-use Rattle.std.specs.Prelude.{◌≡◌, refl, Bool, true, false, ◌&&◌, List, [], ◌∷◌, length, get_or}
+use Rattle.std.specs.Prelude.{None, Ok, ◌≡◌, refl, Bool, true, false, ◌&&◌, List, [], ◌∷◌, length, get_or}
 use Rattle.std.proofs.Math.Path.{sym, ap}
 use Rattle.std.proofs.Common.{ap₂, ◌∙◌, true≢false, inl, inr, arith, lit≤, eqb-true, eq-eqb, ne_eqb}
 use Rattle.std.proofs.Math.Bool.{cond}
@@ -14,7 +14,6 @@ use Rattle.lists.specs.Floats.{add_commutes}
 use Rattle.lists.specs.Members.{In}
 use Rattle.lists.specs.Tab.{times}
 use Rattle.lists.specs.Elements.{pick}
-use Rattle.tables.specs.declared.Answer.TheVariants.{Done}
 use Rattle.tables.specs.declared.Refusal.TheVariants.{CountAboveLimit}
 use Rattle.tables.specs.Answers.{is_refusal, after-done, passed}
 use Rattle.tables.specs.Conditions.{any_above}
@@ -35,7 +34,6 @@ use Rattle.fc2_compact.specs.Passes as passes
 use Rattle.fc2_compact.proofs.MeanLaws.{symmetric}
 use Rattle.fc2_compact.specs.Compact.{judged2, judged_levels, leveled, set_index_permutation_symmetry_compact_fc, perm_trans_symmetrize_compact_fc}
 use Rattle.fc2_compact.specs.Compact as compact
-use Rattle.audits.specs.declared.Audit.TheVariants.{Alike}
 use Rattle.audits.specs.Audit.{found_after, audit_compact, audit_full}
 use Rattle.audits.specs.Demand.{SameReadOuts}
 use Rattle.audits.proofs.DemandLaws.{alike_of}
@@ -120,17 +118,17 @@ module _ (S : Shifts) (L : Laws S) where
   levels_exchange (suc n) set h = on_site_exchanges _ (averaged-exchanges _)
 
 -- a compact set that is as long as it was, and whose legs may be exchanged
-pub left : (set new : List Float) (T : ShiftTables) (k lenWork : ℕ) → judged_compact limit2 1 (length set) k lenWork T ≡ Done
-    → length new ≡ size (shifts_of T) 1 → Exchanges (shifts_of T) new → Alike ≡ audit_compact limit2 1 perms2 new T
+pub left : (set new : List Float) (T : ShiftTables) (k lenWork : ℕ) → judged_compact limit2 1 (length set) k lenWork T ≡ Ok tt
+    → length new ≡ size (shifts_of T) 1 → Exchanges (shifts_of T) new → Ok None ≡ audit_compact limit2 1 perms2 new T
 unfolding size
 left set new T k lenWork e l h =
     let D = done_compact limit2 1 (length set) k lenWork T e in
-    let j : judged_set limit2 1 (length new) [] T ≡ Done = ap (λ n. judged_set limit2 1 n [] T) (l ∙ sym D.set-length) ∙ set-done limit2 1 (length set) k lenWork T e in
+    let j : judged_set limit2 1 (length new) [] T ≡ Ok tt = ap (λ n. judged_set limit2 1 n [] T) (l ∙ sym D.set-length) ∙ set-done limit2 1 (length set) k lenWork T e in
     compact_done limit2 1 perms2 new T j (sym (alike_of (shifts_of T) D.rules 1 perms2 two-group new (both (shifts_of T) new h)))
 
 -- the averages: `set_index_permutation_symmetry_compact_fc` without transpose
-pub second_averages_alike : (set : List Float) (T : ShiftTables) (work : List ℕ) → (set_index_permutation_symmetry_compact_fc set T work false).0 ≡ Done
-    → Alike ≡ audit_compact limit2 1 perms2 (set_index_permutation_symmetry_compact_fc set T work false).1 T
+pub second_averages_alike : (set : List Float) (T : ShiftTables) (work : List ℕ) → (set_index_permutation_symmetry_compact_fc set T work false).0 ≡ Ok tt
+    → Ok None ≡ audit_compact limit2 1 perms2 (set_index_permutation_symmetry_compact_fc set T work false).1 T
 unfolding set_index_permutation_symmetry_compact_fc
 second_averages_alike set T work e =
     let S = shifts_of T in
@@ -205,8 +203,8 @@ unfolding full.symmetrized_full on_site_blocks full.fill_full
 full-long n level set = length-fill (full_shifts n) 1 _
 
 -- `perm_trans_symmetrize_fc` at one level or more
-pub second-full-alike : (set : List Float) (n level : ℕ) → 1 ≤ level → (perm_trans_symmetrize_fc set n level).0 ≡ Done
-    → Alike ≡ audit_full limit2 1 perms2 (perm_trans_symmetrize_fc set n level).1 n
+pub second-full-alike : (set : List Float) (n level : ℕ) → 1 ≤ level → (perm_trans_symmetrize_fc set n level).0 ≡ Ok tt
+    → Ok None ≡ audit_full limit2 1 perms2 (perm_trans_symmetrize_fc set n level).1 n
 unfolding perm_trans_symmetrize_fc audit_full
 second-full-alike set n level h e =
     let new = full.symmetrized_full n level set in

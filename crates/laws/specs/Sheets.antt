@@ -1,6 +1,6 @@
 -- The starred sheets of document 01 ("Sheets to reproduce"), 1 to 9, together: `Sheets` says them, about the definitions that the calls' promises
 -- cite, and `sheets` of proofs/SheetsLaws.antt proves them. What a sheet leaves open, such as the other numbers of a set, old slots and work slices, holds for any. Assumes nothing.
-use Rattle.std.specs.Prelude.{◌≡◌, refl, true, false, List, [], ◌∷◌, map, ℕ, ◌+◌, ◌*◌, ◌/◌, ◌%◌, ◌^◌, ◌≤◌, ℤ, pos, negsuc, length, get_or, replicate, Float}
+use Rattle.std.specs.Prelude.{Ok, ◌≡◌, refl, true, false, List, [], ◌∷◌, map, ℕ, ◌+◌, ◌*◌, ◌/◌, ◌%◌, ◌^◌, ◌≤◌, ℤ, pos, negsuc, length, get_or, replicate, Float}
 use Rattle.std.proofs.Common.{ap, ◌∙◌}
 use Rattle.std.specs.Float.{nan, binary64}
 use Rattle.std.specs.Float.Ieee.{round, of_bits, to_bits, neg, add, div}
@@ -11,7 +11,6 @@ use Rattle.lists.specs.Members.{least_or, least, greatest, keep}
 use Rattle.lists.specs.Digits.{horner, times_power, rest, digits}
 use Rattle.common.specs.Whole.{nint}
 use Rattle.common.specs.Root.{sqrt}
-use Rattle.tables.specs.declared.Answer.TheVariants.{Done}
 use Rattle.tables.specs.Answers.{after}
 use Rattle.tables.specs.Conditions.{out_of_range}
 use Rattle.tables.specs.Shifts.{row, p2s_at, s2pp_at, nsym_at, distinct, is_null, is_after, follows, counts_agree, rows_injective, has_null, rows_closed, rows_free, p2s_back, s2pp_kept, nsym_lands, ruled}
@@ -92,23 +91,23 @@ pub record Sheets : Type 0 where
   -- 2. `sqrt` of 2 has the bits 3FF6A09E667F3BCD.
   pub sheet2 : to_bits binary64 (sqrt binary64 (f64 2)) ≡ 0x3FF6_A09E_667F_3BCD
   -- 3. Second order, one atom, any level (a level above 1,000 is refused): nine times -0.0.
-  pub sheet3 : (set : List Float) (level : ℕ) → length set ≡ 9 → level ≤ 1000 → perm_trans_symmetrize_fc set 1 level ≡ (Done, replicate 9 (neg (f64 0)))
+  pub sheet3 : (set : List Float) (level : ℕ) → length set ≡ 9 → level ≤ 1000 → perm_trans_symmetrize_fc set 1 level ≡ (Ok tt, replicate 9 (neg (f64 0)))
   -- 4. Level 0 on two atoms, where block (0, 1) has 2 at [0][1], 4 at [1][0] and else zeros: block (0, 0) is -3 at these two places, else -0.0.
   pub sheet4 : (set : List Float) → length set ≡ 36
       → block_at2 2 0 1 set ≡ f64 0 ∷ f64 2 ∷ f64 0 ∷ f64 4 ∷ f64 0 ∷ f64 0 ∷ f64 0 ∷ f64 0 ∷ f64 0 ∷ []
-      → ((perm_trans_symmetrize_fc set 2 0).0 ≡ Done)
+      → ((perm_trans_symmetrize_fc set 2 0).0 ≡ Ok tt)
       × (block_at2 2 0 0 (perm_trans_symmetrize_fc set 2 0).1
       ≡ neg (f64 0) ∷ neg (f64 3) ∷ neg (f64 0) ∷ neg (f64 3) ∷ neg (f64 0) ∷ neg (f64 0) ∷ neg (f64 0) ∷ neg (f64 0) ∷ neg (f64 0) ∷ [])
   -- 5. Third order, one atom with 1 to 6 at places 5, 7, 11, 15, 19 and 21: 3.5 at all of them.
   pub sheet5 : (set : List Float) → length set ≡ 27 → six_positions set ≡ f64 1 ∷ f64 2 ∷ f64 3 ∷ f64 4 ∷ f64 5 ∷ f64 6 ∷ []
-      → ((set_permutation_symmetry_fc3 set 1).0 ≡ Done) × (six_positions (set_permutation_symmetry_fc3 set 1).1 ≡ replicate 6 (35 over 10))
+      → ((set_permutation_symmetry_fc3 set 1).0 ≡ Ok tt) × (six_positions (set_permutation_symmetry_fc3 set 1).1 ≡ replicate 6 (35 over 10))
   -- 6. Three atoms in a ring, type 0: block (0, 1, 2) becomes the former block (0, 2, 1) with its first two directions exchanged.
   pub sheet6 : (set : List Float) (work : List ℕ) → length set ≡ 243 → length work ≡ 3
-      → ((transpose_compact_fc3 set three_atoms work (pos 0)).0 ≡ Done)
+      → ((transpose_compact_fc3 set three_atoms work (pos 0)).0 ≡ Ok tt)
       × (block_at 3 0 1 2 (transpose_compact_fc3 set three_atoms work (pos 0)).1 ≡ first_two_swapped (block_at 3 0 2 1 set))
   -- 7. Two atoms that a shift exchanges, type 0: blocks (0, 1, 0) and (0, 1, 1) do not change.
   pub sheet7 : (set : List Float) (work : List ℕ) → length set ≡ 108 → length work ≡ 2
-      → ((transpose_compact_fc3 set two_atoms work (pos 0)).0 ≡ Done)
+      → ((transpose_compact_fc3 set two_atoms work (pos 0)).0 ≡ Ok tt)
       × (block_at 2 0 1 0 (transpose_compact_fc3 set two_atoms work (pos 0)).1 ≡ block_at 2 0 1 0 set)
       × (block_at 2 0 1 1 (transpose_compact_fc3 set two_atoms work (pos 0)).1 ≡ block_at 2 0 1 1 set)
   -- 8. No positions: true. One position at the origin, and the same rotated, unit lattice: true at 2^-600; false at 0, the slot -1.
@@ -134,25 +133,25 @@ pub one-to-six : replicate 6 (mean_backwards (f64 1 ∷ f64 2 ∷ f64 3 ∷ f64 
 unfolding pick add div of_bits round
 one-to-six = refl
 
-pub one-atom : (set : List Float) → length set ≡ 27 → set_permutation_symmetry_fc3 set 1 ≡ (Done, symmetrized nan mean6 (full_shifts 1) 2 perms3 set)
+pub one-atom : (set : List Float) → length set ≡ 27 → set_permutation_symmetry_fc3 set 1 ≡ (Ok tt, symmetrized nan mean6 (full_shifts 1) 2 perms3 set)
 unfolding set_permutation_symmetry_fc3 judged_full set_length after
 one-atom set e =
-    let j : judged_full limit3 2 (length set) [] 1 ≡ Done = ap (λ n. judged_full limit3 2 n [] 1) e in
+    let j : judged_full limit3 2 (length set) [] 1 ≡ Ok tt = ap (λ n. judged_full limit3 2 n [] 1) e in
     ap (λ a. (a, after a (symmetrized nan mean6 (full_shifts 1) 2 perms3 set) set)) j
 
 -- ---- sheets 6 and 7
 
 -- the tables pass, with sets of 1 × 3² × 27 and 1 × 2² × 27 numbers and work slices of 1 × 3 and 1 × 2 bytes
-pub pass : (judged_transpose 243 3 three_atoms ≡ Done) × (judged_transpose 108 2 two_atoms ≡ Done)
+pub pass : (judged_transpose 243 3 three_atoms ≡ Ok tt) × (judged_transpose 108 2 two_atoms ≡ Ok tt)
 unfolding judged_compact set_length set_blocks judged_tables judged_entries out_of_range ruled counts_agree rows_injective has_null rows_closed rows_free p2s_back s2pp_kept nsym_lands distinct is_null is_after follows row p2s_at s2pp_at nsym_at every some
 pass = (refl, refl)
 
 -- a call of type 0 that is not refused
-pub type_0 : (T : ShiftTables) (n m : ℕ) (set : List Float) (work : List ℕ) → judged_transpose n m T ≡ Done → length set ≡ n → length work ≡ m
-    → transpose_compact_fc3 set T work (pos 0) ≡ (Done, transposed nan (shifts_of T) 0 set, replicate (length work) 0)
+pub type_0 : (T : ShiftTables) (n m : ℕ) (set : List Float) (work : List ℕ) → judged_transpose n m T ≡ Ok tt → length set ≡ n → length work ≡ m
+    → transpose_compact_fc3 set T work (pos 0) ≡ (Ok tt, transposed nan (shifts_of T) 0 set, replicate (length work) 0)
 unfolding transpose_compact_fc3 transposed_by after
 type_0 T n m set work j e f =
-    let i : judged_transpose (length set) (length work) T ≡ Done = rw (e, f) j in
+    let i : judged_transpose (length set) (length work) T ≡ Ok tt = rw (e, f) j in
     ap (λ a. (a, after a (transposed nan (shifts_of T) 0 set) set, after a (replicate (length work) 0) work)) i
 
 -- the three blocks that the sheets name
@@ -170,7 +169,7 @@ unfolding neg add div of_bits round
 six-minus-zeros = refl
 
 -- so a set of -0.0 stays
-pub minus-zeros-stay : set_permutation_symmetry_fc3 (replicate 27 (neg (f64 0))) 1 ≡ (Done, replicate 27 (neg (f64 0)))
+pub minus-zeros-stay : set_permutation_symmetry_fc3 (replicate 27 (neg (f64 0))) 1 ≡ (Ok tt, replicate 27 (neg (f64 0)))
 unfolding symmetrized mean_at leader first_block images in_block fill size set_length times_power place legs_of rest digits legs_at stored shift address horner row p2s_at s2pp_at nsym_at full_shifts perms3 pick straight tab tab_from least_or least greatest keep neg add div of_bits round
 minus-zeros-stay = one-atom (replicate 27 (neg (f64 0))) refl ∙ refl
 

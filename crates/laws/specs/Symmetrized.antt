@@ -2,11 +2,10 @@
 -- out identical bits, repeated atoms and half shifts included, and the value is the mean of document 01 (`IsMean`, crate `orbits`, specs/Mean).
 -- The model of IEEE 754 has one NaN, so "identical bits" is proved up to NaN: where one read-out is a NaN so is the other, with whatever payload.
 -- Assumes nothing.
-use Rattle.std.specs.Prelude.{◌≡◌, ℕ, List, length, Float}
+use Rattle.std.specs.Prelude.{Ok, ◌≡◌, ℕ, List, length, Float}
 use Rattle.std.proofs.Common.{ap}
 use Rattle.std.specs.Float.Ieee.{nan}
 use Rattle.lists.specs.Members.{In}
-use Rattle.tables.specs.declared.Answer.TheVariants.{Done}
 use Rattle.tables.specs.Answers.{is_refusal, after-done}
 use Rattle.tables.specs.Shifts.{Shifts, Laws}
 use Rattle.tables.specs.Limits.{limit3, limit4}
@@ -42,7 +41,7 @@ holds mean S m os L G old = record {
 }
 
 -- third order: all 6 permutations of any three legs
-pub third : (set : List Float) (T : ShiftTables) (work : List ℕ) → (set_permutation_symmetry_compact_fc3 set T work).0 ≡ Done
+pub third : (set : List Float) (T : ShiftTables) (work : List ℕ) → (set_permutation_symmetry_compact_fc3 set T work).0 ≡ Ok tt
     → Symmetric mean6 (shifts_of T) 2 perms3 set (set_permutation_symmetry_compact_fc3 set T work).1
 unfolding set_permutation_symmetry_compact_fc3
 third set T work e =
@@ -51,7 +50,7 @@ third set T work e =
     (holds mean6 (shifts_of T) 2 perms3 (done_compact limit3 2 (length set) 2 (length work) T e).rules six-group set)
 
 -- fourth order: all 24 permutations of any four legs
-pub fourth : (set : List Float) (T : ShiftTables) (work : List ℕ) → (set_permutation_symmetry_compact_fc4 set T work).0 ≡ Done
+pub fourth : (set : List Float) (T : ShiftTables) (work : List ℕ) → (set_permutation_symmetry_compact_fc4 set T work).0 ≡ Ok tt
     → Symmetric mean24 (shifts_of T) 3 perms4 set (set_permutation_symmetry_compact_fc4 set T work).1
 unfolding set_permutation_symmetry_compact_fc4
 fourth set T work e =

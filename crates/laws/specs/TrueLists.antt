@@ -1,14 +1,13 @@
 -- The law of sequences for the true transposes at second, third and fourth order: document 01's "Lists of transposes" without the half-shift condition.
 -- One proof for every rank and whatever legs the calls name; then the three calls, each over a plain table of its own. Assumes nothing.
-use Rattle.std.specs.Prelude.{◌≡◌, refl, ◌⊎◌, true, false, cond, ℕ, zero, suc, ◌<◌, List, [], ◌∷◌, ℤ, pos, negsuc, eqb, get_or, Float}
+use Rattle.std.specs.Prelude.{Ok, ◌≡◌, refl, ◌⊎◌, true, false, cond, ℕ, zero, suc, ◌<◌, List, [], ◌∷◌, ℤ, pos, negsuc, eqb, get_or, Float}
 use Rattle.std.proofs.Common.{sym, ap, ◌∙◌, inl, inr, lit<, eqb-true}
 use Rattle.std.proofs.Math.ListN.{length}
 use Rattle.std.specs.Float.Ieee.{nan}
 use Rattle.lists.specs.Tests.{split}
 use Rattle.lists.specs.Tab.{tab, tab_from}
 use Rattle.lists.specs.Elements.{pick, straight, pick-straight}
-use Rattle.tables.specs.declared.Answer.{Answer}
-use Rattle.tables.specs.declared.Answer.TheVariants.{Done}
+use Rattle.tables.specs.Answers.{Answer}
 use Rattle.tables.specs.Answers.{is_refusal, after}
 use Rattle.tables.specs.Shifts.{Shifts, Laws}
 use Rattle.tables.specs.Limits.{limit2, limit3, limit4}
@@ -65,7 +64,7 @@ module _ {C P : Type 0} (m : ℕ) (tables : C → ShiftTables) (judge : ℕ → 
   Sound c = Laws (shifts_of (tables c)) × ((legs c).0 < suc m) × ((legs c).1 < suc m)
 
 -- tables that pass the guard of a compact call keep the rules
-pub keeps_rules_lem : (limit m n w : ℕ) (T : ShiftTables) → judged_compact limit m n 1 w T ≡ Done → Laws (shifts_of T)
+pub keeps_rules_lem : (limit m n w : ℕ) (T : ShiftTables) → judged_compact limit m n 1 w T ≡ Ok tt → Laws (shifts_of T)
 keeps_rules_lem limit m n w T e = (done_compact limit m n 1 w T e).rules
 
 -- ---- second order: calls without a type, a table of two pairs

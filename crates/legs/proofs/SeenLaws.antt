@@ -13,7 +13,6 @@ use Rattle.lists.specs.Floats.{plus_zero}
 use Rattle.lists.specs.Digits.{times_power, rest, digits, length_digits, digits-below, quotient, remainder}
 use Rattle.lists.specs.Elements.{Below}
 use Rattle.blocks.specs.Block.{block, get_or-block}
-use Rattle.tables.specs.declared.Answer.TheVariants.{Done, Refused as RefusedBy}
 use Rattle.tables.specs.declared.Refusal.{Refusal}
 use Rattle.tables.specs.Shifts.{Shifts}
 use Rattle.tables.specs.Full.{judged_full}
@@ -24,7 +23,6 @@ use Rattle.places.specs.ReadOuts.{stored_in, stored_in_lem}
 use Rattle.read_out.specs.Blocks.{block_of, read_at_lem}
 use Rattle.audits.specs.Guard.{Ready, block_inside, stored-within, full_tables, whole-shifts}
 use Rattle.reports.specs.declared.seen.Seen.{Seen}
-use Rattle.reports.specs.declared.ReportAnswer.TheVariants.{Given, Refused}
 use Rattle.reports.specs.Loops.{look, look_at, look_numbers, nothing_seen, concluded}
 use Rattle.reports.specs.Seen.{rows-looked, look-same, report_of, after-done, after-refused}
 use Rattle.legs.specs.Legs.{insert_at, leg_sum, others, leg_sum_at, leg_report, leg_report_compact, leg_report_full}

@@ -1,6 +1,6 @@
 -- The sums that the loops make, block by stored block, are those of the definition, one after another, and so is the call's answer. For every rank at
 -- once. Assumes nothing.
-use Rattle.std.specs.Prelude.{◌≡◌, length, replicate, Float}
+use Rattle.std.specs.Prelude.{Err, Ok, ◌≡◌, length, replicate, Float}
 use Rattle.std.proofs.Math.Path.{refl, sym, ap, ap₂}
 use Rattle.std.proofs.Common.{◌∙◌, mod-eq_of_lt, not-suc-le-zero, suc-ne-zero, le_refl, arith, length-set, get_or-set_other}
 use mathlib.Core.List.{List, [], ◌∷◌}
@@ -14,7 +14,6 @@ use Rattle.lists.specs.Floats.{plus_zero}
 use Rattle.lists.specs.Digits.{times_power, rest, digits, length_digits, digits-below, quotient, remainder}
 use Rattle.lists.specs.Elements.{Below}
 use Rattle.blocks.specs.Block.{block, get_or-block}
-use Rattle.tables.specs.declared.Answer.TheVariants.{Done, Refused as RefusedBy}
 use Rattle.tables.specs.declared.Refusal.{Refusal}
 use Rattle.tables.specs.Shifts.{Shifts}
 use Rattle.tables.specs.Full.{judged_full}
@@ -25,7 +24,6 @@ use Rattle.places.specs.ReadOuts.{stored_in, stored_in_lem}
 use Rattle.read_out.specs.Blocks.{block_of, read_at_lem}
 use Rattle.audits.specs.Guard.{Ready, block_inside, stored-within, full_tables, whole-shifts}
 use Rattle.reports.specs.declared.seen.Seen.{Seen}
-use Rattle.reports.specs.declared.ReportAnswer.TheVariants.{Given, Refused}
 use Rattle.reports.specs.Loops.{look, look_at, look_numbers, nothing_seen, concluded}
 use Rattle.reports.specs.Seen.{rows-looked, look-same, report_of, after-done, after-refused}
 use Rattle.legs.specs.Legs.{insert_at, leg_sum, others, leg_sum_at, leg_report, leg_report_compact, leg_report_full}
@@ -200,18 +198,18 @@ leg-inside limit m len T R h leg t i ht hi w e =
 -- ---- the answer
 
 module _ (limit m : ℕ) (set : List Float) where
-  pub compact_given : (T : ShiftTables) → judged_set limit m (length set) [] T ≡ Done → {c : Seen} → c ≡ all_seen (shifts_of T) m set → Given (concluded c) ≡ leg_report_compact limit m set T
+  pub compact_given : (T : ShiftTables) → judged_set limit m (length set) [] T ≡ Ok tt → {c : Seen} → c ≡ all_seen (shifts_of T) m set → Ok (concluded c) ≡ leg_report_compact limit m set T
   unfolding leg_report_compact
   compact_given T e f = after-done e (report_is (shifts_of T) m set f)
 
-  pub compact_refused : (T : ShiftTables) (r : Refusal) → judged_set limit m (length set) [] T ≡ RefusedBy r → Refused r ≡ leg_report_compact limit m set T
+  pub compact_refused : (T : ShiftTables) (r : Refusal) → judged_set limit m (length set) [] T ≡ Err r → Err r ≡ leg_report_compact limit m set T
   unfolding leg_report_compact
   compact_refused T r e = after-refused (leg_report (shifts_of T) m set) e
 
-  pub full-given : (n : ℕ) → judged_full limit m (length set) [] n ≡ Done → {c : Seen} → c ≡ all_seen (shifts_of (full_tables n)) m set → Given (concluded c) ≡ leg_report_full limit m set n
+  pub full-given : (n : ℕ) → judged_full limit m (length set) [] n ≡ Ok tt → {c : Seen} → c ≡ all_seen (shifts_of (full_tables n)) m set → Ok (concluded c) ≡ leg_report_full limit m set n
   unfolding leg_report_full
   full-given n e f = after-done e (report_is (full_shifts n) m set (f ∙ ap (λ S. all_seen S m set) (whole-shifts n)))
 
-  pub full-refused : (n : ℕ) (r : Refusal) → judged_full limit m (length set) [] n ≡ RefusedBy r → Refused r ≡ leg_report_full limit m set n
+  pub full-refused : (n : ℕ) (r : Refusal) → judged_full limit m (length set) [] n ≡ Err r → Err r ≡ leg_report_full limit m set n
   unfolding leg_report_full
   full-refused n r e = after-refused (leg_report (full_shifts n) m set) e

@@ -1,6 +1,7 @@
 -- The drift report over the rank: the sums over each leg of the read-out. A set of second, third or fourth order has m + 1 legs, m = 1, 2, 3.
 -- Definitions only.
-use Rattle.std.specs.Prelude.{List, [], ◌∷◌, ℕ, zero, suc, ◌*◌, ◌-◌, ◌/◌, ◌%◌, length, Float}
+use Rattle.tables.specs.declared.Refusal.{Refusal}
+use Rattle.std.specs.Prelude.{Result, List, [], ◌∷◌, ℕ, zero, suc, ◌*◌, ◌-◌, ◌/◌, ◌%◌, length, Float}
 use Rattle.std.specs.Float.{nan, binary64}
 use Rattle.std.specs.Float.Ieee.{add}
 use Rattle.lists.specs.Tab.{times}
@@ -11,7 +12,6 @@ use Rattle.tables.specs.Full.{judged_full}
 use Rattle.tables.specs.Compact.{ShiftTables, shifts_of, judged_set}
 use Rattle.places.specs.Places.{legs_of, read_out, in_block, full_shifts}
 use Rattle.reports.specs.declared.Report.{Report}
-use Rattle.reports.specs.declared.ReportAnswer.{ReportAnswer}
 use Rattle.reports.specs.Report.{report, reported_after}
 
 -- atom i as that of leg `leg`, ks the atoms of the other legs
@@ -41,8 +41,8 @@ module _ (S : Shifts) (m : ℕ) (set : List Float) where
   leg_report = report (suc m * others * in_block m) leg_sum_at
 
 -- the calls: of a compact set, and of a full set, in which every atom is its own representative
-unfoldable pub leg_report_compact : ℕ → ℕ → List Float → ShiftTables → ReportAnswer
+unfoldable pub leg_report_compact : ℕ → ℕ → List Float → ShiftTables → Result Report Refusal
 leg_report_compact limit m set T = reported_after (judged_set limit m (length set) [] T) (leg_report (shifts_of T) m set)
 
-unfoldable pub leg_report_full : ℕ → ℕ → List Float → ℕ → ReportAnswer
+unfoldable pub leg_report_full : ℕ → ℕ → List Float → ℕ → Result Report Refusal
 leg_report_full limit m set n = reported_after (judged_full limit m (length set) [] n) (leg_report (full_shifts n) m set)

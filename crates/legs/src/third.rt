@@ -10,9 +10,9 @@ ghost use Rattle.legs.specs.Laws.{leg_block, block_sums, leg_seen, all_seen};
 use crate::add_all;
 use places::{column_of, index_of, row_of, stored_block3};
 use reports::seen::{Seen, look_numbers, start};
-use reports::{ReportAnswer, conclude};
+use reports::{Report, conclude};
 use shifts::judge_set;
-use tables::Answer;
+use tables::Refusal;
 use tables::atoms::SuperAtom;
 use tables::limits::LIMIT3;
 
@@ -143,11 +143,11 @@ pub fn drift_report_compact_fc3(
     n_satom: usize,
     n_patom: usize,
     num_trans: usize,
-) -> ReportAnswer
+) -> Result<Report, Refusal>
     ensures { let T = shift_tables p2s.now s2pp.now nsym_list.now perms.now n_satom n_patom num_trans in
         result ≡ leg_report_compact limit3 2 fc.now T }
 {
-    let a = judge_set(
+    judge_set(
         LIMIT3,
         2,
         fc.len(),
@@ -158,12 +158,7 @@ pub fn drift_report_compact_fc3(
         n_satom,
         n_patom,
         num_trans,
-    );
-    match a {
-        Answer::Refused(r) => ReportAnswer::Refused(r),
-        Answer::Done => {
-            let seen = scan(fc, p2s, s2pp, nsym_list, perms, n_satom, n_patom, num_trans);
-            ReportAnswer::Given(conclude(seen))
-        }
-    }
+    )?;
+    let seen = scan(fc, p2s, s2pp, nsym_list, perms, n_satom, n_patom, num_trans);
+    Ok(conclude(seen))
 }

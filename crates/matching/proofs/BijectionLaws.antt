@@ -1,6 +1,6 @@
 -- True is answered exactly if no slot is left over, and then the slots are a bijection of near pairs (document 01, "Matched atoms").
 -- Assumes nothing.
-use Rattle.std.specs.Prelude.{◌≡◌, refl, Bool, true, false, cond, not, ◌⊎◌, ◌↔◌, List, [], ◌∷◌, ltb, ℤ, pos, negsuc, length, set, replicate, Float}
+use Rattle.std.specs.Prelude.{Ok, ◌≡◌, refl, Bool, true, false, cond, not, ◌⊎◌, ◌↔◌, List, [], ◌∷◌, ltb, ℤ, pos, negsuc, length, set, replicate, Float}
 use Rattle.std.proofs.Common.{sym, ap, ◌∙◌, subst, true≢false, inl, inr, not-suc-le-zero, arith, length-set, get_or-set_same, get_or-set_other}
 use Prim.Native.Nat.{ℕ, zero, suc, ◌≤◌, ◌<◌}
 use Rattle.std.proofs.lemmas.List.{length-replicate, get_or-replicate}
@@ -9,7 +9,6 @@ use Rattle.std.proofs.lemmas.Bool.{not-true}
 use Rattle.lists.specs.Cases.{lt_or_le, eq_or_ne}
 use Rattle.lists.specs.Tests.{and_fst, and_snd, not-both}
 use Rattle.lists.specs.Tab.{times}
-use Rattle.tables.specs.declared.Answer.TheVariants.{Done}
 use Rattle.distances.specs.declared.Cell.{Cell}
 use Rattle.distances.specs.Near.{near, distance}
 use Rattle.matching.specs.declared.cells.Pair.{Pair}
@@ -222,7 +221,7 @@ matched_is true c p = refl
 matched_is false true p = refl
 matched_is false false p = refl
 
-module _ (slots : List ℤ) (cell : Cell) (positions rotated : List Float) (n : ℕ) (taken-on : judged_matching (length slots) (length positions) (length rotated) n ≡ Done) where
+module _ (slots : List ℤ) (cell : Cell) (positions rotated : List Float) (n : ℕ) (taken-on : judged_matching (length slots) (length positions) (length rotated) n ≡ Ok tt) where
   abbrev left : List ℤ
   left = (compute_permutation slots cell positions rotated n).1
 

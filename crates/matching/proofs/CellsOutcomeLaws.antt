@@ -1,12 +1,11 @@
 -- What `compute_permutation` is where the call is refused, and where it is not. Assumes nothing.
-use Rattle.std.specs.Prelude.{◌≡◌, true, false, cond, ℕ, ◌*◌, ◌≤◌, ℤ, negsuc, replicate, Float}
+use Rattle.std.specs.Prelude.{Err, Ok, ◌≡◌, true, false, cond, ℕ, ◌*◌, ◌≤◌, ℤ, negsuc, replicate, Float}
 use Rattle.std.proofs.Math.Path.{refl, ap}
 use Rattle.std.proofs.Common.{sym, ap₂, ◌∙◌}
 use mathlib.Core.List.{List, [], ◌∷◌}
 use Rattle.std.proofs.Math.ListN.{length, length-replicate}
 use Rattle.lists.specs.Tab.{times}
-use Rattle.tables.specs.declared.Answer.{Answer}
-use Rattle.tables.specs.declared.Answer.TheVariants.{Done, Refused as RefusedBy}
+use Rattle.tables.specs.Answers.{Answer}
 use Rattle.tables.specs.declared.Refusal.{Refusal}
 use Rattle.tables.specs.declared.Refusal.TheVariants.{CountAboveLimit, WrongLength}
 use Rattle.tables.specs.Answers.{refuse_if, passed}
@@ -29,13 +28,13 @@ pub record Accepted (lenSlots lenPos lenRot n : ℕ) : Type 0 where
   pub slots_len : lenSlots ≡ n
   pub triples : Triples n lenPos lenRot
 
-pub accepted : (lenSlots lenPos lenRot n : ℕ) → judged_matching lenSlots lenPos lenRot n ≡ Done → Accepted lenSlots lenPos lenRot n
+pub accepted : (lenSlots lenPos lenRot n : ℕ) → judged_matching lenSlots lenPos lenRot n ≡ Ok tt → Accepted lenSlots lenPos lenRot n
 unfolding judged_matching
 accepted s p r n e =
     let ls : List (ℕ × ℕ) = (s, n) ∷ (p, 3 * n) ∷ (r, 3 * n) ∷ [] in
-    let (a, next) = passed (any_above limit2 (n ∷ [])) CountAboveLimit (refuse_if (any_wrong ls) WrongLength Done) e in
+    let (a, next) = passed (any_above limit2 (n ∷ [])) CountAboveLimit (refuse_if (any_wrong ls) WrongLength (Ok tt)) e in
     let small = not_above limit2 (n ∷ []) a in
-    let lens = not-wrong ls (passed (any_wrong ls) WrongLength Done next).0 in
+    let lens = not-wrong ls (passed (any_wrong ls) WrongLength (Ok tt) next).0 in
     record { small = small.0; slots_len = lens.0; triples = record { pos_len = lens.1.0; rot_len = lens.1.1.0 } }
 
 length-placed : (dist : ℕ → ℕ → Distance) (n : ℕ) → length (matched_up_to (near_by dist) n) ≡ n
@@ -73,16 +72,16 @@ module _ (slots : List ℤ) (cell : Cell) (positions rotated : List Float) (n : 
   guard = judged_matching (length slots) (length positions) (length rotated) n
 
   -- a refused call leaves the slots
-  pub refused : (r : Refusal) → guard ≡ RefusedBy r → (Refused r, slots) ≡ compute_permutation slots cell positions rotated n
+  pub refused : (r : Refusal) → guard ≡ Err r → (Refused r, slots) ≡ compute_permutation slots cell positions rotated n
   unfolding compute_permutation answered
   refused r e = rw e
 
-  pub done : guard ≡ Done → searched (distance cell positions rotated) n ≡ compute_permutation slots cell positions rotated n
+  pub done : guard ≡ Ok tt → searched (distance cell positions rotated) n ≡ compute_permutation slots cell positions rotated n
   unfolding compute_permutation answered
   done e = rw e
 
   -- the same, with what the search leaves
-  pub ended : guard ≡ Done
+  pub ended : guard ≡ Ok tt
       → (cond (all_filled (matched_up_to (near cell positions rotated) n)) Matched (failed_by n (first_none (distance cell positions rotated) n)), matched_up_to (near cell positions rotated) n)
       ≡ compute_permutation slots cell positions rotated n
   unfolding searched

@@ -1,12 +1,11 @@
 -- What greedy leaves is where the search starts, and the ways in which the call ends. Assumes nothing.
-use Rattle.std.specs.Prelude.{◌≡◌, Bool, true, false, ℕ, ◌≤◌, ◌<◌, ltb, ℤ, negsuc, length, replicate, Float}
+use Rattle.std.specs.Prelude.{Err, Ok, ◌≡◌, Bool, true, false, ℕ, ◌≤◌, ◌<◌, ltb, ℤ, negsuc, length, replicate, Float}
 use Rattle.std.proofs.Math.Path.{refl, ap}
 use Rattle.std.proofs.Common.{sym, ◌∙◌, subst, true≢false, eq-eqb, ne_eqb}
 use Rattle.std.proofs.lemmas.Bool.{false≢true}
 use mathlib.Core.List.{List, [], ◌∷◌}
 use Rattle.lists.specs.Tests.{not-both}
-use Rattle.tables.specs.declared.Answer.{Answer}
-use Rattle.tables.specs.declared.Answer.TheVariants.{Done, Refused as RefusedBy}
+use Rattle.tables.specs.Answers.{Answer}
 use Rattle.tables.specs.declared.Refusal.{Refusal}
 use Rattle.tables.specs.declared.Refusal.TheVariants.{WrongLength}
 use Rattle.tables.specs.Answers.{is_refusal, refuse_if, and_then, first_refuses, first_passes, both-done, passed}
@@ -126,18 +125,18 @@ pub record Accepted (lenSlots lenMarks lenPos lenRot n : ℕ) : Type 0 where
   pub marks-len : lenMarks ≡ n
   pub triples : Triples n lenPos lenRot
 
-pub accepted : (s m p r n : ℕ) → judged_finding s m p r n ≡ Done → Accepted s m p r n
+pub accepted : (s m p r n : ℕ) → judged_finding s m p r n ≡ Ok tt → Accepted s m p r n
 unfolding judged_finding
 accepted s m p r n e =
     let (d, next) = both-done (judged_matching s p r n) _ e in
     let A = cells.accepted s p r n d in
-    let lens = not-wrong ((m, n) ∷ []) (passed (any_wrong ((m, n) ∷ [])) WrongLength Done next).0 in
+    let lens = not-wrong ((m, n) ∷ []) (passed (any_wrong ((m, n) ∷ [])) WrongLength (Ok tt) next).0 in
     record { small = A.small; slots_len = A.slots_len; marks-len = lens.0; triples = A.triples }
 
 -- the guard by that of the positions: a is what it answers
 module _ (s m p r n : ℕ) (a : Answer) (e : a ≡ judged_matching s p r n) where
   abbrev next : Answer
-  next = refuse_if (any_wrong ((m, n) ∷ [])) WrongLength Done
+  next = refuse_if (any_wrong ((m, n) ∷ [])) WrongLength (Ok tt)
 
   pub positions-refused : is_refusal a ≡ true → a ≡ judged_finding s m p r n
   unfolding judged_finding
@@ -147,19 +146,19 @@ module _ (s m p r n : ℕ) (a : Answer) (e : a ≡ judged_matching s p r n) wher
   unfolding judged_finding
   marks-next h = first_passes a next h ∙ ap (λ b. and_then b next) e
 
-  pub marks-wrong : is_refusal a ≡ false → (m ≡ n → ⊥) → RefusedBy WrongLength ≡ judged_finding s m p r n
-  marks-wrong h d = let w : RefusedBy WrongLength ≡ next = rw (ne_eqb m n d) refl in w ∙ marks-next h
+  pub marks-wrong : is_refusal a ≡ false → (m ≡ n → ⊥) → Err WrongLength ≡ judged_finding s m p r n
+  marks-wrong h d = let w : Err WrongLength ≡ next = rw (ne_eqb m n d) refl in w ∙ marks-next h
 
-  pub marks-right : is_refusal a ≡ false → m ≡ n → Done ≡ judged_finding s m p r n
-  marks-right h q = let w : Done ≡ next = rw (eq-eqb m n q) refl in w ∙ marks-next h
+  pub marks-right : is_refusal a ≡ false → m ≡ n → Ok tt ≡ judged_finding s m p r n
+  marks-right h q = let w : Ok tt ≡ next = rw (eq-eqb m n q) refl in w ∙ marks-next h
 
 module _ (slots : List ℤ) (marks : List ℕ) (cell : Cell) (positions rotated : List Float) (n : ℕ) where
   abbrev guard : Answer
   guard = judged_finding (length slots) (length marks) (length positions) (length rotated) n
 
   -- a refused call leaves what it was lent
-  pub refused : (r : Refusal) → guard ≡ RefusedBy r → Promise slots marks cell positions rotated n (Refused r, slots, marks)
+  pub refused : (r : Refusal) → guard ≡ Err r → Promise slots marks cell positions rotated n (Refused r, slots, marks)
   refused r e = rw e refl
 
-  pub finished : (k : ℕ) (r : Finding × List ℤ × List ℕ) → guard ≡ Done → k ≡ n → Result (near cell positions rotated) k r → Promise slots marks cell positions rotated n r
+  pub finished : (k : ℕ) (r : Finding × List ℤ × List ℕ) → guard ≡ Ok tt → k ≡ n → Result (near cell positions rotated) k r → Promise slots marks cell positions rotated n r
   finished k r e q R = rw e (subst (λ (k : ℕ). Result (near cell positions rotated) k r) q R)

@@ -1,14 +1,13 @@
 -- What the answer of a call tells (document 02, A.6): a match is found exactly if one exists, the group that is marked rules every match out, and where
 -- greedy succeeds its match is returned. Assumes nothing.
-use Rattle.std.specs.Prelude.{◌≡◌, refl, ◌⊎◌, Bool, cond, ℕ, ◌≤◌, ℤ, negsuc, length, get_or, Float}
+use Rattle.std.specs.Prelude.{Err, Ok, ◌≡◌, refl, ◌⊎◌, Bool, cond, ℕ, ◌≤◌, ℤ, negsuc, length, get_or, Float}
 use Rattle.std.proofs.Math.Path.{sym, ap}
 use Rattle.std.proofs.Common.{◌∙◌, subst, inl, inr}
 use Rattle.std.proofs.Math.Bool.{true, false}
 use mathlib.Core.List.{List}
 use Rattle.std.proofs.Math.ListN.{replicate}
 use Rattle.lists.specs.Tests.{split, not-both}
-use Rattle.tables.specs.declared.Answer.{Answer}
-use Rattle.tables.specs.declared.Answer.TheVariants.{Done, Refused as RefusedBy}
+use Rattle.tables.specs.Answers.{Answer}
 use Rattle.distances.specs.declared.Cell.{Cell}
 use Rattle.distances.specs.Near.{near}
 use Rattle.matching.specs.Matching.{is_matched, judged_matching, compute_permutation}
@@ -98,14 +97,14 @@ module _ (slots : List ℤ) (marks : List ℕ) (cell : Cell) (positions rotated 
 
   -- a call that answers Found or NoMatch was not refused
   if_found : (a : Answer) → Answered a slots marks is_near n r → is_found r.0 ≡ true → Result is_near n r
-  if_found Done A e = A
-  if_found (RefusedBy q) A e = absurd (not-both e (ap (λ (x : Left). is_found x.0) A))
+  if_found (Ok tt) A e = A
+  if_found (Err q) A e = absurd (not-both e (ap (λ (x : Left). is_found x.0) A))
 
   if_none : (a : Answer) → Answered a slots marks is_near n r → is_none r.0 ≡ true → Result is_near n r
-  if_none Done A e = A
-  if_none (RefusedBy q) A e = absurd (not-both e (ap (λ (x : Left). is_none x.0) A))
+  if_none (Ok tt) A e = A
+  if_none (Err q) A e = absurd (not-both e (ap (λ (x : Left). is_none x.0) A))
 
-  if_done : (a : Answer) → Answered a slots marks is_near n r → a ≡ Done → Result is_near n r
+  if_done : (a : Answer) → Answered a slots marks is_near n r → a ≡ Ok tt → Result is_near n r
   if_done a A e = rw e at A
 
   said_found : r.0 ≡ Found → is_found r.0 ≡ true
@@ -142,13 +141,13 @@ module _ (slots : List ℤ) (marks : List ℕ) (cell : Cell) (positions rotated 
   none_exists e s B = no-bijection is_near n r.2 (none-group e) s B
 
   -- FOUND WHENEVER ONE EXISTS, by every call that is not refused
-  pub found_whenever : guard ≡ Done → (s : List ℤ) → Bijection is_near n s → r.0 ≡ Found
+  pub found_whenever : guard ≡ Ok tt → (s : List ℤ) → Bijection is_near n s → r.0 ≡ Found
   found_whenever d s B =
       let R = if_done guard P d in
       answer-found is_near n r R (found_if_any is_near n R.found R.chosen R.group R.ends s B)
 
   -- where compute_permutation gives true, the same slots are returned
-  pub greedy-kept : guard ≡ Done → (old : List ℤ) → judged_matching (length old) (length positions) (length rotated) n ≡ Done → is_matched (compute_permutation old cell positions rotated n).0 ≡ true
+  pub greedy-kept : guard ≡ Ok tt → (old : List ℤ) → judged_matching (length old) (length positions) (length rotated) n ≡ Ok tt → is_matched (compute_permutation old cell positions rotated n).0 ≡ true
       → r ≡ (Found, (compute_permutation old cell positions rotated n).1, replicate n 0)
   greedy-kept d old g e =
       let R = if_done guard P d in

@@ -1,6 +1,6 @@
 -- What a match that fails says of distances that are no number (document 02, A.3): the pair it names was tried, is no number, and no pair tried before it is; if it
 -- names none, no pair that was tried is. Assumes nothing.
-use Rattle.std.specs.Prelude.{◌≡◌, false, cond, not, ◌⊎◌, List, ltb, ℤ, length, Float}
+use Rattle.std.specs.Prelude.{Ok, ◌≡◌, false, cond, not, ◌⊎◌, List, ltb, ℤ, length, Float}
 use Rattle.std.proofs.Math.Path.{refl, ap}
 use Rattle.std.proofs.Common.{sym, ◌∙◌, subst, inl, inr, arith}
 use Rattle.std.proofs.Math.Bool.{Bool, true}
@@ -9,7 +9,6 @@ use Prim.Native.Nat.{ℕ, ◌≤◌, ◌<◌}
 use borrow.Author.Tests.{not-true, lt-ltb, ltb-true, ltb-false}
 use Rattle.lists.specs.Cases.{lt_or_le}
 use Rattle.lists.specs.Tests.{and_fst, and_snd, not-both}
-use Rattle.tables.specs.declared.Answer.TheVariants.{Done}
 use Rattle.distances.specs.declared.Cell.{Cell}
 use Rattle.distances.specs.declared.Distance.{Distance}
 use Rattle.distances.specs.declared.Distance.TheVariants.{Near, Far, NoNumber as NoDistance}
@@ -163,7 +162,7 @@ by_plain true c q e = absurd (false≢true (ap is_plain e))
 by_plain false true q e = absurd (false≢true (ap is_plain e))
 by_plain false false q e = refl
 
-module _ (slots : List ℤ) (cell : Cell) (positions rotated : List Float) (n : ℕ) (taken-on : judged_matching (length slots) (length positions) (length rotated) n ≡ Done) where
+module _ (slots : List ℤ) (cell : Cell) (positions rotated : List Float) (n : ℕ) (taken-on : judged_matching (length slots) (length positions) (length rotated) n ≡ Ok tt) where
   abbrev dist : ℕ → ℕ → Distance
   dist = distance cell positions rotated
 

@@ -1,9 +1,8 @@
 -- The second matcher (document 02, A.6): what the call answers and what it leaves. Definitions only.
 -- It finds a bijection of near pairs if there is one, greedy's where greedy succeeds. Otherwise it marks positions that have fewer near slots between them
 -- than they are. Which bijection and which group it returns is left free: the promise says that it is one.
-use Rattle.std.specs.Prelude.{◌≡◌, Bool, true, false, cond, List, [], ◌∷◌, ℕ, ℤ, negsuc, length, replicate, Float}
-use Rattle.tables.specs.declared.Answer.{Answer}
-use Rattle.tables.specs.declared.Answer.TheVariants.{Done, Refused as RefusedBy}
+use Rattle.std.specs.Prelude.{Err, Ok, Result, ◌≡◌, Bool, true, false, cond, List, [], ◌∷◌, ℕ, ℤ, negsuc, length, replicate, Float}
+use Rattle.tables.specs.Answers.{Answer}
 use Rattle.tables.specs.declared.Refusal.TheVariants.{WrongLength}
 use Rattle.tables.specs.Answers.{refusal_number, refuse_if, and_then}
 use Rattle.tables.specs.Conditions.{any_wrong}
@@ -24,7 +23,7 @@ finding_number (Refused r) = refusal_number r
 -- refusals 1 and 2: those of `compute_permutation`, and num_pos marks
 unfoldable pub judged_finding : ℕ → ℕ → ℕ → ℕ → ℕ → Answer
 judged_finding lenSlots lenMarks lenPos lenRot n =
-    and_then (judged_matching lenSlots lenPos lenRot n) (refuse_if (any_wrong ((lenMarks, n) ∷ [])) WrongLength Done)
+    and_then (judged_matching lenSlots lenPos lenRot n) (refuse_if (any_wrong ((lenMarks, n) ∷ [])) WrongLength (Ok tt))
 
 -- What the search answers and leaves, by whether a match was found, and by the bijection or the group that was: the slots are all -1 where there is no match, and
 -- the marks are zeros where there is one.
@@ -48,8 +47,8 @@ pub record Result (is_near : ℕ → ℕ → Bool) (n : ℕ) (r : Finding × Lis
 
 -- what the call answers and leaves, by its guard: a refused call leaves the slots and the marks
 abbrev pub Answered : Answer → List ℤ → List ℕ → (ℕ → ℕ → Bool) → ℕ → Finding × List ℤ × List ℕ → Type 0
-Answered Done slots marks is_near n r = Result is_near n r
-Answered (RefusedBy a) slots marks is_near n r = r ≡ (Refused a, slots, marks)
+Answered (Ok tt) slots marks is_near n r = Result is_near n r
+Answered (Err a) slots marks is_near n r = r ≡ (Refused a, slots, marks)
 
 -- the promise of the call
 abbrev pub Promise : List ℤ → List ℕ → Cell → List Float → List Float → ℕ → Finding × List ℤ × List ℕ → Type 0

@@ -1,10 +1,9 @@
 -- Matching atoms (document 01, "Matched atoms"; document 02, A.3): which position each rotated position comes from. Definitions only.
-use Rattle.std.specs.Prelude.{Bool, true, false, cond, not, ◌&&◌, List, [], ◌∷◌, ℕ, ◌*◌, ltb, ℤ, pos, negsuc, length, get_or, set, replicate, Float}
+use Rattle.std.specs.Prelude.{Err, Ok, Bool, true, false, cond, not, ◌&&◌, List, [], ◌∷◌, ℕ, ◌*◌, ltb, ℤ, pos, negsuc, length, get_or, set, replicate, Float}
 use Rattle.lists.specs.Tab.{times}
 use Rattle.lists.specs.Members.{all_of}
 use Rattle.lists.specs.Lowest.{lowest}
-use Rattle.tables.specs.declared.Answer.{Answer}
-use Rattle.tables.specs.declared.Answer.TheVariants.{Done, Refused as RefusedBy}
+use Rattle.tables.specs.Answers.{Answer}
 use Rattle.tables.specs.declared.Refusal.TheVariants.{CountAboveLimit, WrongLength}
 use Rattle.tables.specs.Answers.{refusal_number, refuse_if}
 use Rattle.tables.specs.Limits.{limit2}
@@ -89,7 +88,7 @@ all_filled slots = all_of is_filled slots
 unfoldable pub judged_matching : ℕ → ℕ → ℕ → ℕ → Answer
 judged_matching lenSlots lenPos lenRot n =
     refuse_if (any_above limit2 (n ∷ [])) CountAboveLimit
-    (refuse_if (any_wrong ((lenSlots, n) ∷ (lenPos, 3 * n) ∷ (lenRot, 3 * n) ∷ [])) WrongLength Done)
+    (refuse_if (any_wrong ((lenSlots, n) ∷ (lenPos, 3 * n) ∷ (lenRot, 3 * n) ∷ [])) WrongLength (Ok tt))
 
 -- what the search answers and leaves: true exactly if all slots are filled
 unfoldable pub searched : (ℕ → ℕ → Distance) → ℕ → Matching × List ℤ
@@ -99,8 +98,8 @@ searched dist n =
 
 -- what the call answers and leaves, by its guard: a refused call leaves the slots
 unfoldable pub answered : Answer → List ℤ → Matching × List ℤ → Matching × List ℤ
-answered Done slots found = found
-answered (RefusedBy r) slots found = (Refused r, slots)
+answered (Ok tt) slots found = found
+answered (Err r) slots found = (Refused r, slots)
 
 -- the answer, and the slots that the call leaves
 unfoldable pub compute_permutation : List ℤ → Cell → List Float → List Float → ℕ → Matching × List ℤ

@@ -4,8 +4,8 @@ ghost use Rattle.std.specs.Prelude.{◌≡◌};
 ghost use Rattle.matching.specs.Matching.{matching_number, judged_matching, compute_permutation};
 
 use distances::Cell;
+use tables::Refusal;
 use tables::limits::LIMIT2;
-use tables::{Answer, Refusal};
 
 // A position and a slot.
 #[derive(Clone, Copy)]
@@ -32,27 +32,32 @@ pub fn matching_number(m: Matching) -> u8
         Matching::Matched => 0,
         Matching::NotMatched => 64,
         Matching::NoNumber(_) => 69,
-        Matching::Refused(r) => tables::refusal_number(r),
+        Matching::Refused(r) => u8::from(r),
     }
 }
 
 // Refusals 1 and 2.
-pub fn judge_matching(len_slots: usize, len_pos: usize, len_rot: usize, num_pos: usize) -> Answer
+pub fn judge_matching(
+    len_slots: usize,
+    len_pos: usize,
+    len_rot: usize,
+    num_pos: usize,
+) -> Result<(), Refusal>
     ensures { result ≡ judged_matching len_slots len_pos len_rot num_pos }
 {
     if num_pos > LIMIT2 {
-        return Answer::Refused(Refusal::CountAboveLimit);
+        return Err(Refusal::CountAboveLimit);
     }
     if len_slots != num_pos {
-        return Answer::Refused(Refusal::WrongLength);
+        return Err(Refusal::WrongLength);
     }
     if len_pos != 3 * num_pos {
-        return Answer::Refused(Refusal::WrongLength);
+        return Err(Refusal::WrongLength);
     }
     if len_rot != 3 * num_pos {
-        return Answer::Refused(Refusal::WrongLength);
+        return Err(Refusal::WrongLength);
     }
-    Answer::Done
+    Ok(())
 }
 
 // Which position each rotated position comes from: slot j of rot_atom gets the number of the position that is near rot_pos j, or -1. True is answered exactly
@@ -66,9 +71,8 @@ pub fn compute_permutation(
 ) -> Matching
     ensures { (result, rot_atom.new) ≡ compute_permutation rot_atom.old cell pos.now rot_pos.now num_pos }
 {
-    let a = judge_matching(rot_atom.len(), pos.len(), rot_pos.len(), num_pos);
-    match a {
-        Answer::Refused(r) => Matching::Refused(r),
-        Answer::Done => crate::slots::fill(rot_atom, cell, pos, rot_pos),
+    match judge_matching(rot_atom.len(), pos.len(), rot_pos.len(), num_pos) {
+        Ok(()) => crate::slots::fill(rot_atom, cell, pos, rot_pos),
+        Err(r) => Matching::Refused(r),
     }
 }

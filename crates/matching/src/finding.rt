@@ -8,7 +8,7 @@ ghost use Rattle.matching.specs.Matching.{is_matched};
 
 use crate::cells::{Matching, judge_matching};
 use distances::Cell;
-use tables::{Answer, Refusal};
+use tables::Refusal;
 
 // What the call answers: a match was found, none exists, or a refusal.
 #[derive(Clone, Copy)]
@@ -25,7 +25,7 @@ pub fn finding_number(f: Finding) -> u8
     match f {
         Finding::Found => 0,
         Finding::NoMatch => 72,
-        Finding::Refused(r) => tables::refusal_number(r),
+        Finding::Refused(r) => u8::from(r),
     }
 }
 
@@ -36,17 +36,14 @@ fn judge_finding(
     len_pos: usize,
     len_rot: usize,
     num_pos: usize,
-) -> Answer
+) -> Result<(), Refusal>
     ensures { result ≡ judged_finding len_slots len_marks len_pos len_rot num_pos }
 {
-    let a = judge_matching(len_slots, len_pos, len_rot, num_pos);
-    if tables::is_refusal(a) {
-        return a;
-    }
+    judge_matching(len_slots, len_pos, len_rot, num_pos)?;
     if len_marks == num_pos {
-        return a;
+        return Ok(());
     }
-    Answer::Refused(Refusal::WrongLength)
+    Err(Refusal::WrongLength)
 }
 
 fn is_matched(m: Matching) -> bool
@@ -101,15 +98,15 @@ pub fn find_permutation(
     ensures { Promise rot_atom.old marks.old cell pos.now rot_pos.now num_pos
         (result, rot_atom.new, marks.new) }
 {
-    let a = judge_finding(
+    let judged = judge_finding(
         rot_atom.len(),
         marks.len(),
         pos.len(),
         rot_pos.len(),
         num_pos,
     );
-    match a {
-        Answer::Refused(r) => Finding::Refused(r),
-        Answer::Done => find(rot_atom, marks, cell, pos, rot_pos),
+    match judged {
+        Ok(()) => find(rot_atom, marks, cell, pos, rot_pos),
+        Err(r) => Finding::Refused(r),
     }
 }

@@ -1,14 +1,13 @@
 -- One loop over the blocks for both kinds of transposes: where half shifts stay it leaves the Rust's set, else the true transpose. Over the rank and
 -- the leg that trades with leg 0. And what a true call answers. Assumes nothing.
-use Rattle.std.specs.Prelude.{◌≡◌, refl, Bool, ◌&&◌, cond, ℕ, zero, suc, ◌≤◌, ◌<◌, List, pos, length, replicate, Float}
+use Rattle.std.specs.Prelude.{Ok, ◌≡◌, refl, Bool, ◌&&◌, cond, ℕ, zero, suc, ◌≤◌, ◌<◌, List, pos, length, replicate, Float}
 use Rattle.std.proofs.Common.{sym, ◌∙◌, arith, ne_eqb}
 use Rattle.std.proofs.Math.Path.{ap, ap₂}
 use Rattle.std.proofs.Math.Bool.{true, false}
 use Rattle.std.specs.Float.Ieee.{nan}
 use Rattle.lists.specs.Tab.{tab, tab_from, times}
 use Rattle.lists.specs.Digits.{times_power}
-use Rattle.tables.specs.declared.Answer.{Answer}
-use Rattle.tables.specs.declared.Answer.TheVariants.{Done}
+use Rattle.tables.specs.Answers.{Answer}
 use Rattle.tables.specs.Answers.{is_refusal, after, is_done, refused_call, done_call}
 use Rattle.tables.specs.Shifts.{Shifts, Laws}
 use Rattle.tables.specs.Limits.{limit2}
@@ -106,9 +105,9 @@ module _ (limit m : ℕ) (set : List Float) (T : ShiftTables) (work : List ℕ) 
   true_ready h r = trading T h (done_compact limit m (length set) 1 (length work) T (sym e ∙ is_done a r))
 
   pub true_done : is_refusal a ≡ false → {new : List Float} {clear : List ℕ} → new ≡ swapped (shifts_of T) m l set → clear ≡ replicate (length work) 0
-      → ◌≡◌ {A = Answer × List Float × List ℕ} (Done, new, clear) (true_transpose limit m set T work l)
+      → ◌≡◌ {A = Answer × List Float × List ℕ} (Ok tt, new, clear) (true_transpose limit m set T work l)
   unfolding true_transpose
   true_done r n c =
-      ap₂ (λ x y. (Done, x, y)) n c
+      ap₂ (λ x y. (Ok tt, x, y)) n c
       ∙ done_call a (swapped (shifts_of T) m l set) set (replicate (length work) 0) work r
       ∙ ap (λ a. (a, after a (swapped (shifts_of T) m l set) set, after a (replicate (length work) 0) work)) e

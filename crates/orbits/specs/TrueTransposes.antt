@@ -2,7 +2,7 @@
 -- also where a half shift exchanges the atoms. They take the slices, the limits and the types of the calls that are the Rust's. Definitions only.
 use Rattle.std.specs.Prelude.{cond, List, ℕ, zero, suc, eqb, ℤ, pos, negsuc, length, replicate, Float}
 use Rattle.std.specs.Float.{nan}
-use Rattle.tables.specs.declared.Answer.{Answer}
+use Rattle.tables.specs.Answers.{Answer}
 use Rattle.tables.specs.Answers.{after}
 use Rattle.tables.specs.Shifts.{Shifts}
 use Rattle.tables.specs.Compact.{ShiftTables, shifts_of, judged_compact}

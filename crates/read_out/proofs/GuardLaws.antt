@@ -1,11 +1,10 @@
 -- What `compact_to_full` leaves where its guard lets a call pass. Assumes nothing.
-use Rattle.std.specs.Prelude.{◌≡◌, refl, true, false, List, ℕ, suc, ◌*◌, ◌≤◌, ℤ, length, Float}
+use Rattle.std.specs.Prelude.{Ok, ◌≡◌, refl, true, false, List, ℕ, suc, ◌*◌, ◌≤◌, ℤ, length, Float}
 use Rattle.std.proofs.Common.{sym, ap, ◌∙◌}
 use Rattle.std.proofs.Math.Nat.{le_trans}
 use Rattle.std.specs.Float.Ieee.{nan}
 use Rattle.lists.specs.Digits.{times_power, room-mul}
-use Rattle.tables.specs.declared.Answer.{Answer}
-use Rattle.tables.specs.declared.Answer.TheVariants.{Done}
+use Rattle.tables.specs.Answers.{Answer}
 use Rattle.tables.specs.Answers.{is_refusal, is_done, after_refusal, after-done}
 use Rattle.tables.specs.Lengths.{set_length, set_rooms}
 use Rattle.tables.specs.Shifts.{Laws}
@@ -25,6 +24,6 @@ module _ (limit m w : ℕ) (wide : in_block m ≡ w) (small : limit ≤ 1024) (f
     unfolding judged_read_out
     rules = (done-tables limit _ T (done limit m w wide small full set T a e h)).2
 
-    pub read-out-done : {full' : List Float} → full' ≡ copy_rows T.s2pp T.nsym_list T.perms T.n_satom w m set full → (Done, full') ≡ compact_to_full limit m full set T
+    pub read-out-done : {full' : List Float} → full' ≡ copy_rows T.s2pp T.nsym_list T.perms T.n_satom w m set full → (Ok tt, full') ≡ compact_to_full limit m full set T
     unfolding compact_to_full
     read-out-done p = rw (← e, after-done a (full_set nan (shifts_of T) m set) full h, p, rows_make T rules w m wide set full (reading limit m w wide small full set T a e h).full-length, is_done a h)

@@ -1,11 +1,10 @@
 -- What is known of `compact_to_full` where its guard lets a call pass. Assumes nothing.
-use Rattle.std.specs.Prelude.{◌≡◌, refl, true, false, List, ℕ, suc, ◌*◌, ◌≤◌, ℤ, length, Float}
+use Rattle.std.specs.Prelude.{Ok, ◌≡◌, refl, true, false, List, ℕ, suc, ◌*◌, ◌≤◌, ℤ, length, Float}
 use Rattle.std.proofs.Common.{sym, ap, ◌∙◌}
 use Rattle.std.proofs.Math.Nat.{le_trans}
 use Rattle.std.specs.Float.Ieee.{nan}
 use Rattle.lists.specs.Digits.{times_power, room-mul}
-use Rattle.tables.specs.declared.Answer.{Answer}
-use Rattle.tables.specs.declared.Answer.TheVariants.{Done}
+use Rattle.tables.specs.Answers.{Answer}
 use Rattle.tables.specs.Answers.{is_refusal, is_done, after_refusal, after-done}
 use Rattle.tables.specs.Lengths.{set_length, set_rooms}
 use Rattle.tables.specs.Shifts.{Laws}
@@ -37,7 +36,7 @@ module _ (limit m w : ℕ) (wide : in_block m ≡ w) (small : limit ≤ 1024) (f
   read-out-refused h = rw (← e, after_refusal a (full_set nan (shifts_of T) m set) full h)
 
   module _ (h : is_refusal a ≡ false) where
-    pub done : judged_read_out limit m (length full) (length set) T ≡ Done
+    pub done : judged_read_out limit m (length full) (length set) T ≡ Ok tt
     done = sym e ∙ is_done a h
 
     pub reading : Reading m w (length full) (length set) T.n_satom T.s2pp T.nsym_list T.perms

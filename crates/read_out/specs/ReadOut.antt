@@ -1,7 +1,7 @@
 -- A compact set read out to the full one (document 02, A.11): what the calls answer and what they leave. Definitions only.
 use Rattle.std.specs.Prelude.{List, [], ◌∷◌, ℕ, length, Float}
 use Rattle.std.specs.Float.{nan}
-use Rattle.tables.specs.declared.Answer.{Answer}
+use Rattle.tables.specs.Answers.{Answer}
 use Rattle.tables.specs.Answers.{after}
 use Rattle.tables.specs.Lengths.{set_length}
 use Rattle.tables.specs.Compact.{ShiftTables, shifts_of, judged_set}

@@ -8,7 +8,7 @@ ghost use Rattle.read_out.specs.Guard.{Reading};
 
 use crate::judge;
 use places::index_of;
-use tables::Answer;
+use tables::Refusal;
 use tables::atoms::{PrimAtom, SuperAtom, nsym_at, perms_at, s2pp_at};
 use tables::limits::LIMIT2;
 
@@ -66,11 +66,11 @@ pub fn compact_to_full_fc2(
     n_satom: usize,
     n_patom: usize,
     num_trans: usize,
-) -> Answer
+) -> Result<(), Refusal>
     ensures { let T = shift_tables p2s.now s2pp.now nsym_list.now perms.now n_satom n_patom num_trans in
         (result, full.new) ≡ compact_to_full_fc2 full.old fc2.now T }
 {
-    let a = judge(
+    judge(
         LIMIT2,
         1,
         full.len(),
@@ -82,10 +82,7 @@ pub fn compact_to_full_fc2(
         n_satom,
         n_patom,
         num_trans,
-    );
-    if tables::is_refusal(a) {
-        return a;
-    }
+    )?;
     rows(full, fc2, s2pp, nsym_list, perms, n_satom);
-    Answer::Done
+    Ok(())
 }

@@ -8,7 +8,7 @@ ghost use Rattle.read_out.specs.Guard.{Reading};
 
 use crate::judge;
 use places::index_of;
-use tables::Answer;
+use tables::Refusal;
 use tables::atoms::{SuperAtom, nsym_at, perms_at, s2pp_at};
 use tables::limits::LIMIT3;
 
@@ -88,11 +88,11 @@ pub fn compact_to_full_fc3(
     n_satom: usize,
     n_patom: usize,
     num_trans: usize,
-) -> Answer
+) -> Result<(), Refusal>
     ensures { let T = shift_tables p2s.now s2pp.now nsym_list.now perms.now n_satom n_patom num_trans in
         (result, full.new) ≡ compact_to_full_fc3 full.old fc3.now T }
 {
-    let a = judge(
+    judge(
         LIMIT3,
         2,
         full.len(),
@@ -104,10 +104,7 @@ pub fn compact_to_full_fc3(
         n_satom,
         n_patom,
         num_trans,
-    );
-    if tables::is_refusal(a) {
-        return a;
-    }
+    )?;
     rows(full, fc3, s2pp, nsym_list, perms, n_satom);
-    Answer::Done
+    Ok(())
 }

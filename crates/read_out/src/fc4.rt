@@ -8,7 +8,7 @@ ghost use Rattle.read_out.specs.Guard.{Reading};
 
 use crate::judge;
 use places::index_of;
-use tables::Answer;
+use tables::Refusal;
 use tables::atoms::{SuperAtom, nsym_at, perms_at, s2pp_at};
 use tables::limits::LIMIT4;
 
@@ -110,11 +110,11 @@ pub fn compact_to_full_fc4(
     n_satom: usize,
     n_patom: usize,
     num_trans: usize,
-) -> Answer
+) -> Result<(), Refusal>
     ensures { let T = shift_tables p2s.now s2pp.now nsym_list.now perms.now n_satom n_patom num_trans in
         (result, full.new) ≡ compact_to_full_fc4 full.old fc4.now T }
 {
-    let a = judge(
+    judge(
         LIMIT4,
         3,
         full.len(),
@@ -126,10 +126,7 @@ pub fn compact_to_full_fc4(
         n_satom,
         n_patom,
         num_trans,
-    );
-    if tables::is_refusal(a) {
-        return a;
-    }
+    )?;
     rows(full, fc4, s2pp, nsym_list, perms, n_satom);
-    Answer::Done
+    Ok(())
 }

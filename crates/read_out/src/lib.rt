@@ -10,7 +10,7 @@ ghost use Rattle.std.specs.Prelude.{◌≡◌, ◌≤◌};
 ghost use Rattle.tables.specs.Compact.{ShiftTables, shift_tables};
 ghost use Rattle.read_out.specs.ReadOut.{judged_read_out};
 
-use tables::{Answer, Refusal};
+use tables::Refusal;
 
 // The guard of a compact set judges all but the full slice. A wrong length of that is refusal 2, unless a count is above its limit.
 pub fn judge(
@@ -25,7 +25,7 @@ pub fn judge(
     n_satom: usize,
     n_patom: usize,
     num_trans: usize,
-) -> Answer
+) -> Result<(), Refusal>
     requires { (limit ≤ 1024) × (m ≤ 3) }
     ensures { let T : ShiftTables = shift_tables p2s.now s2pp.now nsym_list.now perms.now n_satom n_patom num_trans in result ≡ judged_read_out limit m full_len set_len T }
 {
@@ -38,5 +38,5 @@ pub fn judge(
     if full_len == tables::sets::set_length(n_satom, n_satom, m) {
         return a;
     }
-    Answer::Refused(Refusal::WrongLength)
+    Err(Refusal::WrongLength)
 }

@@ -1,17 +1,15 @@
 -- The rule of a report, whatever it is about: a family of c numbers that are all to be zero, S r the one at place r. Definitions only.
-use Rattle.std.specs.Prelude.{Bool, false, cond, ℕ, zero, suc, eqb, Float}
+use Rattle.tables.specs.declared.Refusal.{Refusal}
+use Rattle.std.specs.Prelude.{Err, Ok, Result, Bool, false, cond, ℕ, zero, suc, eqb, Float}
 use Rattle.std.specs.Float.{nan, inf, fin}
 use Rattle.std.specs.Float.Ieee.{lt, eq, is_nan}
 use Rattle.lists.specs.Tab.{times}
 use Rattle.lists.specs.Tests.{every, some}
 use Rattle.lists.specs.Floats.{plus_zero}
-use Rattle.tables.specs.declared.Answer.{Answer}
-use Rattle.tables.specs.declared.Answer.TheVariants.{Done, Refused as RefusedBy}
+use Rattle.tables.specs.Answers.{Answer}
 use Rattle.reports.specs.declared.Deviation.{Deviation}
 use Rattle.reports.specs.declared.Deviation.TheVariants.{Still, Worst, NoNumber}
 use Rattle.reports.specs.declared.Report.{Report}
-use Rattle.reports.specs.declared.ReportAnswer.{ReportAnswer}
-use Rattle.reports.specs.declared.ReportAnswer.TheVariants.{Given, Refused}
 
 -- ---- floats
 
@@ -62,9 +60,9 @@ unfoldable pub report : ℕ → (ℕ → Float) → Report
 report c S = placed_by (report_at Still 0) report_at c S (deviation_in c S)
 
 -- the guard's refusal, or the report
-abbrev pub reported_after : Answer → Report → ReportAnswer
-reported_after Done r = Given r
-reported_after (RefusedBy a) r = Refused a
+abbrev pub reported_after : Answer → Report → Result Report Refusal
+reported_after (Ok tt) r = Ok r
+reported_after (Err a) r = Err a
 
 -- ---- the cases: a number for each, and its value
 

@@ -1,5 +1,5 @@
 -- The first number that passes a test; what is known of the numbers that were looked at gives the report. Assumes nothing.
-use Rattle.std.specs.Prelude.{◌≡◌, refl, Bool, ◌&&◌, ◌||◌, ◌⊎◌, Float}
+use Rattle.std.specs.Prelude.{Err, Ok, ◌≡◌, refl, Bool, ◌&&◌, ◌||◌, ◌⊎◌, Float}
 use Rattle.std.proofs.Math.Path.{sym, ap, ap₂}
 use Rattle.std.proofs.Common.{◌∙◌, subst, inr, not-suc-le-zero, arith}
 use Rattle.std.proofs.Math.Bool.{true, false, cond}
@@ -14,11 +14,9 @@ use Rattle.tables.specs.Conditions.{or_false}
 use Rattle.lists.specs.Floats.{plus_zero}
 use Rattle.reports.specs.declared.Deviation.{Deviation}
 use Rattle.reports.specs.declared.Deviation.TheVariants.{Still, Worst, NoNumber}
-use Rattle.tables.specs.declared.Answer.{Answer}
-use Rattle.tables.specs.declared.Answer.TheVariants.{Done, Refused as RefusedBy}
+use Rattle.tables.specs.Answers.{Answer}
 use Rattle.tables.specs.declared.Refusal.{Refusal}
 use Rattle.reports.specs.declared.Report.{Report}
-use Rattle.reports.specs.declared.ReportAnswer.TheVariants.{Given, Refused}
 use Rattle.reports.specs.declared.seen.Seen.{Seen}
 use Rattle.reports.specs.Report.{absolute, is_zero, first_of, worst_of, deviation_in, placed_by, report_at, report, reported_after}
 use Rattle.reports.specs.Loops.{look, look_at, nothing_seen, concluded_by, concluded}
@@ -382,10 +380,10 @@ unfolding report
 report_of m S {c} e = reported m S c (subst (State S m) (sym e) (all_seen_lem S m)) (report_at Still 0) report_at
 
 -- the call, by the guard's answer
-pub after-done : {a : Answer} {p q : Report} → a ≡ Done → p ≡ q → Given p ≡ reported_after a q
-after-done {q = q} e f = ap Given f ∙ sym (ap (λ a. reported_after a q) e)
+pub after-done : {a : Answer} {p q : Report} → a ≡ Ok tt → p ≡ q → Ok p ≡ reported_after a q
+after-done {q = q} e f = ap Ok f ∙ sym (ap (λ a. reported_after a q) e)
 
-pub after-refused : {a : Answer} {r : Refusal} (q : Report) → a ≡ RefusedBy r → Refused r ≡ reported_after a q
+pub after-refused : {a : Answer} {r : Refusal} (q : Report) → a ≡ Err r → Err r ≡ reported_after a q
 after-refused q e = sym (ap (λ a. reported_after a q) e)
 
 -- ---- one look, by its cases

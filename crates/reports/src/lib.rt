@@ -26,12 +26,6 @@ pub struct Report {
     pub index: usize,
 }
 
-#[derive(Clone, Copy)]
-pub enum ReportAnswer {
-    Given(Report),
-    Refused(Refusal),
-}
-
 // A number for each case.
 pub fn number(d: Deviation) -> u8
     ensures { result ≡ deviation_number d }

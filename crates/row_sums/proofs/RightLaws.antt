@@ -10,7 +10,7 @@ use Rattle.lists.specs.Cases.{eq_or_ne}
 use Rattle.lists.specs.Digits.{quotient, remainder}
 use Rattle.lists.specs.Tab.{length-tab, get_or-tab, is_tab, times-same}
 use Rattle.lists.specs.Tests.{split, every-at}
-use Rattle.tables.specs.declared.Answer.{Answer}
+use Rattle.tables.specs.Answers.{Answer}
 use Rattle.tables.specs.Answers.{is_refusal, after, after_refusal, after-done}
 use Rattle.blocks.specs.Block.{block, put_block, get_or-block, length-put_block, put-inside, put-outside, block-put, block-put-other, fits}
 use Rattle.lines.specs.Sums3x3.{get_or-nine, in_nine, block_at}

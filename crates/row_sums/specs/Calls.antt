@@ -1,12 +1,11 @@
 -- What the guards of row_sums_fc2 and replace_block_fc2 tell, and what the calls leave by their answers. Assumes nothing.
-use Rattle.std.specs.Prelude.{◌≡◌, refl, true, false, not, ◌&&◌, ◌||◌, List, [], ◌∷◌, ℕ, ◌+◌, ◌*◌, ◌≤◌, ◌<◌, leb, length, Float}
+use Rattle.std.specs.Prelude.{Ok, ◌≡◌, refl, true, false, not, ◌&&◌, ◌||◌, List, [], ◌∷◌, ℕ, ◌+◌, ◌*◌, ◌≤◌, ◌<◌, leb, length, Float}
 use Rattle.std.proofs.Common.{sym, ◌∙◌, arith, leb-false}
 use Rattle.std.proofs.Math.Path.{ap}
 use Rattle.std.proofs.lemmas.Bool.{not-false}
 use Rattle.lists.specs.Digits.{horner}
 use Rattle.lists.specs.Tests.{and_fst, and_snd}
-use Rattle.tables.specs.declared.Answer.{Answer}
-use Rattle.tables.specs.declared.Answer.TheVariants.{Done}
+use Rattle.tables.specs.Answers.{Answer}
 use Rattle.tables.specs.declared.Refusal.TheVariants.{IndexOutOfRange, OffGrid}
 use Rattle.tables.specs.Answers.{is_refusal, after, and_then, first_refuses, first_passes, both-done, is_done, after_refusal, after-done, passed, refused_call, done_call}
 use Rattle.tables.specs.Conditions.{or_false}
@@ -65,7 +64,7 @@ unfolding judged_replace judged_block
 accepted set lenSums new i j n r =
     let (e1, e2) = both-done (judged_sums (length set) lenSums n) _ (is_done (judged_replace set lenSums new i j n) r) in
     let (q3, e3) = passed (leb n i || leb n j) IndexOutOfRange _ e2 in
-    let (q10, e10) = passed (not (nine_on_grid (block 9 (i * n + j) set) && nine_on_grid new)) OffGrid Done e3 in
+    let (q10, e10) = passed (not (nine_on_grid (block 9 (i * n + j) set) && nine_on_grid new)) OffGrid (Ok tt) e3 in
     let (u, v) = or_false (leb n i) (leb n j) q3 in
     let g = not-false (nine_on_grid (block 9 (i * n + j) set) && nine_on_grid new) q10 in
     let (few, long, others) = done_full limit2 1 (length set) ((lenSums, n * 9) ∷ []) n e1 in
@@ -82,7 +81,7 @@ module _ (sums set : List Float) (n : ℕ) (a : Answer) (e : a ≡ judged_sums (
   unfolding row_sums_fc2
   sums-refused h = rw (sym e) (ap (λ l. (a, l)) (sym (after_refusal a (row_sums n set) sums h)))
 
-  pub sums-done : is_refusal a ≡ false → (Done, row_sums n set) ≡ row_sums_fc2 sums set n
+  pub sums-done : is_refusal a ≡ false → (Ok tt, row_sums n set) ≡ row_sums_fc2 sums set n
   unfolding row_sums_fc2
   sums-done h = rw (sym e) (ap (λ b. (b, row_sums n set)) (sym (is_done a h)) ∙ ap (λ l. (a, l)) (sym (after-done a (row_sums n set) sums h)))
 
@@ -94,7 +93,7 @@ module _ (set sums new : List Float) (i j n : ℕ) (a : Answer) (e : a ≡ judge
   unfolding replace_block
   replace_refused h = refused_call a left.0 set left.1 sums h ∙ ap (λ (b : Answer). (b, after b left.0 set, after b left.1 sums)) e
 
-  pub replace_done : is_refusal a ≡ false → (Done, left.0, left.1) ≡ replace_block set sums new i j n
+  pub replace_done : is_refusal a ≡ false → (Ok tt, left.0, left.1) ≡ replace_block set sums new i j n
   unfolding replace_block
   replace_done h = done_call a left.0 set left.1 sums h ∙ ap (λ (b : Answer). (b, after b left.0 set, after b left.1 sums)) e
 

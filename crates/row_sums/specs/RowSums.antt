@@ -1,9 +1,8 @@
 -- Row sums of a full second-order set (document 02, A.10): what the two calls answer and what they leave. Definitions only.
-use Rattle.std.specs.Prelude.{not, ◌&&◌, ◌||◌, List, [], ◌∷◌, ℕ, ◌+◌, ◌*◌, ◌/◌, ◌%◌, leb, length, get_or, Float}
+use Rattle.std.specs.Prelude.{Ok, not, ◌&&◌, ◌||◌, List, [], ◌∷◌, ℕ, ◌+◌, ◌*◌, ◌/◌, ◌%◌, leb, length, get_or, Float}
 use Rattle.std.specs.Float.{nan}
 use Rattle.lists.specs.Tab.{tab}
-use Rattle.tables.specs.declared.Answer.{Answer}
-use Rattle.tables.specs.declared.Answer.TheVariants.{Done}
+use Rattle.tables.specs.Answers.{Answer}
 use Rattle.tables.specs.declared.Refusal.TheVariants.{IndexOutOfRange, OffGrid}
 use Rattle.tables.specs.Answers.{after, refuse_if, and_then}
 use Rattle.tables.specs.Full.{judged_full}
@@ -41,7 +40,7 @@ judged_sums lenSet lenSums n = judged_full limit2 1 lenSet ((lenSums, n * 9) ∷
 unfoldable pub judged_block : List Float → List Float → ℕ → ℕ → ℕ → Answer
 judged_block set new i j n =
     refuse_if (leb n i || leb n j) IndexOutOfRange
-    (refuse_if (not (nine_on_grid (block 9 (i * n + j) set) && nine_on_grid new)) OffGrid Done)
+    (refuse_if (not (nine_on_grid (block 9 (i * n + j) set) && nine_on_grid new)) OffGrid (Ok tt))
 
 unfoldable pub judged_replace : List Float → ℕ → List Float → ℕ → ℕ → ℕ → Answer
 judged_replace set lenSums new i j n = and_then (judged_sums (length set) lenSums n) (judged_block set new i j n)

@@ -7,23 +7,20 @@ ghost use Rattle.row_sums.specs.RowSums.{flat_sums as flatOf, corrected as corre
 ghost use Rattle.row_sums.specs.Calls.{Ready};
 
 use places::{full2, index_of};
+use tables::Refusal;
 use tables::atoms::SuperAtom;
 use tables::limits::LIMIT2;
 use tables::sets::judge_full;
-use tables::{Answer, Refusal};
 
 // Refusals 1 and 2, which both calls have.
-fn judge_lengths(fc_len: usize, sums_len: usize, n: usize) -> Answer
+fn judge_lengths(fc_len: usize, sums_len: usize, n: usize) -> Result<(), Refusal>
     ensures { result ≡ judged_sums fc_len sums_len n }
 {
-    let a = judge_full(LIMIT2, 1, fc_len, n);
-    if tables::is_refusal(a) {
-        return a;
-    }
+    judge_full(LIMIT2, 1, fc_len, n)?;
     if sums_len == n * 9 {
-        return a;
+        return Ok(());
     }
-    Answer::Refused(Refusal::WrongLength)
+    Err(Refusal::WrongLength)
 }
 
 // ---- the sums afresh
@@ -49,15 +46,12 @@ fn sum_rows(sums: &mut [f64], fc: &[f64], n: usize)
 }
 
 // The nine sums of each atom over the second atom, each from 0.0 and rising. What was in the slice has no influence.
-pub fn row_sums_fc2(sums: &mut [f64], fc: &[f64], n_satom: usize) -> Answer
+pub fn row_sums_fc2(sums: &mut [f64], fc: &[f64], n_satom: usize) -> Result<(), Refusal>
     ensures { (result, sums.new) ≡ row_sums_fc2 sums.old fc.now n_satom }
 {
-    let a = judge_lengths(fc.len(), sums.len(), n_satom);
-    if tables::is_refusal(a) {
-        return a;
-    }
+    judge_lengths(fc.len(), sums.len(), n_satom)?;
     sum_rows(sums, fc, n_satom);
-    Answer::Done
+    Ok(())
 }
 
 // ---- a block replaced
@@ -80,32 +74,36 @@ fn corrected(s: [f64; 9], old: [f64; 9], new: [f64; 9]) -> [f64; 9]
 }
 
 // Refusal 3, and 10 after it.
-fn judge_block(fc: &[f64], block: [f64; 9], i: usize, j: usize, n: usize) -> Answer
+fn judge_block(fc: &[f64], block: [f64; 9], i: usize, j: usize, n: usize) -> Result<(), Refusal>
     requires { Sized n n (length fc.now) }
     ensures { result ≡ judged_block fc.now block i j n }
 {
     if i >= n {
-        return Answer::Refused(Refusal::IndexOutOfRange);
+        return Err(Refusal::IndexOutOfRange);
     }
     if j >= n {
-        return Answer::Refused(Refusal::IndexOutOfRange);
+        return Err(Refusal::IndexOutOfRange);
     }
     let old = blocks::read9(fc, full2(SuperAtom(i), SuperAtom(j), n));
     if grid::nine_on_grid(old) {
         if grid::nine_on_grid(block) {
-            return Answer::Done;
+            return Ok(());
         }
     }
-    Answer::Refused(Refusal::OffGrid)
+    Err(Refusal::OffGrid)
 }
 
-fn judge(fc: &[f64], sums_len: usize, block: [f64; 9], i: usize, j: usize, n: usize) -> Answer
+fn judge(
+    fc: &[f64],
+    sums_len: usize,
+    block: [f64; 9],
+    i: usize,
+    j: usize,
+    n: usize,
+) -> Result<(), Refusal>
     ensures { result ≡ judged_replace fc.now sums_len block i j n }
 {
-    let a = judge_lengths(fc.len(), sums_len, n);
-    if tables::is_refusal(a) {
-        return a;
-    }
+    judge_lengths(fc.len(), sums_len, n)?;
     judge_block(fc, block, i, j, n)
 }
 
@@ -129,13 +127,10 @@ pub fn replace_block_fc2(
     i: usize,
     j: usize,
     n_satom: usize,
-) -> Answer
+) -> Result<(), Refusal>
     ensures { (result, fc.new, sums.new) ≡ replace_block fc.old sums.old block i j n_satom }
 {
-    let a = judge(fc, sums.len(), block, i, j, n_satom);
-    if tables::is_refusal(a) {
-        return a;
-    }
+    judge(fc, sums.len(), block, i, j, n_satom)?;
     replace(fc, sums, block, i, j, n_satom);
-    Answer::Done
+    Ok(())
 }

@@ -1,5 +1,6 @@
 -- The rules one by one and all together, and the tests of the rows alone as those of the tables.
 -- Assumes nothing.
+use Rattle.std.specs.Prelude.{Err}
 use mathlib.Core.Path.{◌≡◌, refl, ap}
 use mathlib.Core.List.{[], ◌∷◌}
 use mathlib.Core.Bool.{Bool, true, false, not, ◌||◌}
@@ -9,8 +10,7 @@ use native.Mathlib.Omega.{arith}
 use lib.Dec.{eqb}
 use borrow.Author.Tests.{eq-eqb, ne_eqb}
 use Rattle.lists.specs.Tests.{and_says}
-use Rattle.tables.specs.declared.Answer.{Answer}
-use Rattle.tables.specs.declared.Answer.TheVariants.{Refused}
+use Rattle.tables.specs.Answers.{Answer}
 use Rattle.tables.specs.declared.Refusal.TheVariants.{CountAboveLimit, WrongLength}
 use Rattle.tables.specs.Answers.{refuse_if}
 use Rattle.tables.specs.Conditions.{any_above, any_wrong}
@@ -39,13 +39,13 @@ module _ (T : ShiftTables) where
 abbrev answer_by : Bool → Bool → Bool → Answer → Answer
 answer_by x y t next = refuse_if x CountAboveLimit (refuse_if ((y || false) || t) WrongLength next)
 
-by_count : (x y t : Bool) (next : Answer) → x ≡ true → Refused CountAboveLimit ≡ answer_by x y t next
+by_count : (x y t : Bool) (next : Answer) → x ≡ true → Err CountAboveLimit ≡ answer_by x y t next
 by_count x y t next e = rw e
 
-by-set : (x y t : Bool) (next : Answer) → x ≡ false → y ≡ true → Refused WrongLength ≡ answer_by x y t next
+by-set : (x y t : Bool) (next : Answer) → x ≡ false → y ≡ true → Err WrongLength ≡ answer_by x y t next
 by-set x y t next e f = rw (e, f)
 
-by-tables : (x y t : Bool) (next : Answer) → x ≡ false → y ≡ false → t ≡ true → Refused WrongLength ≡ answer_by x y t next
+by-tables : (x y t : Bool) (next : Answer) → x ≡ false → y ≡ false → t ≡ true → Err WrongLength ≡ answer_by x y t next
 by-tables x y t next e f g = rw (e, f, g)
 
 by-none : (x y t : Bool) (next : Answer) → x ≡ false → y ≡ false → t ≡ false → next ≡ answer_by x y t next
@@ -58,17 +58,17 @@ module _ (limit m lenSet : ℕ) (T : ShiftTables) where
   abbrev stated : ℕ
   stated = set_length T.n_patom T.n_satom m
 
-  pub count_above : above ≡ true → Refused CountAboveLimit ≡ judged_set limit m lenSet [] T
+  pub count_above : above ≡ true → Err CountAboveLimit ≡ judged_set limit m lenSet [] T
   unfolding judged_tables
   count_above e = by_count above (not (eqb lenSet stated)) (any_wrong (table_lengths T)) (judged_entries T) e
 
   module _ (e : above ≡ false) where
-    pub wrong-set : (lenSet ≡ stated → ⊥) → Refused WrongLength ≡ judged_set limit m lenSet [] T
+    pub wrong-set : (lenSet ≡ stated → ⊥) → Err WrongLength ≡ judged_set limit m lenSet [] T
     unfolding judged_tables
     wrong-set d = by-set above (not (eqb lenSet stated)) (any_wrong (table_lengths T)) (judged_entries T) e (ap not (ne_eqb lenSet stated d))
 
     module _ (s : lenSet ≡ stated) where
-      pub wrong-tables : any_wrong (table_lengths T) ≡ true → Refused WrongLength ≡ judged_set limit m lenSet [] T
+      pub wrong-tables : any_wrong (table_lengths T) ≡ true → Err WrongLength ≡ judged_set limit m lenSet [] T
       unfolding judged_tables
       wrong-tables w = by-tables above (not (eqb lenSet stated)) (any_wrong (table_lengths T)) (judged_entries T) e (ap not (eq-eqb lenSet stated s)) w
 

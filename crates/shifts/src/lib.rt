@@ -6,10 +6,10 @@ ghost use Rattle.tables.specs.Conditions.{any_above, any_wrong};
 ghost use Rattle.tables.specs.Limits.{limit2};
 ghost use Rattle.tables.specs.Compact.{ShiftTables, shift_tables, table_lengths, tables_out_of_range, judged_entries, judged_tables, judged_set, judged_compact};
 
+use tables::Refusal;
 use tables::index::all_below;
 use tables::limits::LIMIT2;
 use tables::sets::{set_blocks, set_length};
-use tables::{Answer, Refusal};
 
 pub mod rows;
 mod rules;
@@ -85,18 +85,18 @@ fn judge_entries(
     n_satom: usize,
     n_patom: usize,
     num_trans: usize,
-) -> Answer
+) -> Result<(), Refusal>
     requires in_range { (n_satom ≤ 1024) × (n_patom ≤ 1024) × (num_trans ≤ 1024) }
     requires in_range_2 { let T : ShiftTables = shift_tables p2s.now s2pp.now nsym_list.now perms.now n_satom n_patom num_trans in any_wrong (table_lengths T) ≡ false }
     ensures { let T : ShiftTables = shift_tables p2s.now s2pp.now nsym_list.now perms.now n_satom n_patom num_trans in result ≡ judged_entries T }
 {
     if any_out(p2s, s2pp, nsym_list, perms, n_satom, n_patom, num_trans) {
-        return Answer::Refused(Refusal::IndexOutOfRange);
+        return Err(Refusal::IndexOutOfRange);
     }
     if rules::keeps_rules(p2s, s2pp, nsym_list, perms, n_satom, n_patom, num_trans) {
-        return Answer::Done;
+        return Ok(());
     }
-    Answer::Refused(Refusal::BadShiftTables)
+    Err(Refusal::BadShiftTables)
 }
 
 // Whether shift tables keep every rule of "Shift tables", for counts within the limit of second order, zero too:
@@ -109,15 +109,15 @@ pub fn check_shift_tables(
     n_satom: usize,
     n_patom: usize,
     num_trans: usize,
-) -> Answer
+) -> Result<(), Refusal>
     ensures { let T = shift_tables p2s.now s2pp.now nsym_list.now perms.now n_satom n_patom num_trans in
         result ≡ judged_tables limit2 [] T }
 {
     if any_above(LIMIT2, n_satom, n_patom, num_trans) {
-        return Answer::Refused(Refusal::CountAboveLimit);
+        return Err(Refusal::CountAboveLimit);
     }
     if any_wrong(p2s, s2pp, nsym_list, perms, n_satom, n_patom, num_trans) {
-        return Answer::Refused(Refusal::WrongLength);
+        return Err(Refusal::WrongLength);
     }
     judge_entries(p2s, s2pp, nsym_list, perms, n_satom, n_patom, num_trans)
 }
@@ -134,18 +134,18 @@ pub fn judge_set(
     n_satom: usize,
     n_patom: usize,
     num_trans: usize,
-) -> Answer
+) -> Result<(), Refusal>
     requires { (limit ≤ 1024) × (m ≤ 3) }
     ensures { let T : ShiftTables = shift_tables p2s.now s2pp.now nsym_list.now perms.now n_satom n_patom num_trans in result ≡ judged_set limit m set_len [] T }
 {
     if any_above(limit, n_satom, n_patom, num_trans) {
-        return Answer::Refused(Refusal::CountAboveLimit);
+        return Err(Refusal::CountAboveLimit);
     }
     if set_len != set_length(n_patom, n_satom, m) {
-        return Answer::Refused(Refusal::WrongLength);
+        return Err(Refusal::WrongLength);
     }
     if any_wrong(p2s, s2pp, nsym_list, perms, n_satom, n_patom, num_trans) {
-        return Answer::Refused(Refusal::WrongLength);
+        return Err(Refusal::WrongLength);
     }
     judge_entries(p2s, s2pp, nsym_list, perms, n_satom, n_patom, num_trans)
 }
@@ -164,7 +164,7 @@ pub fn judge_compact(
     n_satom: usize,
     n_patom: usize,
     num_trans: usize,
-) -> Answer
+) -> Result<(), Refusal>
     requires { (limit ≤ 1024) × (m ≤ 3) × (k ≤ 3) }
     ensures { let T : ShiftTables = shift_tables p2s.now s2pp.now nsym_list.now perms.now n_satom n_patom num_trans in result ≡ judged_compact limit m set_len k work_len T }
 {
@@ -177,5 +177,5 @@ pub fn judge_compact(
     if work_len == set_blocks(n_patom, n_satom, k) {
         return a;
     }
-    Answer::Refused(Refusal::WrongLength)
+    Err(Refusal::WrongLength)
 }

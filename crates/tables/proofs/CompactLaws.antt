@@ -1,9 +1,8 @@
 -- What a set that passes the guard of compact calls is known to be. Assumes nothing.
-use Rattle.std.specs.Prelude.{◌≡◌, List, [], ◌∷◌, ℕ}
+use Rattle.std.specs.Prelude.{Ok, ◌≡◌, List, [], ◌∷◌, ℕ}
 use Rattle.std.proofs.Common.{◌∙◌}
 use Rattle.std.proofs.lemmas.Bool.{not-false}
 use Rattle.lists.specs.Elements.{All}
-use Rattle.tables.specs.declared.Answer.TheVariants.{Done}
 use Rattle.tables.specs.Answers.{passed}
 use Rattle.tables.specs.Conditions.{any_wrong, or_false, not_above, not-wrong}
 use Rattle.tables.specs.Lengths.{block_rooms}
@@ -11,7 +10,7 @@ use Rattle.tables.specs.Shifts.{ruled, Laws, laws}
 use Rattle.tables.specs.Compact.{ShiftTables, shifts_of, table_lengths, judged_entries, judged_tables, judged_compact, TablesFit, Compact, fit-within, fit_of}
 
 -- tables that are not refused
-pub done-tables : (limit : ℕ) (ls : List (ℕ × ℕ)) (T : ShiftTables) → judged_tables limit ls T ≡ Done
+pub done-tables : (limit : ℕ) (ls : List (ℕ × ℕ)) (T : ShiftTables) → judged_tables limit ls T ≡ Ok tt
     → All (λ l. l.0 ≡ l.1) ls × TablesFit limit T × Laws (shifts_of T)
 unfolding judged_tables judged_entries
 done-tables limit ls T e =
@@ -25,7 +24,7 @@ done-tables limit ls T e =
     (not-wrong ls hl, F, laws (shifts_of T) (fit-within T F) (not-false (ruled (shifts_of T)) q6))
 
 -- a compact call that is not refused
-pub done_compact : (limit m lenSet k lenWork : ℕ) (T : ShiftTables) → judged_compact limit m lenSet k lenWork T ≡ Done → Compact limit m lenSet k lenWork T
+pub done_compact : (limit m lenSet k lenWork : ℕ) (T : ShiftTables) → judged_compact limit m lenSet k lenWork T ≡ Ok tt → Compact limit m lenSet k lenWork T
 unfolding judged_compact
 done_compact limit m lenSet k lenWork T e =
     let (l, F, L) = done-tables limit _ T e in

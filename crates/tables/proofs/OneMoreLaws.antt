@@ -1,10 +1,9 @@
 -- The guard of a compact set, and then the length of one more slice: refusal 2 comes after 1 and before 3 and 6. Assumes nothing.
-use Rattle.std.specs.Prelude.{◌≡◌, Bool, true, false, not, ◌||◌, ◌⊎◌, [], ◌∷◌, ℕ, ◌≤◌, eqb}
+use Rattle.std.specs.Prelude.{Err, Ok, ◌≡◌, Bool, true, false, not, ◌||◌, ◌⊎◌, [], ◌∷◌, ℕ, ◌≤◌, eqb}
 use Rattle.std.proofs.Math.Path.{refl}
 use Rattle.std.proofs.Common.{sym, ap, ◌∙◌, true≢false, inl, inr, arith, eq-eqb, ne_eqb}
 use Rattle.lists.specs.Tests.{split}
-use Rattle.tables.specs.declared.Answer.{Answer}
-use Rattle.tables.specs.declared.Answer.TheVariants.{Done, Refused}
+use Rattle.tables.specs.Answers.{Answer}
 use Rattle.tables.specs.declared.Refusal.TheVariants.{CountAboveLimit, WrongLength, IndexOutOfRange, BadShiftTables}
 use Rattle.tables.specs.Answers.{number_of, refuse_if}
 use Rattle.tables.specs.Conditions.{any_above, any_wrong, not_above}
@@ -14,7 +13,7 @@ use Rattle.tables.specs.Compact.{ShiftTables, shifts_of, table_lengths, tables_o
 
 -- the answer by its conditions: a count above, the set's length, the other length, those of the tables, an entry, a rule
 abbrev answer_by : Bool → Bool → Bool → Bool → Bool → Bool → Answer
-answer_by x y f t z w = refuse_if x CountAboveLimit (refuse_if ((y || (f || false)) || t) WrongLength (refuse_if z IndexOutOfRange (refuse_if w BadShiftTables Done)))
+answer_by x y f t z w = refuse_if x CountAboveLimit (refuse_if ((y || (f || false)) || t) WrongLength (refuse_if z IndexOutOfRange (refuse_if w BadShiftTables (Ok tt))))
 
 above_only : (x y f t z w : Bool) → number_of (answer_by x y f t z w) ≡ 1 → x ≡ true
 above_only true y f t z w e = refl
@@ -28,7 +27,7 @@ above_only false false false false false false e = absurd (omega arith)
 above_same : (x y f g t z w : Bool) → x ≡ true → answer_by x y f t z w ≡ answer_by x y g t z w
 above_same x y f g t z w e = rw e
 
-wrong-by : (x y t z w : Bool) → x ≡ false → Refused WrongLength ≡ answer_by x y true t z w
+wrong-by : (x y t z w : Bool) → x ≡ false → Err WrongLength ≡ answer_by x y true t z w
 wrong-by true y t z w e = absurd (true≢false e)
 wrong-by false true t z w e = refl
 wrong-by false false t z w e = refl
@@ -75,7 +74,7 @@ module _ (limit m lenSet len stated : ℕ) (T : ShiftTables) (a : Answer) (e : a
   pub right_too : len ≡ stated → a ≡ judged_set limit m lenSet ((len, stated) ∷ []) T
   right_too h = set_is ∙ ap by (sym (ap not (eq-eqb len stated h))) ∙ more_is
 
-  pub wrong-more : (number_of a ≡ 1 → ⊥) → (len ≡ stated → ⊥) → Refused WrongLength ≡ judged_set limit m lenSet ((len, stated) ∷ []) T
+  pub wrong-more : (number_of a ≡ 1 → ⊥) → (len ≡ stated → ⊥) → Err WrongLength ≡ judged_set limit m lenSet ((len, stated) ∷ []) T
   wrong-more d h =
       wrong-by above set_wrong (any_wrong (table_lengths T)) (tables_out_of_range T) (not (ruled (shifts_of T))) (not-one d)
       ∙ ap by (sym (ap not (ne_eqb len stated h))) ∙ more_is

@@ -1,13 +1,15 @@
 -- What a call answers (document 01, "The refusal line on a job sheet"): done, or the first refusal that applies, and what either leaves.
 -- Assumes nothing.
-use Rattle.std.specs.Prelude.{◌≡◌, refl, Bool, true, false, cond, ℕ}
+use Rattle.std.specs.Prelude.{Result, Err, Ok, ◌≡◌, refl, Bool, true, false, cond, ℕ}
 use Rattle.std.proofs.Common.{sym, ◌∙◌, true≢false}
 use Rattle.std.proofs.Math.Path.{ap}
 use Rattle.std.proofs.lemmas.Bool.{false≢true}
 use Rattle.tables.specs.declared.Refusal.{Refusal}
 use Rattle.tables.specs.declared.Refusal.TheVariants.{CountAboveLimit, WrongLength, IndexOutOfRange, BadSlab, BadRepresentative, BadShiftTables, NotARoll, NoRoom, NotLawful, OffGrid, UnknownSet}
-use Rattle.tables.specs.declared.Answer.{Answer}
-use Rattle.tables.specs.declared.Answer.TheVariants.{Done, Refused}
+
+-- what a call answers
+abbrev pub Answer : Type 0
+Answer = Result (Unit {0}) Refusal
 
 -- the number of each refusal: document 01's six, then document 02's
 abbrev pub refusal_number : Refusal → ℕ
@@ -25,12 +27,12 @@ refusal_number UnknownSet = 11
 
 -- the number of an answer: 0 for a call that is done
 abbrev pub number_of : Answer → ℕ
-number_of Done = 0
-number_of (Refused r) = refusal_number r
+number_of (Ok u) = 0
+number_of (Err r) = refusal_number r
 
 abbrev pub is_refusal : Answer → Bool
-is_refusal Done = false
-is_refusal (Refused r) = true
+is_refusal (Ok u) = false
+is_refusal (Err r) = true
 
 -- what a call leaves of something lent to it: the new value if it is done, the old one if it is refused
 unfoldable pub after : {A : Type 0} → Answer → A → A → A
@@ -38,32 +40,32 @@ after a new old = cond (is_refusal a) old new
 
 -- the refusal r where its condition holds, otherwise what the conditions after it say
 abbrev pub refuse_if : Bool → Refusal → Answer → Answer
-refuse_if b r next = cond b (Refused r) next
+refuse_if b r next = cond b (Err r) next
 
 -- the first answer where it is a refusal, otherwise the next
 abbrev pub and_then : Answer → Answer → Answer
-and_then Done next = next
-and_then (Refused r) next = Refused r
+and_then (Ok u) next = next
+and_then (Err r) next = Err r
 
 -- ---- laws
 
 -- two guards, one after the other
 pub first_refuses : (a next : Answer) → is_refusal a ≡ true → a ≡ and_then a next
-first_refuses Done next e = absurd (false≢true e)
-first_refuses (Refused r) next e = refl
+first_refuses (Ok tt) next e = absurd (false≢true e)
+first_refuses (Err r) next e = refl
 
 pub first_passes : (a next : Answer) → is_refusal a ≡ false → next ≡ and_then a next
-first_passes Done next e = refl
-first_passes (Refused r) next e = absurd (true≢false e)
+first_passes (Ok tt) next e = refl
+first_passes (Err r) next e = absurd (true≢false e)
 
-pub both-done : (a next : Answer) → and_then a next ≡ Done → (a ≡ Done) × (next ≡ Done)
-both-done Done next e = (refl, e)
-both-done (Refused r) next e = absurd (true≢false (ap is_refusal e))
+pub both-done : (a next : Answer) → and_then a next ≡ Ok tt → (a ≡ Ok tt) × (next ≡ Ok tt)
+both-done (Ok tt) next e = (refl, e)
+both-done (Err r) next e = absurd (true≢false (ap is_refusal e))
 
 -- an answer that is no refusal is Done
-pub is_done : (a : Answer) → is_refusal a ≡ false → a ≡ Done
-is_done Done e = refl
-is_done (Refused r) e = absurd (true≢false e)
+pub is_done : (a : Answer) → is_refusal a ≡ false → a ≡ Ok tt
+is_done (Ok tt) e = refl
+is_done (Err r) e = absurd (true≢false e)
 
 -- a refused call leaves what it was lent
 pub after_refusal : {A : Type 0} (a : Answer) (new old : A) → is_refusal a ≡ true → after a new old ≡ old
@@ -75,12 +77,12 @@ unfolding after
 after-done a new old e = rw e
 
 -- what a refusal's condition says where the call is done
-pub passed : (b : Bool) (r : Refusal) (next : Answer) → refuse_if b r next ≡ Done → (b ≡ false) × (next ≡ Done)
+pub passed : (b : Bool) (r : Refusal) (next : Answer) → refuse_if b r next ≡ Ok tt → (b ≡ false) × (next ≡ Ok tt)
 passed true r next e = absurd (true≢false (ap is_refusal e))
 passed false r next e = (refl, e)
 
 -- the answer where a condition applies, and where it does not
-pub refused : (b : Bool) (r : Refusal) (next : Answer) → b ≡ true → Refused r ≡ refuse_if b r next
+pub refused : (b : Bool) (r : Refusal) (next : Answer) → b ≡ true → Err r ≡ refuse_if b r next
 refused b r next e = rw e
 
 pub not-refused : (b : Bool) (r : Refusal) (next : Answer) → b ≡ false → next ≡ refuse_if b r next
@@ -92,6 +94,13 @@ module _ {A B : Type 0} (a : Answer) (new old : A) (clear work : B) where
   unfolding after
   refused_call e = rw e
 
-  pub done_call : is_refusal a ≡ false → ◌≡◌ {A = Answer × A × B} (Done, new, clear) (a, after a new old, after a clear work)
+  pub done_call : is_refusal a ≡ false → ◌≡◌ {A = Answer × A × B} (Ok tt, new, clear) (a, after a new old, after a clear work)
   unfolding after
   done_call e = ap (λ r. (r, new, clear)) (sym (is_done a e)) ∙ rw e
+
+-- what is known after a `?`: the answer that was asked, where the code goes on and where it returns
+pub passes : {a : Answer} {u : Unit {0}} → a ≡ Ok u → is_refusal a ≡ false
+passes e = ap is_refusal e
+
+pub refuses : {a : Answer} {r : Refusal} → a ≡ Err r → is_refusal a ≡ true
+refuses e = ap is_refusal e

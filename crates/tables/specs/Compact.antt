@@ -1,11 +1,10 @@
 -- The one guard of every compact call, whatever its rank (document 01, refusals 1, 2, 3 and 6), and what a set that passes it is known to be.
 -- Assumes nothing.
-use Rattle.std.specs.Prelude.{◌≡◌, Bool, false, not, ◌||◌, List, [], ◌∷◌, map, ℕ, ◌+◌, ◌*◌, ◌≤◌, ℤ, pos, length}
+use Rattle.std.specs.Prelude.{Ok, ◌≡◌, Bool, false, not, ◌||◌, List, [], ◌∷◌, map, ℕ, ◌+◌, ◌*◌, ◌≤◌, ℤ, pos, length}
 use Rattle.std.proofs.Math.Path.{sym}
 use Rattle.std.proofs.Math.ListN.{get_or-map}
 use Rattle.lists.specs.Digits.{times_power, in_row}
-use Rattle.tables.specs.declared.Answer.{Answer}
-use Rattle.tables.specs.declared.Answer.TheVariants.{Done}
+use Rattle.tables.specs.Answers.{Answer}
 use Rattle.tables.specs.declared.Refusal.TheVariants.{CountAboveLimit, WrongLength, IndexOutOfRange, BadShiftTables}
 use Rattle.tables.specs.Answers.{refuse_if}
 use Rattle.tables.specs.Conditions.{any_above, any_wrong, out_of_range, nat, index_at, IndexTable, or_false, not-wrong, read}
@@ -59,7 +58,7 @@ tables_out_of_range T =
 
 -- 3 and 6
 unfoldable pub judged_entries : ShiftTables → Answer
-judged_entries T = refuse_if (tables_out_of_range T) IndexOutOfRange (refuse_if (not (ruled (shifts_of T))) BadShiftTables Done)
+judged_entries T = refuse_if (tables_out_of_range T) IndexOutOfRange (refuse_if (not (ruled (shifts_of T))) BadShiftTables (Ok tt))
 
 -- the tables, with the other lengths of a call
 unfoldable pub judged_tables : ℕ → List (ℕ × ℕ) → ShiftTables → Answer

@@ -1,7 +1,7 @@
 -- A call's answer as the number that C gets, beside what the call leaves. Assumes nothing.
 use Rattle.std.specs.Prelude.{◌≡◌, ℕ}
 use Rattle.std.proofs.Common.{ap, ◌∙◌}
-use Rattle.tables.specs.declared.Answer.{Answer}
+use Rattle.tables.specs.Answers.{Answer}
 use Rattle.tables.specs.Answers.{number_of}
 
 -- a call that leaves a set

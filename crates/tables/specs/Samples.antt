@@ -1,10 +1,9 @@
 -- What the guard answers of a few tables, worked out: so it neither takes nor refuses everything, and each rule tells.
 -- Assumes nothing.
-use Rattle.std.specs.Prelude.{◌≡◌, refl, Bool, true, false, List, [], ◌∷◌, ℕ, zero, suc, ◌<◌, ℤ, pos, negsuc}
+use Rattle.std.specs.Prelude.{Err, Ok, ◌≡◌, refl, Bool, true, false, List, [], ◌∷◌, ℕ, zero, suc, ◌<◌, ℤ, pos, negsuc}
 use Rattle.std.proofs.Common.{suc-ne-zero, arith, lit<}
 use Rattle.lists.specs.Tests.{every, some}
-use Rattle.tables.specs.declared.Answer.{Answer}
-use Rattle.tables.specs.declared.Answer.TheVariants.{Done, Refused}
+use Rattle.tables.specs.Answers.{Answer}
 use Rattle.tables.specs.declared.Refusal.TheVariants.{CountAboveLimit, WrongLength, IndexOutOfRange, BadShiftTables}
 use Rattle.tables.specs.Conditions.{out_of_range}
 use Rattle.tables.specs.Shifts.{Shifts, row, p2s_at, s2pp_at, nsym_at, distinct, is_null, is_after, follows, counts_agree, rows_injective, has_null, rows_closed, rows_free, p2s_back, s2pp_kept, nsym_lands, ruled, NoHalfShift}
@@ -19,11 +18,11 @@ abbrev pair : ShiftTables
 pair = shift_tables (pos 0 ∷ []) (pos 0 ∷ pos 0 ∷ []) (pos 0 ∷ pos 1 ∷ []) (pos 0 ∷ pos 1 ∷ pos 1 ∷ pos 0 ∷ []) 2 1 2
 
 -- tables that are done, and refusals 1, 2 and 3 in their order
-pub samples : (judged_tables 1024 [] (ring (pos 0 ∷ pos 2 ∷ pos 1 ∷ [])) ≡ Done)
-    × ((judged_tables 1024 [] pair ≡ Done)
-    × ((judged_tables 1024 [] (ring (pos 0 ∷ negsuc 0 ∷ pos 1 ∷ [])) ≡ Refused IndexOutOfRange)
-    × ((judged_tables 1024 [] (ring (pos 0 ∷ pos 9 ∷ [])) ≡ Refused WrongLength)
-    × (judged_tables 2 [] (ring (pos 0 ∷ [])) ≡ Refused CountAboveLimit))))
+pub samples : (judged_tables 1024 [] (ring (pos 0 ∷ pos 2 ∷ pos 1 ∷ [])) ≡ Ok tt)
+    × ((judged_tables 1024 [] pair ≡ Ok tt)
+    × ((judged_tables 1024 [] (ring (pos 0 ∷ negsuc 0 ∷ pos 1 ∷ [])) ≡ Err IndexOutOfRange)
+    × ((judged_tables 1024 [] (ring (pos 0 ∷ pos 9 ∷ [])) ≡ Err WrongLength)
+    × (judged_tables 2 [] (ring (pos 0 ∷ [])) ≡ Err CountAboveLimit))))
 unfolding judged_tables judged_entries out_of_range ruled counts_agree rows_injective has_null rows_closed rows_free p2s_back s2pp_kept nsym_lands distinct is_null is_after follows row p2s_at s2pp_at nsym_at every some
 samples = (refl, (refl, (refl, (refl, refl))))
 
@@ -73,19 +72,19 @@ abbrev no_lands : ShiftTables
 no_lands = shift_tables (pos 0 ∷ []) (pos 0 ∷ pos 0 ∷ pos 0 ∷ []) (pos 0 ∷ pos 1 ∷ pos 2 ∷ []) (pos 0 ∷ pos 1 ∷ pos 2 ∷ pos 1 ∷ pos 2 ∷ pos 0 ∷ pos 2 ∷ pos 0 ∷ pos 1 ∷ []) 3 1 3
 
 -- all rules hold of the ring
-pub kept : told (ring (pos 0 ∷ pos 2 ∷ pos 1 ∷ [])) ≡ (true ∷ true ∷ true ∷ true ∷ true ∷ true ∷ true ∷ true ∷ [], Done)
+pub kept : told (ring (pos 0 ∷ pos 2 ∷ pos 1 ∷ [])) ≡ (true ∷ true ∷ true ∷ true ∷ true ∷ true ∷ true ∷ true ∷ [], Ok tt)
 unfolding judged_tables judged_entries out_of_range ruled counts_agree rows_injective has_null rows_closed rows_free p2s_back s2pp_kept nsym_lands distinct is_null is_after follows row p2s_at s2pp_at nsym_at every some
 kept = refl
 
 pub broken :
-    (told no_counts ≡ (false ∷ true ∷ true ∷ true ∷ false ∷ true ∷ true ∷ true ∷ [], Refused BadShiftTables))
-    × ((told no_injective ≡ (true ∷ false ∷ false ∷ true ∷ true ∷ true ∷ true ∷ true ∷ [], Refused BadShiftTables))
-    × ((told no_null ≡ (true ∷ true ∷ false ∷ true ∷ true ∷ true ∷ true ∷ true ∷ [], Refused BadShiftTables))
-    × ((told no_closed ≡ (true ∷ true ∷ true ∷ false ∷ true ∷ true ∷ true ∷ true ∷ [], Refused BadShiftTables))
-    × ((told no_free ≡ (true ∷ true ∷ true ∷ true ∷ false ∷ true ∷ true ∷ false ∷ [], Refused BadShiftTables))
-    × ((told no_back ≡ (false ∷ true ∷ true ∷ true ∷ true ∷ false ∷ true ∷ true ∷ [], Refused BadShiftTables))
-    × ((told no_kept ≡ (false ∷ true ∷ true ∷ true ∷ true ∷ true ∷ false ∷ true ∷ [], Refused BadShiftTables))
-    × ((told no_lands ≡ (true ∷ true ∷ true ∷ true ∷ true ∷ true ∷ true ∷ false ∷ [], Refused BadShiftTables)))))))))
+    (told no_counts ≡ (false ∷ true ∷ true ∷ true ∷ false ∷ true ∷ true ∷ true ∷ [], Err BadShiftTables))
+    × ((told no_injective ≡ (true ∷ false ∷ false ∷ true ∷ true ∷ true ∷ true ∷ true ∷ [], Err BadShiftTables))
+    × ((told no_null ≡ (true ∷ true ∷ false ∷ true ∷ true ∷ true ∷ true ∷ true ∷ [], Err BadShiftTables))
+    × ((told no_closed ≡ (true ∷ true ∷ true ∷ false ∷ true ∷ true ∷ true ∷ true ∷ [], Err BadShiftTables))
+    × ((told no_free ≡ (true ∷ true ∷ true ∷ true ∷ false ∷ true ∷ true ∷ false ∷ [], Err BadShiftTables))
+    × ((told no_back ≡ (false ∷ true ∷ true ∷ true ∷ true ∷ false ∷ true ∷ true ∷ [], Err BadShiftTables))
+    × ((told no_kept ≡ (false ∷ true ∷ true ∷ true ∷ true ∷ true ∷ false ∷ true ∷ [], Err BadShiftTables))
+    × ((told no_lands ≡ (true ∷ true ∷ true ∷ true ∷ true ∷ true ∷ true ∷ false ∷ [], Err BadShiftTables)))))))))
 unfolding judged_tables judged_entries out_of_range ruled counts_agree rows_injective has_null rows_closed rows_free p2s_back s2pp_kept nsym_lands distinct is_null is_after follows row p2s_at s2pp_at nsym_at every some
 broken = (refl, (refl, (refl, (refl, (refl, (refl, (refl, refl)))))))
 

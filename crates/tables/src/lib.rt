@@ -3,7 +3,7 @@
 #![tactic(auto)]
 
 ghost use Rattle.std.specs.Prelude.{◌≡◌};
-ghost use Rattle.tables.specs.Answers.{refusal_number, number_of, is_refusal};
+ghost use Rattle.tables.specs.Answers.{refusal_number, number_of};
 
 pub mod atoms;
 pub mod index;
@@ -38,48 +38,33 @@ pub enum Refusal {
     UnknownSet,
 }
 
-// What a call answers: done, or the first refusal that applies.
-#[derive(Clone, Copy)]
-pub enum Answer {
-    Done,
-    Refused(Refusal),
-}
-
 // The number of a refusal.
-pub fn refusal_number(r: Refusal) -> u8
-    ensures { result ≡ refusal_number r }
-{
-    match r {
-        Refusal::CountAboveLimit => 1,
-        Refusal::WrongLength => 2,
-        Refusal::IndexOutOfRange => 3,
-        Refusal::BadSlab => 4,
-        Refusal::BadRepresentative => 5,
-        Refusal::BadShiftTables => 6,
-        Refusal::NotARoll => 7,
-        Refusal::NoRoom => 8,
-        Refusal::NotLawful => 9,
-        Refusal::OffGrid => 10,
-        Refusal::UnknownSet => 11,
+impl From<Refusal> for u8 {
+    ghost from_gives = { λ r n. n ≡ refusal_number r };
+
+    fn from(r: Refusal) -> Self {
+        match r {
+            Refusal::CountAboveLimit => 1,
+            Refusal::WrongLength => 2,
+            Refusal::IndexOutOfRange => 3,
+            Refusal::BadSlab => 4,
+            Refusal::BadRepresentative => 5,
+            Refusal::BadShiftTables => 6,
+            Refusal::NotARoll => 7,
+            Refusal::NoRoom => 8,
+            Refusal::NotLawful => 9,
+            Refusal::OffGrid => 10,
+            Refusal::UnknownSet => 11,
+        }
     }
 }
 
 // The number of an answer: 0 for done, the refusal's own otherwise.
-pub fn number(a: Answer) -> u8
+pub fn number(a: Result<(), Refusal>) -> u8
     ensures { result ≡ number_of a }
 {
     match a {
-        Answer::Done => 0,
-        Answer::Refused(r) => refusal_number(r),
-    }
-}
-
-// Whether the call is refused.
-pub fn is_refusal(a: Answer) -> bool
-    ensures { result ≡ is_refusal a }
-{
-    match a {
-        Answer::Done => false,
-        Answer::Refused(_) => true,
+        Ok(()) => 0,
+        Err(r) => u8::from(r),
     }
 }

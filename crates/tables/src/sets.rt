@@ -4,7 +4,7 @@ ghost use Rattle.lists.specs.Digits.{times_power};
 ghost use Rattle.tables.specs.Lengths.{set_blocks, set_length};
 ghost use Rattle.tables.specs.Full.{judged_full};
 
-use super::{Answer, Refusal};
+use super::Refusal;
 
 // n · b · … · b, with k factors b.
 fn times_power(b: usize, k: usize, n: usize) -> usize
@@ -38,15 +38,15 @@ pub fn set_length(first: usize, n: usize, k: usize) -> usize
 }
 
 // Refusals 1 and 2 of a full set of n atoms, of rank m + 1.
-pub fn judge_full(limit: usize, m: usize, len: usize, n: usize) -> Answer
+pub fn judge_full(limit: usize, m: usize, len: usize, n: usize) -> Result<(), Refusal>
     requires { (limit ≤ 1024) × (m ≤ 3) }
     ensures { result ≡ judged_full limit m «len» [] n }
 {
     if n > limit {
-        return Answer::Refused(Refusal::CountAboveLimit);
+        return Err(Refusal::CountAboveLimit);
     }
     if len != set_length(n, n, m) {
-        return Answer::Refused(Refusal::WrongLength);
+        return Err(Refusal::WrongLength);
     }
-    Answer::Done
+    Ok(())
 }

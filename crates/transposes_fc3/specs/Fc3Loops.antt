@@ -1,5 +1,5 @@
 -- The loops of the third-order transposes, where half shifts stay (h) or not, and that they leave the transposed set. Assumes nothing.
-use Rattle.std.specs.Prelude.{◌≡◌, Bool, ◌&&◌, ◌||◌, ℕ, zero, suc, ◌+◌, ◌*◌, ◌≤◌, ◌<◌, ◌⊎◌, ℤ, pos, negsuc, length, get_or, replicate, Float}
+use Rattle.std.specs.Prelude.{Ok, ◌≡◌, Bool, ◌&&◌, ◌||◌, ℕ, zero, suc, ◌+◌, ◌*◌, ◌≤◌, ◌<◌, ◌⊎◌, ℤ, pos, negsuc, length, get_or, replicate, Float}
 use Rattle.std.proofs.Math.Path.{refl, sym, ap, ap₂}
 use Rattle.std.proofs.Common.{◌∙◌, mul-le-mul, arith, lit<, lit≤, ⊎_elim}
 use Rattle.std.proofs.Math.Bool.{true, false, cond}
@@ -27,8 +27,7 @@ use Rattle.orbits.specs.Blockwise.{in_block, atoms_at}
 use Rattle.orbits.specs.Trading.{the_other, never, stays_at, Trades, moves}
 use Rattle.places.specs.Addresses.{stored_block, block-below}
 use Rattle.places.specs.ReadOuts.{stored_in, stored_in_lem}
-use Rattle.tables.specs.declared.Answer.{Answer}
-use Rattle.tables.specs.declared.Answer.TheVariants.{Done}
+use Rattle.tables.specs.Answers.{Answer}
 use Rattle.tables.specs.Answers.{is_refusal, after, is_done, refused_call, done_call}
 use Rattle.tables.specs.Limits.{limit3}
 use Rattle.transposes_fc3.specs.Fc3.{transposed_by, judged_transpose, transpose_compact_fc3}
@@ -294,10 +293,10 @@ module _ (set : List Float) (T : ShiftTables) (work : List ℕ) (t : ℤ) (a : A
   transpose_ready r = trading T (lit≤ tt) (done_compact limit3 2 (length set) 1 (length work) T (sym e ∙ is_done a r))
 
   pub transpose_done : is_refusal a ≡ false → {new : List Float} {clear : List ℕ} → new ≡ transposed_by (shifts_of T) t set → clear ≡ replicate (length work) 0
-      → ◌≡◌ {A = Answer × List Float × List ℕ} (Done, new, clear) (transpose_compact_fc3 set T work t)
+      → ◌≡◌ {A = Answer × List Float × List ℕ} (Ok tt, new, clear) (transpose_compact_fc3 set T work t)
   unfolding transpose_compact_fc3
   transpose_done r n z =
-      ap₂ (λ x y. (Done, x, y)) n z
+      ap₂ (λ x y. (Ok tt, x, y)) n z
       ∙ done_call a (transposed_by (shifts_of T) t set) set (replicate (length work) 0) work r
       ∙ ap (λ a. (a, after a (transposed_by (shifts_of T) t set) set, after a (replicate (length work) 0) work)) e
 

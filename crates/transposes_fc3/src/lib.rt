@@ -19,7 +19,7 @@ use places::{block3, stored_block3};
 use shifts::judge_compact;
 use tables::atoms::{PrimAtom, SuperAtom, p2s_at};
 use tables::limits::LIMIT3;
-use tables::{Answer, is_refusal};
+use tables::Refusal;
 
 // One visit of type 0: block (p, j, k) and its counterpart change places at the lower one of them: i is p's representative.
 fn visit0(
@@ -499,11 +499,11 @@ pub fn transpose_compact_fc3(
     n_patom: usize,
     num_trans: usize,
     t_type: i64,
-) -> Answer
+) -> Result<(), Refusal>
     ensures { let T = shift_tables p2s.now s2pp.now nsym_list.now perms.now n_satom n_patom num_trans in
         (result, fc3.new, done.new) ≡ transpose_compact_fc3 fc3.old T done.old t_type }
 {
-    let a = judge_compact(
+    judge_compact(
         LIMIT3,
         2,
         fc3.len(),
@@ -516,15 +516,12 @@ pub fn transpose_compact_fc3(
         n_satom,
         n_patom,
         num_trans,
-    );
-    if is_refusal(a) {
-        return a;
-    }
+    )?;
     transpose(
         fc3, p2s, s2pp, nsym_list, perms, n_satom, n_patom, num_trans, true, t_type,
     );
     clear_bytes(done);
-    Answer::Done
+    Ok(())
 }
 
 // The same for every block, those of half shifts too.
@@ -539,11 +536,11 @@ pub fn true_transpose_compact_fc3(
     n_patom: usize,
     num_trans: usize,
     t_type: i64,
-) -> Answer
+) -> Result<(), Refusal>
     ensures { let T = shift_tables p2s.now s2pp.now nsym_list.now perms.now n_satom n_patom num_trans in
         (result, fc3.new, done.new) ≡ true_transpose_compact_fc3 fc3.old T done.old t_type }
 {
-    let a = judge_compact(
+    judge_compact(
         LIMIT3,
         2,
         fc3.len(),
@@ -556,13 +553,10 @@ pub fn true_transpose_compact_fc3(
         n_satom,
         n_patom,
         num_trans,
-    );
-    if is_refusal(a) {
-        return a;
-    }
+    )?;
     transpose(
         fc3, p2s, s2pp, nsym_list, perms, n_satom, n_patom, num_trans, false, t_type,
     );
     clear_bytes(done);
-    Answer::Done
+    Ok(())
 }

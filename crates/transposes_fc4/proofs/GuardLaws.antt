@@ -1,9 +1,8 @@
 -- A swap that is not refused has lawful tables and legs below 4, and what it leaves is what its definition says. Assumes nothing.
-use Rattle.std.specs.Prelude.{◌≡◌, refl, Bool, true, false, not, ◌||◌, cond, List, [], ◌∷◌, ℕ, ◌≤◌, ◌<◌, eqb, length, replicate, Float}
+use Rattle.std.specs.Prelude.{Ok, ◌≡◌, refl, Bool, true, false, not, ◌||◌, cond, List, [], ◌∷◌, ℕ, ◌≤◌, ◌<◌, eqb, length, replicate, Float}
 use Rattle.std.proofs.Common.{sym, ◌∙◌, true≢false, arith, lit≤, lt-ltb, le-ltb, eq-eqb, ne_eqb}
 use Rattle.std.proofs.Math.Path.{ap, ap₂}
-use Rattle.tables.specs.declared.Answer.{Answer}
-use Rattle.tables.specs.declared.Answer.TheVariants.{Done, Refused}
+use Rattle.tables.specs.Answers.{Answer}
 use Rattle.tables.specs.declared.Refusal.TheVariants.{CountAboveLimit, WrongLength, IndexOutOfRange, BadShiftTables}
 use Rattle.tables.specs.Answers.{number_of, is_refusal, after, refuse_if, is_done, refused_call, done_call}
 use Rattle.tables.specs.Conditions.{any_above, any_wrong, not_above}
@@ -17,7 +16,7 @@ use Rattle.orbits.specs.TrueTransposes.{swapped}
 use Rattle.transposes_fc4.specs.Swaps.{judged_swap, swap_pairs_compact_fc4}
 use Rattle.transposes_fc4.specs.Guard.{with_legs, judged_legs, legs_done}
 
-pub swap-sound : (lenSet lenWork : ℕ) (T : ShiftTables) (a b : ℕ) → judged_swap lenSet lenWork T a b ≡ Done → Laws (shifts_of T) × (a < 4) × (b < 4)
+pub swap-sound : (lenSet lenWork : ℕ) (T : ShiftTables) (a b : ℕ) → judged_swap lenSet lenWork T a b ≡ Ok tt → Laws (shifts_of T) × (a < 4) × (b < 4)
 swap-sound lenSet lenWork T a b e =
     let (d, ha, hb) = legs_done (judged_compact limit4 3 lenSet 1 lenWork T) a b (judged_legs lenSet lenWork T a b ∙ e) in
     ((done_compact limit4 3 lenSet 1 lenWork T d).rules, ha, hb)
@@ -38,9 +37,9 @@ module _ (set : List Float) (T : ShiftTables) (work : List ℕ) (a b : ℕ) (t r
       (trading T (lit≤ tt) (done_compact limit4 3 (length set) 1 (length work) T (sym et ∙ d)), ha, hb)
 
   pub swap-done : is_refusal r ≡ false → {new : List Float} {clear : List ℕ} → new ≡ swapped (shifts_of T) 3 (a, b) set → clear ≡ replicate (length work) 0
-      → ◌≡◌ {A = Answer × List Float × List ℕ} (Done, new, clear) (swap_pairs_compact_fc4 set T work a b)
+      → ◌≡◌ {A = Answer × List Float × List ℕ} (Ok tt, new, clear) (swap_pairs_compact_fc4 set T work a b)
   unfolding swap_pairs_compact_fc4
   swap-done e n c =
-      ap₂ (λ x y. (Done, x, y)) n c
+      ap₂ (λ x y. (Ok tt, x, y)) n c
       ∙ done_call r (swapped (shifts_of T) 3 (a, b) set) set (replicate (length work) 0) work e
       ∙ ap (λ r. (r, after r (swapped (shifts_of T) 3 (a, b) set) set, after r (replicate (length work) 0) work)) judged

@@ -1,7 +1,7 @@
 -- `transpose_compact_fc4` (document 01, "Third and fourth order"): what the call answers and what it leaves. Definitions only.
 use Rattle.std.specs.Prelude.{List, ℕ, ℤ, pos, negsuc, length, replicate, Float}
 use Rattle.std.specs.Float.{nan}
-use Rattle.tables.specs.declared.Answer.{Answer}
+use Rattle.tables.specs.Answers.{Answer}
 use Rattle.tables.specs.Answers.{after}
 use Rattle.tables.specs.Shifts.{Shifts}
 use Rattle.tables.specs.Compact.{ShiftTables, shifts_of, judged_compact}

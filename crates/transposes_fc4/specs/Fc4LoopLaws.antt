@@ -1,6 +1,6 @@
 -- The loops over the blocks leave the transposed set at fourth order: the Rust's where half shifts stay (h), the true transpose where none does.
 -- Assumes nothing.
-use Rattle.std.specs.Prelude.{◌≡◌, refl, Bool, true, false, cond, ℕ, zero, suc, List, [], ◌∷◌, ℤ, pos, negsuc, length, replicate, Float}
+use Rattle.std.specs.Prelude.{Ok, ◌≡◌, refl, Bool, true, false, cond, ℕ, zero, suc, List, [], ◌∷◌, ℤ, pos, negsuc, length, replicate, Float}
 use Rattle.std.proofs.Common.{sym, ◌∙◌, arith, lit<, lit≤}
 use Rattle.std.proofs.Math.Path.{ap, ap₂}
 use Rattle.std.specs.Float.{nan}
@@ -8,8 +8,7 @@ use Rattle.lists.specs.Tab.{tab, tab_from}
 use Rattle.lists.specs.Elements.{pick, pick-pick, straight, pick-straight}
 use Rattle.tables.specs.Shifts.{Shifts, Laws}
 use Rattle.tables.specs.Limits.{limit4}
-use Rattle.tables.specs.declared.Answer.{Answer}
-use Rattle.tables.specs.declared.Answer.TheVariants.{Done}
+use Rattle.tables.specs.Answers.{Answer}
 use Rattle.tables.specs.Answers.{is_refusal, after, is_done, refused_call, done_call}
 use Rattle.tables.specs.Compact.{ShiftTables, shifts_of, judged_compact}
 use Rattle.tables.proofs.CompactLaws.{done_compact}
@@ -62,9 +61,9 @@ module _ (set : List Float) (T : ShiftTables) (work : List ℕ) (t : ℤ) (a : A
   transpose_ready r = trading T (lit≤ tt) (done_compact limit4 3 (length set) 1 (length work) T (sym e ∙ is_done a r))
 
   pub transpose_done : is_refusal a ≡ false → {new : List Float} {clear : List ℕ} → new ≡ transposed_by4 (shifts_of T) t set → clear ≡ replicate (length work) 0
-      → ◌≡◌ {A = Answer × List Float × List ℕ} (Done, new, clear) (transpose_compact_fc4 set T work t)
+      → ◌≡◌ {A = Answer × List Float × List ℕ} (Ok tt, new, clear) (transpose_compact_fc4 set T work t)
   unfolding transpose_compact_fc4
   transpose_done r n c =
-      ap₂ (λ x y. (Done, x, y)) n c
+      ap₂ (λ x y. (Ok tt, x, y)) n c
       ∙ done_call a (transposed_by4 (shifts_of T) t set) set (replicate (length work) 0) work r
       ∙ ap (λ a. (a, after a (transposed_by4 (shifts_of T) t set) set, after a (replicate (length work) 0) work)) e

@@ -1,10 +1,9 @@
 -- How a program judges the legs: by what the guard of the transposes answers for the tables. A leg above 3 is refusal 3, after 1 and 2 and before 6.
 -- Assumes nothing.
-use Rattle.std.specs.Prelude.{◌≡◌, refl, Bool, true, false, not, ◌||◌, cond, List, [], ◌∷◌, ℕ, ◌≤◌, ◌<◌, eqb, length, replicate, Float}
+use Rattle.std.specs.Prelude.{Err, Ok, ◌≡◌, refl, Bool, true, false, not, ◌||◌, cond, List, [], ◌∷◌, ℕ, ◌≤◌, ◌<◌, eqb, length, replicate, Float}
 use Rattle.std.proofs.Common.{sym, ◌∙◌, true≢false, arith, lit≤, lt-ltb, le-ltb, eq-eqb, ne_eqb}
 use Rattle.std.proofs.Math.Path.{ap, ap₂}
-use Rattle.tables.specs.declared.Answer.{Answer}
-use Rattle.tables.specs.declared.Answer.TheVariants.{Done, Refused}
+use Rattle.tables.specs.Answers.{Answer}
 use Rattle.tables.specs.declared.Refusal.TheVariants.{CountAboveLimit, WrongLength, IndexOutOfRange, BadShiftTables}
 use Rattle.tables.specs.Answers.{number_of, is_refusal, after, refuse_if, is_done, refused_call, done_call}
 use Rattle.tables.specs.Conditions.{any_above, any_wrong, not_above}
@@ -19,7 +18,7 @@ use Rattle.transposes_fc4.specs.Swaps.{judged_swap, swap_pairs_compact_fc4}
 
 -- what the tables answer, with a leg above 3: refusals 1 and 2 come before it
 abbrev pub with_bad_leg : Answer → Answer
-with_bad_leg t = cond (eqb (number_of t) 1 || eqb (number_of t) 2) t (Refused IndexOutOfRange)
+with_bad_leg t = cond (eqb (number_of t) 1 || eqb (number_of t) 2) t (Err IndexOutOfRange)
 
 -- what the tables answer, with two legs
 unfoldable pub with_legs : Answer → ℕ → ℕ → Answer
@@ -28,9 +27,9 @@ with_legs t a b = cond (any_above 3 (a ∷ b ∷ [])) (with_bad_leg t) t
 -- ---- that is the order of the refusals
 
 in_order_lem : (bad q1 q2 q3 q6 : Bool)
-    → cond bad (with_bad_leg (refuse_if q1 CountAboveLimit (refuse_if q2 WrongLength (refuse_if q3 IndexOutOfRange (refuse_if q6 BadShiftTables Done)))))
-    (refuse_if q1 CountAboveLimit (refuse_if q2 WrongLength (refuse_if q3 IndexOutOfRange (refuse_if q6 BadShiftTables Done))))
-    ≡ refuse_if q1 CountAboveLimit (refuse_if q2 WrongLength (refuse_if (bad || q3) IndexOutOfRange (refuse_if q6 BadShiftTables Done)))
+    → cond bad (with_bad_leg (refuse_if q1 CountAboveLimit (refuse_if q2 WrongLength (refuse_if q3 IndexOutOfRange (refuse_if q6 BadShiftTables (Ok tt))))))
+    (refuse_if q1 CountAboveLimit (refuse_if q2 WrongLength (refuse_if q3 IndexOutOfRange (refuse_if q6 BadShiftTables (Ok tt)))))
+    ≡ refuse_if q1 CountAboveLimit (refuse_if q2 WrongLength (refuse_if (bad || q3) IndexOutOfRange (refuse_if q6 BadShiftTables (Ok tt))))
 in_order_lem false q1 q2 q3 q6 = refl
 in_order_lem true true q2 q3 q6 = refl
 in_order_lem true false true q3 q6 = refl
@@ -64,7 +63,7 @@ module _ (t : Answer) {n : ℕ} (e : n ≡ number_of t) where
   pub is_two : (n ≡ 1 → ⊥) → n ≡ 2 → t ≡ with_bad_leg t
   is_two g h = sym (rw (ne_eqb (number_of t) 1 (λ q. g (e ∙ q)), eq-eqb (number_of t) 2 (sym e ∙ h)) refl)
 
-  pub is_later : (n ≡ 1 → ⊥) → (n ≡ 2 → ⊥) → Refused IndexOutOfRange ≡ with_bad_leg t
+  pub is_later : (n ≡ 1 → ⊥) → (n ≡ 2 → ⊥) → Err IndexOutOfRange ≡ with_bad_leg t
   is_later g h = sym (rw (ne_eqb (number_of t) 1 (λ q. g (e ∙ q)), ne_eqb (number_of t) 2 (λ q. h (e ∙ q))) refl)
 
 pub legs_bad : (t : Answer) (a b : ℕ) → any_above 3 (a ∷ b ∷ []) ≡ true → with_bad_leg t ≡ with_legs t a b
@@ -77,19 +76,19 @@ legs_fine t a b h = sym (rw h refl)
 
 -- ---- a call that is done: the tables passed, and the legs are below 4
 
-none_done : (t : Answer) → with_bad_leg t ≡ Done → ⊥
-none_done Done e = true≢false (ap is_refusal e)
-none_done (Refused q) e = go (eqb (number_of (Refused q)) 1 || eqb (number_of (Refused q)) 2) e
+none_done : (t : Answer) → with_bad_leg t ≡ Ok tt → ⊥
+none_done (Ok tt) e = true≢false (ap is_refusal e)
+none_done (Err q) e = go (eqb (number_of (Err q)) 1 || eqb (number_of (Err q)) 2) e
   where
-    go : (b : Bool) → cond b (Refused q) (Refused IndexOutOfRange) ≡ Done → ⊥
+    go : (b : Bool) → cond b (Err q) (Err IndexOutOfRange) ≡ Ok tt → ⊥
     go true e = true≢false (ap is_refusal e)
     go false e = true≢false (ap is_refusal e)
 
-fine : (t : Answer) (bad : Bool) → cond bad (with_bad_leg t) t ≡ Done → (bad ≡ false) × (t ≡ Done)
+fine : (t : Answer) (bad : Bool) → cond bad (with_bad_leg t) t ≡ Ok tt → (bad ≡ false) × (t ≡ Ok tt)
 fine t false e = (refl, e)
 fine t true e = absurd (none_done t e)
 
-pub legs_done : (t : Answer) (a b : ℕ) → with_legs t a b ≡ Done → (t ≡ Done) × (a < 4) × (b < 4)
+pub legs_done : (t : Answer) (a b : ℕ) → with_legs t a b ≡ Ok tt → (t ≡ Ok tt) × (a < 4) × (b < 4)
 unfolding with_legs
 legs_done t a b e =
     let (f, d) = fine t (any_above 3 (a ∷ b ∷ [])) e in

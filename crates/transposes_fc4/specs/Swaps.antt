@@ -1,8 +1,7 @@
 -- `swap_pairs_compact_fc4` (document 02, A.2): what the call answers and what it leaves. Two legs are named, and the pairs (atom, direction) of these
 -- legs change places in every read-out entry, half shifts included. Definitions only.
-use Rattle.std.specs.Prelude.{not, ◌||◌, List, [], ◌∷◌, ℕ, length, replicate, Float}
-use Rattle.tables.specs.declared.Answer.{Answer}
-use Rattle.tables.specs.declared.Answer.TheVariants.{Done}
+use Rattle.std.specs.Prelude.{Ok, not, ◌||◌, List, [], ◌∷◌, ℕ, length, replicate, Float}
+use Rattle.tables.specs.Answers.{Answer}
 use Rattle.tables.specs.declared.Refusal.TheVariants.{CountAboveLimit, WrongLength, IndexOutOfRange, BadShiftTables}
 use Rattle.tables.specs.Answers.{after, refuse_if}
 use Rattle.tables.specs.Conditions.{any_above, any_wrong}
@@ -19,7 +18,7 @@ judged_swap lenSet lenWork T a b =
     refuse_if (any_above limit4 (T.n_satom ∷ T.n_patom ∷ T.num_trans ∷ [])) CountAboveLimit
     (refuse_if (any_wrong ((lenSet, set_length T.n_patom T.n_satom 3) ∷ (lenWork, set_blocks T.n_patom T.n_satom 1) ∷ []) || any_wrong (table_lengths T)) WrongLength
     (refuse_if (any_above 3 (a ∷ b ∷ []) || tables_out_of_range T) IndexOutOfRange
-    (refuse_if (not (ruled (shifts_of T))) BadShiftTables Done)))
+    (refuse_if (not (ruled (shifts_of T))) BadShiftTables (Ok tt))))
 
 -- the call: the answer, the set and the work slice; with equal legs nothing moves
 unfoldable pub swap_pairs_compact_fc4 : List Float → ShiftTables → List ℕ → ℕ → ℕ → Answer × List Float × List ℕ

@@ -16,7 +16,7 @@ use crate::legs::exchange_legs;
 use lists::clear_bytes;
 use shifts::judge_compact;
 use tables::limits::LIMIT4;
-use tables::{Answer, is_refusal};
+use tables::Refusal;
 
 // Type 0 exchanges pairs 0 and 1 of (atom, direction); any other type changes nothing.
 fn by_type(
@@ -63,11 +63,11 @@ pub fn transpose_compact_fc4(
     n_patom: usize,
     num_trans: usize,
     t_type: i64,
-) -> Answer
+) -> Result<(), Refusal>
     ensures { let T = shift_tables p2s.now s2pp.now nsym_list.now perms.now n_satom n_patom num_trans in
         (result, fc4.new, done.new) ≡ transpose_compact_fc4 fc4.old T done.old t_type }
 {
-    let a = judge_compact(
+    judge_compact(
         LIMIT4,
         3,
         fc4.len(),
@@ -80,15 +80,12 @@ pub fn transpose_compact_fc4(
         n_satom,
         n_patom,
         num_trans,
-    );
-    if is_refusal(a) {
-        return a;
-    }
+    )?;
     by_type(
         fc4, p2s, s2pp, nsym_list, perms, n_satom, n_patom, num_trans, true, t_type,
     );
     clear_bytes(done);
-    Answer::Done
+    Ok(())
 }
 
 // The same for every block, those of half shifts too.
@@ -103,11 +100,11 @@ pub fn true_transpose_compact_fc4(
     n_patom: usize,
     num_trans: usize,
     t_type: i64,
-) -> Answer
+) -> Result<(), Refusal>
     ensures { let T = shift_tables p2s.now s2pp.now nsym_list.now perms.now n_satom n_patom num_trans in
         (result, fc4.new, done.new) ≡ true_transpose_compact_fc4 fc4.old T done.old t_type }
 {
-    let a = judge_compact(
+    judge_compact(
         LIMIT4,
         3,
         fc4.len(),
@@ -120,13 +117,10 @@ pub fn true_transpose_compact_fc4(
         n_satom,
         n_patom,
         num_trans,
-    );
-    if is_refusal(a) {
-        return a;
-    }
+    )?;
     by_type(
         fc4, p2s, s2pp, nsym_list, perms, n_satom, n_patom, num_trans, false, t_type,
     );
     clear_bytes(done);
-    Answer::Done
+    Ok(())
 }

@@ -11,7 +11,7 @@ use crate::legs::exchange_legs;
 use lists::clear_bytes;
 use shifts::judge_compact;
 use tables::limits::LIMIT4;
-use tables::{Answer, Refusal, is_refusal, number};
+use tables::{Refusal, number};
 
 // Whether one of two legs is above 3.
 fn any_leg_above(leg_a: usize, leg_b: usize) -> bool
@@ -27,7 +27,7 @@ fn any_leg_above(leg_a: usize, leg_b: usize) -> bool
 }
 
 // What the tables answer, with a leg above 3: it is judged with the index tables, so that refusals 1 and 2 come before it, and it comes before 6.
-fn with_bad_leg(t: Answer) -> Answer
+fn with_bad_leg(t: Result<(), Refusal>) -> Result<(), Refusal>
     ensures { result ≡ with_bad_leg t }
 {
     let n = number(t);
@@ -37,11 +37,11 @@ fn with_bad_leg(t: Answer) -> Answer
     if n == 2 {
         return t;
     }
-    Answer::Refused(Refusal::IndexOutOfRange)
+    Err(Refusal::IndexOutOfRange)
 }
 
 // What the tables answer, with two legs.
-fn judge_legs(t: Answer, leg_a: usize, leg_b: usize) -> Answer
+fn judge_legs(t: Result<(), Refusal>, leg_a: usize, leg_b: usize) -> Result<(), Refusal>
     ensures { result ≡ with_legs t leg_a leg_b }
 {
     if any_leg_above(leg_a, leg_b) {
@@ -88,7 +88,7 @@ pub fn swap_pairs_compact_fc4(
     num_trans: usize,
     leg_a: usize,
     leg_b: usize,
-) -> Answer
+) -> Result<(), Refusal>
     ensures { let T = shift_tables p2s.now s2pp.now nsym_list.now perms.now n_satom n_patom num_trans in
         (result, fc4.new, done.new) ≡ swap_pairs_compact_fc4 fc4.old T done.old leg_a leg_b }
 {
@@ -106,13 +106,10 @@ pub fn swap_pairs_compact_fc4(
         n_patom,
         num_trans,
     );
-    let a = judge_legs(t, leg_a, leg_b);
-    if is_refusal(a) {
-        return a;
-    }
+    judge_legs(t, leg_a, leg_b)?;
     swap(
         fc4, p2s, s2pp, nsym_list, perms, n_satom, n_patom, num_trans, leg_a, leg_b,
     );
     clear_bytes(done);
-    Answer::Done
+    Ok(())
 }

@@ -2,37 +2,33 @@ use mathlib.Core.List.{[]}
 use mathlib.Core.Path.{sym, ◌∙◌}
 use Prim.Native.Nat.{◌≤◌}
 use native.Mathlib.Omega.{arith}
-use lib.Dec.{lit≤}
-use Rattle.tables.specs.Answers.{is_done}
+use Rattle.std.proofs.lemmas.Result.{err_from_is_err_and}
+use Rattle.tables.specs.Answers.{passes, refuses}
 use Rattle.tables.specs.Full.{done_full, refused-with, wrong-with, right-with}
 use Rattle.row_sums.proofs.judge_lengths.Goals as goal
 
-pub judge_full-a-requires : goal.judge_full-a-requires
-judge_full-a-requires c = (lit≤ tt, lit≤ tt)
-
-pub returns-then-is_refusal : goal.returns-then-is_refusal
-returns-then-is_refusal c =
+pub returns-in_err-judge_full : goal.returns-in_err-judge_full
+returns-in_err-judge_full c =
     let a = c.args in
-    let j = c.judge_full-a in
-    refused-with 1024 1 a.fc_len a.sums_len _ a.n j.result j.ensures (sym c.is_refusal.ensures ∙ c.if-is_refusal.true)
+    let j = c.judge_full in
+    let p = err_from_is_err_and c.from_residual.result c.from_residual.ensures.1 in
+    rw (p.1, p.2) (rw (← c.in_err-judge_full.was) (refused-with 1024 1 a.fc_len a.sums_len _ a.n j.result j.ensures (refuses c.in_err-judge_full.was)))
 
 pub overflow_mul-n : goal.overflow_mul-n
 overflow_mul-n c =
     let a = c.args in
-    let j = c.judge_full-a in
-    let few : a.n ≤ 1024 = (done_full 1024 1 a.fc_len [] a.n (sym j.ensures ∙ is_done j.result (sym c.is_refusal.ensures ∙ c.if-is_refusal.false))).0 in
+    let j = c.judge_full in
+    let few : a.n ≤ 1024 = (done_full 1024 1 a.fc_len [] a.n (sym j.ensures ∙ c.in_ok-judge_full.was)).0 in
     omega arith
 
 pub returns-then-sums_len-n : goal.returns-then-sums_len-n
 returns-then-sums_len-n c =
     let a = c.args in
-    let j = c.judge_full-a in
-    let h = sym c.is_refusal.ensures ∙ c.if-is_refusal.false in
-    is_done j.result h ∙ right-with 1024 1 a.fc_len a.sums_len _ a.n j.result j.ensures h c.if-sums_len-n.true
+    let j = c.judge_full in
+    right-with 1024 1 a.fc_len a.sums_len _ a.n j.result j.ensures (passes c.in_ok-judge_full.was) c.if-sums_len-n.true
 
 pub returns : goal.returns
 returns c =
     let a = c.args in
-    let j = c.judge_full-a in
-    let h = sym c.is_refusal.ensures ∙ c.if-is_refusal.false in
-    wrong-with 1024 1 a.fc_len a.sums_len _ a.n j.result j.ensures h c.if-sums_len-n.false
+    let j = c.judge_full in
+    wrong-with 1024 1 a.fc_len a.sums_len _ a.n j.result j.ensures (passes c.in_ok-judge_full.was) c.if-sums_len-n.false

@@ -1,7 +1,7 @@
+use Rattle.std.specs.Prelude.{Ok}
 use mathlib.Core.Path.{sym, ap, ◌∙◌}
 use mathlib.Core.List.{List}
 use lib.Ieee.{Float}
-use Rattle.tables.specs.declared.Answer.TheVariants.{Done}
 use Rattle.row_sums.specs.Calls.{replace_refused, replace_done, ready_of}
 use Rattle.row_sums.proofs.replace_block_fc2.Goals as goal
 
@@ -18,5 +18,5 @@ replace-requires c =
 pub returns : goal.returns
 returns c =
     let a = c.args in
-    ap (λ (p : List Float × List Float). (Done, p.0, p.1)) c.replace.ensures
+    ap (λ (p : List Float × List Float). (Ok tt, p.0, p.1)) c.replace.ensures
     ∙ replace_done a.fc.now a.sums.now a.block a.i a.j a.n_satom c.judge-a.result c.judge-a.ensures (sym c.is_refusal.ensures ∙ c.if-is_refusal.false)

@@ -1,9 +1,9 @@
+use Rattle.std.specs.Prelude.{Ok}
 use mathlib.Core.Bool.{not}
 use mathlib.Core.Path.{sym, ap, ◌∙◌}
 use Rattle.tables.specs.Compact.{ShiftTables, shift_tables, shifts_of, tables_out_of_range, judged_entries, fit_of}
 use Rattle.tables.specs.Shifts.{ruled}
 use Rattle.tables.specs.Answers.{refused, not-refused}
-use Rattle.tables.specs.declared.Answer.TheVariants.{Done}
 use Rattle.tables.specs.declared.Refusal.TheVariants.{IndexOutOfRange, BadShiftTables}
 use Rattle.shifts.proofs.judge_entries.Goals as goal
 
@@ -26,7 +26,7 @@ unfolding judged_entries
 returns-then-keeps_rules c =
     let a = c.args in
     let T : ShiftTables = shift_tables a.p2s.now a.s2pp.now a.nsym_list.now a.perms.now a.n_satom a.n_patom a.num_trans in
-    not-refused (not (ruled (shifts_of T))) BadShiftTables Done (ap not (sym c.keeps_rules.ensures ∙ c.if-keeps_rules.true))
+    not-refused (not (ruled (shifts_of T))) BadShiftTables (Ok tt) (ap not (sym c.keeps_rules.ensures ∙ c.if-keeps_rules.true))
     ∙ not-refused (tables_out_of_range T) IndexOutOfRange _ (sym c.any_out.ensures ∙ c.if-any_out.false)
 
 pub returns : goal.returns
@@ -34,5 +34,5 @@ unfolding judged_entries
 returns c =
     let a = c.args in
     let T : ShiftTables = shift_tables a.p2s.now a.s2pp.now a.nsym_list.now a.perms.now a.n_satom a.n_patom a.num_trans in
-    refused (not (ruled (shifts_of T))) BadShiftTables Done (ap not (sym c.keeps_rules.ensures ∙ c.if-keeps_rules.false))
+    refused (not (ruled (shifts_of T))) BadShiftTables (Ok tt) (ap not (sym c.keeps_rules.ensures ∙ c.if-keeps_rules.false))
     ∙ not-refused (tables_out_of_range T) IndexOutOfRange _ (sym c.any_out.ensures ∙ c.if-any_out.false)

@@ -1,3 +1,4 @@
+use Rattle.std.specs.Prelude.{Ok, Some}
 use Prim.Native.Nat.{ℕ, ◌≤◌, ◌<◌}
 use native.Mathlib.Omega.{arith}
 use mathlib.Core.Path.{ap, ◌∙◌, subst}
@@ -6,7 +7,6 @@ use Rattle.lists.specs.Digits.{times_power}
 use Rattle.tables.specs.Limits.{limit4}
 use Rattle.tables.specs.Compact.{ShiftTables, shift_tables, shifts_of}
 use Rattle.places.specs.Permutations.{perms4}
-use Rattle.audits.specs.declared.Audit.TheVariants.{Unlike}
 use Rattle.audits.specs.Blocks.{alike-none, fits_w, all-passed}
 use Rattle.audits.proofs.BlocksLaws.{passed-w, some-w, found-w}
 use Rattle.audits.specs.Guard.{block-count}
@@ -78,7 +78,7 @@ returns-then-k-lt81 c =
     let hb : l.b < times_power a.n_satom 3 a.n_patom = subst (λ (x : ℕ). l.b < x) n c.loop-b-test.true in
     let O = orders c.addresses-t.ensures in
     let eb = c.group_blocks-bs.ensures in
-    ap Unlike c.difference.ensures
+    ap (λ d. Ok (Some d)) c.difference.ensures
     ∙ found-w (shifts_of T) R.rules 3 perms4 _ O a.fc.now R.set-length 81 in81 l.b hb _ eb _ c.look-k.ensures c.if-k-lt81.true l.invariant.1
 
 pub next-b-requires-in-loop-b : goal.next-b-requires-in-loop-b

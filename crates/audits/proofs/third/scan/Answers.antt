@@ -1,3 +1,4 @@
+use Rattle.std.specs.Prelude.{Ok, Some}
 use Prim.Native.Nat.{ℕ, ◌≤◌, ◌<◌}
 use mathlib.Core.Path.{ap, ◌∙◌, subst}
 use borrow.Author.Rules.{rules}
@@ -5,7 +6,6 @@ use Rattle.lists.specs.Digits.{times_power}
 use Rattle.tables.specs.Limits.{limit3}
 use Rattle.tables.specs.Compact.{ShiftTables, shift_tables, shifts_of}
 use Rattle.places.specs.Permutations.{perms3}
-use Rattle.audits.specs.declared.Audit.TheVariants.{Unlike}
 use Rattle.audits.specs.Blocks.{fits_w, all-passed}
 use Rattle.audits.proofs.BlocksLaws.{passed-w, some-w, found-w}
 use Rattle.audits.specs.Guard.{block-count}
@@ -61,7 +61,7 @@ returns-then-k-lt27 c =
     let hb : l.b < times_power a.n_satom 2 a.n_patom = subst (λ (x : ℕ). l.b < x) n c.loop-b-test.true in
     let O = orders c.positions-t.ensures in
     let eb = c.group_blocks-bs.ensures in
-    ap Unlike c.difference.ensures
+    ap (λ d. Ok (Some d)) c.difference.ensures
     ∙ found-w (shifts_of T) R.rules 2 perms3 _ O a.fc.now R.set-length 27 in27 l.b hb _ eb _ c.look-k.ensures c.if-k-lt27.true l.invariant
 
 pub loop-b-preserved : goal.loop-b-preserved

@@ -1,3 +1,4 @@
+use Rattle.std.specs.Prelude.{Ok}
 use native.Mathlib.Nat.{le_trans}
 use mathlib.Core.Path.{sym, ap, ◌∙◌}
 use mathlib.Core.List.{[]}
@@ -6,7 +7,6 @@ use lib.ListN.{length}
 use Rattle.tables.specs.Full.{done_full}
 use Rattle.tables.specs.Limits.{limit4}
 use Rattle.audits.specs.Guard.{ready-whole}
-use Rattle.reports.specs.declared.ReportAnswer.TheVariants.{Given}
 use Rattle.crystal.specs.Crystal.{earlier, judged_operations}
 use Rattle.crystal.specs.Laws.{both-done, operating, whole-set-few, full-given, full-refused}
 use Rattle.crystal.proofs.fourth.crystal_report_fc4.Goals as goal
@@ -33,5 +33,5 @@ returns-in-Refused c =
 pub returns-in-Done : goal.returns-in-Done
 returns-in-Done c =
     let a = c.args in
-    ap Given c.conclude.ensures
+    ap Ok c.conclude.ensures
     ∙ full-given limit4 3 a.fc.now a.r_carts.now a.operations.now a.num_rot a.num_atom (sym (c.judge-a.ensures ∙ ap (λ x. earlier x (judged_operations a.num_atom a.num_rot (length a.r_carts.now) a.operations.now)) c.judge_full-s.ensures) ∙ c.in-Done.is) c.scan_full-seen.ensures

@@ -1,3 +1,4 @@
+use Rattle.std.specs.Prelude.{Ok}
 use native.Mathlib.Nat.{le_trans}
 use mathlib.Core.Path.{sym, ap, ◌∙◌}
 use lib.Dec.{lit≤}
@@ -5,7 +6,6 @@ use lib.ListN.{length}
 use Rattle.tables.specs.Limits.{limit2}
 use Rattle.tables.specs.Compact.{ShiftTables, shift_tables}
 use Rattle.audits.specs.Guard.{ready_compact}
-use Rattle.reports.specs.declared.ReportAnswer.TheVariants.{Given}
 use Rattle.crystal.specs.Crystal.{earlier, judged_operations}
 use Rattle.crystal.specs.Laws.{both-done, operating, set-few, compact_given, compact_refused}
 use Rattle.crystal.proofs.second.crystal_report_compact_fc2.Goals as goal
@@ -36,5 +36,5 @@ pub returns-in-Done : goal.returns-in-Done
 returns-in-Done c =
     let a = c.args in
     let T : ShiftTables = shift_tables a.p2s.now a.s2pp.now a.nsym_list.now a.perms.now a.n_satom a.n_patom a.num_trans in
-    ap Given c.conclude.ensures
+    ap Ok c.conclude.ensures
     ∙ compact_given limit2 1 a.fc.now a.r_carts.now a.operations.now a.num_rot T (sym (c.judge-a.ensures ∙ ap (λ x. earlier x (judged_operations a.n_satom a.num_rot (length a.r_carts.now) a.operations.now)) c.judge_set-s.ensures) ∙ c.in-Done.is) c.scan-seen.ensures

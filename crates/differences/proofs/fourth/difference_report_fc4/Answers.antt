@@ -1,3 +1,4 @@
+use Rattle.std.specs.Prelude.{Ok}
 use Prim.Native.Nat.{◌≤◌}
 use native.Mathlib.Omega.{arith}
 use mathlib.Core.Path.{sym, ap, ◌∙◌}
@@ -8,7 +9,6 @@ use Rattle.tables.specs.Full.{done_full}
 use Rattle.tables.specs.Limits.{limit4}
 use Rattle.places.specs.Permutations.{perms4}
 use Rattle.audits.specs.Guard.{ready-whole}
-use Rattle.reports.specs.declared.ReportAnswer.TheVariants.{Given}
 use Rattle.differences.specs.Laws.{full-given, full-refused}
 use Rattle.differences.proofs.fourth.difference_report_fc4.Goals as goal
 
@@ -28,7 +28,7 @@ scan_full-seen-requires c =
 pub returns-in-Done : goal.returns-in-Done
 returns-in-Done c =
     let a = c.args in
-    ap Given c.conclude.ensures
+    ap Ok c.conclude.ensures
     ∙ full-given limit4 3 perms4 a.fc.now a.num_atom (sym c.judge_full-a.ensures ∙ c.in-Done.is) c.scan_full-seen.ensures
 
 pub judge_full-a-requires : goal.judge_full-a-requires

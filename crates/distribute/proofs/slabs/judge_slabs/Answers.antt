@@ -1,3 +1,4 @@
+use Rattle.std.specs.Prelude.{Err}
 use mathlib.Core.Path.{◌≡◌}
 use mathlib.Core.Bool.{true, false}
 use mathlib.Core.List.{List}
@@ -5,7 +6,6 @@ use Prim.Native.Nat.{ℕ, ◌<◌, ◌≤◌}
 use native.Mathlib.Nat.{le_trans}
 use lib.IntN.{ℤ}
 use lib.ListN.{length}
-use Rattle.tables.specs.declared.Answer.TheVariants.{Refused}
 use Rattle.tables.specs.declared.Refusal.TheVariants.{CountAboveLimit, BadSlab}
 use Rattle.tables.specs.Conditions.{out_of_range}
 use Rattle.tables.specs.Lengths.{set_length}
@@ -16,12 +16,12 @@ use Rattle.distribute.proofs.slabs.judge_slabs.Goals as goal
 
 -- the two facts that edits of the tests for them break
 many-slabs : (limit k lengthFc : ℕ) (mapping : List ℤ) (n lengthRotation F target source : ℕ) → n ≤ limit → limit < F
-    → Refused CountAboveLimit ≡ judged_slabs limit k lengthFc mapping n lengthRotation F target source
+    → Err CountAboveLimit ≡ judged_slabs limit k lengthFc mapping n lengthRotation F target source
 unfolding judged_slabs
 many-slabs limit k lengthFc mapping n lengthRotation F target source h g = simp (le-ltb _ _ h, lt-ltb _ _ g)
 
 same-slab : (limit k lengthFc : ℕ) (mapping : List ℤ) (n lengthRotation F target source : ℕ) → n ≤ limit → F ≤ limit → lengthFc ≡ set_length F n k → length mapping ≡ n → lengthRotation ≡ 9
-    → out_of_range n mapping ≡ false → target < F → source < F → target ≡ source → Refused BadSlab ≡ judged_slabs limit k lengthFc mapping n lengthRotation F target source
+    → out_of_range n mapping ≡ false → target < F → source < F → target ≡ source → Err BadSlab ≡ judged_slabs limit k lengthFc mapping n lengthRotation F target source
 unfolding judged_slabs
 same-slab limit k lengthFc mapping n lengthRotation F target source h1 h2 h3 h4 h5 o h7 h8 h9 =
     simp (le-ltb _ _ h1, le-ltb _ _ h2, eq-eqb _ _ h3, eq-eqb _ _ h4, eq-eqb _ _ h5, o, lt-leb _ _ h7, lt-leb _ _ h8, eq-eqb _ _ h9)

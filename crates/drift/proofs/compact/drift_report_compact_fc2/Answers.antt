@@ -1,9 +1,9 @@
+use Rattle.std.specs.Prelude.{Ok}
 use lib.Dec.{lit≤}
 use lib.ListN.{length}
 use mathlib.Core.Path.{sym, ap, ◌∙◌}
 use Rattle.tables.specs.Limits.{limit2}
 use Rattle.tables.specs.Compact.{ShiftTables, shift_tables}
-use Rattle.drift.specs.declared.DriftAnswer.TheVariants.{Report}
 use Rattle.audits.specs.Guard.{ready_compact}
 use Rattle.drift.specs.CompactLaws.{held, report-refused, report-done}
 use Rattle.drift.proofs.compact.drift_report_compact_fc2.Goals as goal
@@ -27,5 +27,5 @@ pub returns-in-Done : goal.returns-in-Done
 returns-in-Done c =
     let a = c.args in
     let T : ShiftTables = shift_tables a.p2s.now a.s2pp.now a.nsym_list.now a.perms.now a.n_satom a.n_patom a.num_trans in
-    ap Report c.conclude.ensures
+    ap Ok c.conclude.ensures
     ∙ report-done a.fc.now T (sym c.judge_set-a.ensures ∙ c.in-Done.is) c.scan-seen.result c.scan-seen.ensures

@@ -1,5 +1,5 @@
+use Rattle.std.specs.Prelude.{Ok}
 use Rattle.drift.specs.Laws.{sized, report-refused, report-done}
-use Rattle.drift.specs.declared.DriftAnswer.TheVariants.{Report}
 use mathlib.Core.Path.{sym, ap, ◌∙◌}
 use lib.Dec.{lit≤}
 use Rattle.drift.proofs.full.drift_report.Goals as goal
@@ -17,5 +17,5 @@ scan_set-seen-requires c =
 
 pub returns-in-Done : goal.returns-in-Done
 returns-in-Done c =
-    ap Report c.conclude.ensures
+    ap Ok c.conclude.ensures
     ∙ report-done c.args.fc.now c.args.n_satom (sym c.judge_full-a.ensures ∙ c.in-Done.is) c.scan_set-seen.result c.scan_set-seen.ensures

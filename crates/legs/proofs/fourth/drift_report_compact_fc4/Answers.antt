@@ -1,10 +1,10 @@
+use Rattle.std.specs.Prelude.{Ok}
 use mathlib.Core.Path.{sym, ap, ◌∙◌}
 use lib.Dec.{lit≤}
 use lib.ListN.{length}
 use Rattle.tables.specs.Limits.{limit4}
 use Rattle.tables.specs.Compact.{shift_tables}
 use Rattle.audits.specs.Guard.{ready_compact}
-use Rattle.reports.specs.declared.ReportAnswer.TheVariants.{Given}
 use Rattle.legs.specs.Laws.{compact_given, compact_refused}
 use Rattle.legs.proofs.fourth.drift_report_compact_fc4.Goals as goal
 
@@ -24,5 +24,5 @@ scan-seen-requires c =
 pub returns-in-Done : goal.returns-in-Done
 returns-in-Done c =
     let a = c.args in
-    ap Given c.conclude.ensures
+    ap Ok c.conclude.ensures
     ∙ compact_given limit4 3 a.fc.now (shift_tables a.p2s.now a.s2pp.now a.nsym_list.now a.perms.now a.n_satom a.n_patom a.num_trans) (sym c.judge_set-a.ensures ∙ c.in-Done.is) c.scan-seen.ensures

@@ -1,13 +1,13 @@
+use Rattle.std.specs.Prelude.{Err}
 use mathlib.Core.Path.{◌≡◌}
 use Prim.Native.Nat.{ℕ, ◌*◌, ◌≤◌}
 use borrow.Author.Tests.{lt-ltb, le-ltb, eq-eqb, ne_eqb}
-use Rattle.tables.specs.declared.Answer.TheVariants.{Refused}
 use Rattle.tables.specs.declared.Refusal.TheVariants.{WrongLength}
 use Rattle.matching.specs.Matching.{judged_matching}
 use Rattle.matching.proofs.cells.judge_matching.Goals as goal
 
 -- the fact that an edit of the test for it breaks
-other_length : (lenSlots lenPos lenRot n : ℕ) → n ≤ 1024 → lenSlots ≡ n → lenPos ≡ 3 * n → (lenRot ≡ 3 * n → ⊥) → Refused WrongLength ≡ judged_matching lenSlots lenPos lenRot n
+other_length : (lenSlots lenPos lenRot n : ℕ) → n ≤ 1024 → lenSlots ≡ n → lenPos ≡ 3 * n → (lenRot ≡ 3 * n → ⊥) → Err WrongLength ≡ judged_matching lenSlots lenPos lenRot n
 unfolding judged_matching
 other_length s p r n h1 h2 h3 h4 = simp (le-ltb _ _ h1, eq-eqb _ _ h2, eq-eqb _ _ h3, ne_eqb _ _ h4)
 

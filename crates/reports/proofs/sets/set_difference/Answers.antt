@@ -1,6 +1,6 @@
+use Rattle.std.specs.Prelude.{Ok}
 use native.Mathlib.Omega.{arith}
 use mathlib.Core.Path.{ap, ◌∙◌}
-use Rattle.reports.specs.declared.ReportAnswer.TheVariants.{Given}
 use Rattle.reports.specs.Loops.{look_differences}
 use Rattle.reports.specs.Sets.{difference-refused, difference-given}
 use Rattle.reports.proofs.sets.set_difference.Goals as goal
@@ -14,6 +14,6 @@ look_differences-seen-requires c = (c.if-b-a.false, omega arith)
 pub returns : goal.returns
 returns c =
     let a = c.args in
-    ap Given c.conclude.ensures
+    ap Ok c.conclude.ensures
     ∙ difference-given a.a.now a.b.now c.if-b-a.false
     (c.look_differences-seen.ensures ∙ ap (look_differences 0 a.a.now a.b.now) c.start.ensures)
