@@ -6,8 +6,8 @@ ghost use Rattle.distribute.specs.Fc2.{Distribution, distribution, add_block, ad
 ghost use Rattle.distribute.specs.Fc2Laws.{Rows, Ready, Placed};
 
 use lines::nines::added;
-use tables::atoms::{SuperAtom, perms_at};
 use tables::Refusal;
+use tables::atoms::{SuperAtom, perms_at};
 
 // Adds the rotated source block to the target block: c has the rotation's coefficients. The source is read first.
 fn add_block(fc2: &mut [f64], c: &[f64; 81], target: usize, source: usize)

@@ -7,8 +7,8 @@ ghost use Rattle.lines.specs.Lines.{Inside, Sized};
 use crate::columns::column_drift;
 use lines::nines::balance;
 use places::full2;
-use tables::atoms::SuperAtom;
 use tables::Refusal;
+use tables::atoms::SuperAtom;
 
 // The mean of an on-site block and itself transposed; its own diagonal is left alone, as in the Rust.
 fn evened(b: [f64; 9]) -> [f64; 9]

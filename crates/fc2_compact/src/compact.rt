@@ -12,8 +12,8 @@ ghost use Rattle.fc2_compact.specs.Code.{Ready};
 use crate::pairs::{average_pass, transpose_pass};
 use crate::rows::{drift_pass, site_pass};
 use shifts::judge_compact;
-use tables::limits::{LIMIT_LEVEL, LIMIT2};
 use tables::Refusal;
+use tables::limits::{LIMIT_LEVEL, LIMIT2};
 
 // One level: twice the transpose and the row drift, then the averages.
 fn level_pass(

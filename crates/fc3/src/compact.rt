@@ -12,9 +12,9 @@ use crate::spread::work_group;
 use lists::clear_bytes;
 use places::{block3, stored_block3};
 use shifts::judge_compact;
+use tables::Refusal;
 use tables::atoms::{PrimAtom, SuperAtom, p2s_at};
 use tables::limits::LIMIT3;
-use tables::Refusal;
 
 // The six blocks of a group are done.
 fn mark(done: &mut [u8], b0: usize, b1: usize, b2: usize, b3: usize, b4: usize, b5: usize)

@@ -10,10 +10,10 @@ ghost use Rattle.fc3.specs.FullLoops.{FullReady, group_at, line_of, lines_of};
 
 use crate::spread::{work_distinct, work_first_two, work_last_two, work_same};
 use places::full3;
+use tables::Refusal;
 use tables::atoms::SuperAtom;
 use tables::limits::LIMIT3;
 use tables::sets::judge_full;
-use tables::Refusal;
 
 // The group of a, a, a: one block.
 fn group_same(fc3: &mut [f64], num_atom: usize, a: SuperAtom)

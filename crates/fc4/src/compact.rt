@@ -10,8 +10,8 @@ use crate::group::{group_blocks, take};
 use lists::clear_bytes;
 use positions::addresses;
 use shifts::judge_compact;
-use tables::limits::LIMIT4;
 use tables::Refusal;
+use tables::limits::LIMIT4;
 
 // One visit: block b is passed over if its group was met before. Its own mark tells, since the marks of a group are set together.
 fn visit(

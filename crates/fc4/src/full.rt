@@ -12,9 +12,9 @@ ghost use Rattle.fc4.specs.Loops.{FullReady, visit_at};
 use crate::group::{full_group_blocks, take};
 use lists::clear_bytes;
 use positions::addresses;
+use tables::Refusal;
 use tables::limits::LIMIT4;
 use tables::sets::{judge_full, set_blocks};
-use tables::Refusal;
 
 // One visit, as in a compact set.
 fn full_visit(fc4: &mut [f64], done: &mut [u8], num_atom: usize, t: &[u8; 1944], b: usize)
@@ -52,7 +52,11 @@ fn judge(set_len: usize, work_len: usize, num_atom: usize) -> Result<(), Refusal
 }
 
 // The set is symmetrized: all 24 permutations of any four legs hold the same number. The done table comes in with anything and is left with zeros.
-pub fn set_permutation_symmetry_fc4(fc4: &mut [f64], done: &mut [u8], num_atom: usize) -> Result<(), Refusal>
+pub fn set_permutation_symmetry_fc4(
+    fc4: &mut [f64],
+    done: &mut [u8],
+    num_atom: usize,
+) -> Result<(), Refusal>
     ensures { (result, fc4.new, done.new) ≡ set_permutation_symmetry_fc4 fc4.old done.old num_atom }
 {
     judge(fc4.len(), done.len(), num_atom)?;

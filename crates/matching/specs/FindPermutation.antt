@@ -1,7 +1,7 @@
 -- The second matcher (document 02, A.6): what the call answers and what it leaves. Definitions only.
 -- It finds a bijection of near pairs if there is one, greedy's where greedy succeeds. Otherwise it marks positions that have fewer near slots between them
 -- than they are. Which bijection and which group it returns is left free: the promise says that it is one.
-use Rattle.std.specs.Prelude.{Err, Ok, Result, ◌≡◌, Bool, true, false, cond, List, [], ◌∷◌, ℕ, ℤ, negsuc, length, replicate, Float}
+use Rattle.std.specs.Prelude.{Err, Ok, ◌≡◌, Bool, true, false, cond, List, [], ◌∷◌, ℕ, ℤ, negsuc, length, replicate, Float}
 use Rattle.tables.specs.Answers.{Answer}
 use Rattle.tables.specs.declared.Refusal.TheVariants.{WrongLength}
 use Rattle.tables.specs.Answers.{refusal_number, refuse_if, and_then}

@@ -17,9 +17,9 @@ use lists::clear_bytes;
 use orbits::half_shifts::stays;
 use places::{block3, stored_block3};
 use shifts::judge_compact;
+use tables::Refusal;
 use tables::atoms::{PrimAtom, SuperAtom, p2s_at};
 use tables::limits::LIMIT3;
-use tables::Refusal;
 
 // One visit of type 0: block (p, j, k) and its counterpart change places at the lower one of them: i is p's representative.
 fn visit0(

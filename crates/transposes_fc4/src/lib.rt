@@ -15,8 +15,8 @@ ghost use Rattle.orbits.specs.TrueTransposes.{swapped, legs4, true_transpose_com
 use crate::legs::exchange_legs;
 use lists::clear_bytes;
 use shifts::judge_compact;
-use tables::limits::LIMIT4;
 use tables::Refusal;
+use tables::limits::LIMIT4;
 
 // Type 0 exchanges pairs 0 and 1 of (atom, direction); any other type changes nothing.
 fn by_type(

@@ -1,3 +1,5 @@
+use Rattle.std.proofs.lemmas.Result.{err_from_is_err_and}
+use Rattle.tables.specs.Answers.{passes, refuses}
 use mathlib.Core.Path.{sym, ap, ◌∙◌}
 use lib.Dec.{lit≤}
 use lib.ListN.{length, replicate}
@@ -8,18 +10,19 @@ use Rattle.fc4.specs.Mean24.{mean24}
 use Rattle.acoustic.specs.Fourth.{full-work, full-work-refused, full-work-done}
 use Rattle.acoustic.proofs.fourth_full.perm_trans_symmetrize_fc4.Goals as goal
 
-pub returns-then-is_refusal : goal.returns-then-is_refusal
-returns-then-is_refusal c =
+pub returns-in_err-judge : goal.returns-in_err-judge
+returns-in_err-judge c =
     let a = c.args in
-    full-work-refused limit4 3 mean24 perms4 a.fc4.now a.num_atom a.done.now a.drift.now a.level c.judge-a.ensures (sym c.is_refusal.ensures ∙ c.if-is_refusal.true)
+    let p = err_from_is_err_and c.from_residual.result c.from_residual.ensures.1 in
+    rw (p.1, p.2) (rw (← c.in_err-judge.was) (full-work-refused limit4 3 mean24 perms4 a.fc4.now a.num_atom a.done.now a.drift.now a.level c.judge.ensures (refuses c.in_err-judge.was)))
 
 pub full_symmetrize-requires : goal.full_symmetrize-requires
 full_symmetrize-requires c =
     let a = c.args in
-    full-work limit4 3 (length a.fc4.now) (length a.done.now) (length a.drift.now) a.num_atom a.level (lit≤ tt) c.judge-a.ensures (sym c.is_refusal.ensures ∙ c.if-is_refusal.false)
+    full-work limit4 3 (length a.fc4.now) (length a.done.now) (length a.drift.now) a.num_atom a.level (lit≤ tt) c.judge.ensures (passes c.in_ok-judge.was)
 
 pub returns : goal.returns
 returns c =
     let a = c.args in
-    full-work-done limit4 3 mean24 perms4 a.fc4.now a.num_atom a.done.now a.drift.now a.level c.judge-a.ensures (sym c.is_refusal.ensures ∙ c.if-is_refusal.false)
+    full-work-done limit4 3 mean24 perms4 a.fc4.now a.num_atom a.done.now a.drift.now a.level c.judge.ensures (passes c.in_ok-judge.was)
     c.full_symmetrize.ensures (c.clear_bytes.ensures ∙ ap (λ m. replicate m 0) c.full_symmetrize.auto.done) (c.clear_floats.ensures ∙ ap (λ m. replicate m plus_zero) c.full_symmetrize.auto.drift)

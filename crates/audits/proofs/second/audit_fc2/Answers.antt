@@ -1,3 +1,4 @@
+use Rattle.std.proofs.lemmas.Result.{err_from_is_err_and}
 use Prim.Native.Nat.{◌≤◌}
 use native.Mathlib.Omega.{arith}
 use mathlib.Core.Path.{sym, ◌∙◌}
@@ -10,23 +11,24 @@ use Rattle.places.specs.Permutations.{perms2}
 use Rattle.audits.specs.Guard.{ready-whole, whole-refused, whole-done}
 use Rattle.audits.proofs.second.audit_fc2.Goals as goal
 
-pub returns-in-Refused : goal.returns-in-Refused
-returns-in-Refused c =
+pub returns-in_err-judge_full : goal.returns-in_err-judge_full
+returns-in_err-judge_full c =
     let a = c.args in
-    whole-refused limit2 1 perms2 a.fc.now a.num_atom _ (sym c.judge_full-a.ensures ∙ c.in-Refused.is)
+    let p = err_from_is_err_and c.from_residual.result c.from_residual.ensures.1 in
+    rw (p.1, p.2) (whole-refused limit2 1 perms2 a.fc.now a.num_atom _ (sym c.judge_full.ensures ∙ c.in_err-judge_full.was))
 
 pub scan_full-requires : goal.scan_full-requires
 scan_full-requires c =
     let a = c.args in
-    let e = sym c.judge_full-a.ensures ∙ c.in-Done.is in
+    let e = sym c.judge_full.ensures ∙ c.in_ok-judge_full.was in
     let few = (done_full limit2 1 (length a.fc.now) [] a.num_atom e).0 in
     let h : a.num_atom ≤ 1024 = omega arith in
     (ready-whole limit2 1 (length a.fc.now) a.num_atom (lit≤ tt) e, h)
 
-pub returns-in-Done : goal.returns-in-Done
-returns-in-Done c =
+pub returns : goal.returns
+returns c =
     let a = c.args in
-    whole-done limit2 1 perms2 a.fc.now a.num_atom (sym c.judge_full-a.ensures ∙ c.in-Done.is) c.scan_full.ensures
+    whole-done limit2 1 perms2 a.fc.now a.num_atom (sym c.judge_full.ensures ∙ c.in_ok-judge_full.was) c.scan_full.ensures
 
-pub judge_full-a-requires : goal.judge_full-a-requires
-judge_full-a-requires c = (lit≤ tt, lit≤ tt)
+pub judge_full-requires : goal.judge_full-requires
+judge_full-requires c = (lit≤ tt, lit≤ tt)

@@ -1,3 +1,4 @@
+use Rattle.std.proofs.lemmas.Result.{err_from_is_err_and}
 use mathlib.Core.Path.{sym, ◌∙◌}
 use lib.Dec.{lit≤}
 use lib.ListN.{length}
@@ -7,21 +8,22 @@ use Rattle.places.specs.Permutations.{perms3}
 use Rattle.audits.specs.Guard.{ready_compact, compact_refused, compact_done}
 use Rattle.audits.proofs.third.audit_compact_fc3.Goals as goal
 
-pub judge_set-a-requires : goal.judge_set-a-requires
-judge_set-a-requires c = (lit≤ tt, lit≤ tt)
+pub judge_set-requires : goal.judge_set-requires
+judge_set-requires c = (lit≤ tt, lit≤ tt)
 
-pub returns-in-Refused : goal.returns-in-Refused
-returns-in-Refused c =
+pub returns-in_err-judge_set : goal.returns-in_err-judge_set
+returns-in_err-judge_set c =
     let s = c.args in
     let a = s in
-    compact_refused limit3 2 perms3 a.fc.now (shift_tables a.p2s.now a.s2pp.now a.nsym_list.now a.perms.now a.n_satom a.n_patom a.num_trans) _ (sym c.judge_set-a.ensures ∙ c.in-Refused.is)
+    let p = err_from_is_err_and c.from_residual.result c.from_residual.ensures.1 in
+    rw (p.1, p.2) (compact_refused limit3 2 perms3 a.fc.now (shift_tables a.p2s.now a.s2pp.now a.nsym_list.now a.perms.now a.n_satom a.n_patom a.num_trans) _ (sym c.judge_set.ensures ∙ c.in_err-judge_set.was))
 
 pub settle-requires : goal.settle-requires
 settle-requires c =
     let a = c.args in
-    ready_compact limit3 2 (length a.fc.now) (shift_tables a.p2s.now a.s2pp.now a.nsym_list.now a.perms.now a.n_satom a.n_patom a.num_trans) (sym c.judge_set-a.ensures ∙ c.in-Done.is)
+    ready_compact limit3 2 (length a.fc.now) (shift_tables a.p2s.now a.s2pp.now a.nsym_list.now a.perms.now a.n_satom a.n_patom a.num_trans) (sym c.judge_set.ensures ∙ c.in_ok-judge_set.was)
 
-pub returns-in-Done : goal.returns-in-Done
-returns-in-Done c =
+pub returns : goal.returns
+returns c =
     let a = c.args in
-    compact_done limit3 2 perms3 a.fc.now (shift_tables a.p2s.now a.s2pp.now a.nsym_list.now a.perms.now a.n_satom a.n_patom a.num_trans) (sym c.judge_set-a.ensures ∙ c.in-Done.is) c.settle.ensures
+    compact_done limit3 2 perms3 a.fc.now (shift_tables a.p2s.now a.s2pp.now a.nsym_list.now a.perms.now a.n_satom a.n_patom a.num_trans) (sym c.judge_set.ensures ∙ c.in_ok-judge_set.was) c.settle.ensures

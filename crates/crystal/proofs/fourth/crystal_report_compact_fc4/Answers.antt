@@ -1,3 +1,4 @@
+use Rattle.std.proofs.lemmas.Result.{err_from_is_err_and}
 use Rattle.std.specs.Prelude.{Ok}
 use native.Mathlib.Nat.{le_trans}
 use mathlib.Core.Path.{sym, ap, ◌∙◌}
@@ -13,8 +14,8 @@ use Rattle.crystal.proofs.fourth.crystal_report_compact_fc4.Goals as goal
 pub judge_set-s-requires : goal.judge_set-s-requires
 judge_set-s-requires c = (lit≤ tt, lit≤ tt)
 
-pub judge-a-requires : goal.judge-a-requires
-judge-a-requires c =
+pub judge-requires : goal.judge-requires
+judge-requires c =
     let a = c.args in
     let T : ShiftTables = shift_tables a.p2s.now a.s2pp.now a.nsym_list.now a.perms.now a.n_satom a.n_patom a.num_trans in
     λ d. le_trans (set-few limit4 3 (length a.fc.now) T c.judge_set-s.ensures d) (lit≤ tt)
@@ -23,18 +24,19 @@ pub scan-seen-requires : goal.scan-seen-requires
 scan-seen-requires c =
     let a = c.args in
     let T : ShiftTables = shift_tables a.p2s.now a.s2pp.now a.nsym_list.now a.perms.now a.n_satom a.n_patom a.num_trans in
-    let (d, o) = both-done _ _ (sym (c.judge-a.ensures ∙ ap (λ x. earlier x (judged_operations a.n_satom a.num_rot (length a.r_carts.now) a.operations.now)) c.judge_set-s.ensures) ∙ c.in-Done.is) in
+    let (d, o) = both-done _ _ (sym (c.judge.ensures ∙ ap (λ x. earlier x (judged_operations a.n_satom a.num_rot (length a.r_carts.now) a.operations.now)) c.judge_set-s.ensures) ∙ c.in_ok-judge.was) in
     (ready_compact limit4 3 (length a.fc.now) T d, operating a.n_satom a.num_rot (length a.r_carts.now) a.operations.now o)
 
-pub returns-in-Refused : goal.returns-in-Refused
-returns-in-Refused c =
+pub returns-in_err-judge : goal.returns-in_err-judge
+returns-in_err-judge c =
     let a = c.args in
     let T : ShiftTables = shift_tables a.p2s.now a.s2pp.now a.nsym_list.now a.perms.now a.n_satom a.n_patom a.num_trans in
-    compact_refused limit4 3 a.fc.now a.r_carts.now a.operations.now a.num_rot T _ (sym (c.judge-a.ensures ∙ ap (λ x. earlier x (judged_operations a.n_satom a.num_rot (length a.r_carts.now) a.operations.now)) c.judge_set-s.ensures) ∙ c.in-Refused.is)
+    let p = err_from_is_err_and c.from_residual.result c.from_residual.ensures.1 in
+    rw (p.1, p.2) (compact_refused limit4 3 a.fc.now a.r_carts.now a.operations.now a.num_rot T _ (sym (c.judge.ensures ∙ ap (λ x. earlier x (judged_operations a.n_satom a.num_rot (length a.r_carts.now) a.operations.now)) c.judge_set-s.ensures) ∙ c.in_err-judge.was))
 
-pub returns-in-Done : goal.returns-in-Done
-returns-in-Done c =
+pub returns : goal.returns
+returns c =
     let a = c.args in
     let T : ShiftTables = shift_tables a.p2s.now a.s2pp.now a.nsym_list.now a.perms.now a.n_satom a.n_patom a.num_trans in
     ap Ok c.conclude.ensures
-    ∙ compact_given limit4 3 a.fc.now a.r_carts.now a.operations.now a.num_rot T (sym (c.judge-a.ensures ∙ ap (λ x. earlier x (judged_operations a.n_satom a.num_rot (length a.r_carts.now) a.operations.now)) c.judge_set-s.ensures) ∙ c.in-Done.is) c.scan-seen.ensures
+    ∙ compact_given limit4 3 a.fc.now a.r_carts.now a.operations.now a.num_rot T (sym (c.judge.ensures ∙ ap (λ x. earlier x (judged_operations a.n_satom a.num_rot (length a.r_carts.now) a.operations.now)) c.judge_set-s.ensures) ∙ c.in_ok-judge.was) c.scan-seen.ensures

@@ -1,3 +1,4 @@
+use Rattle.std.proofs.lemmas.Result.{err_from_is_err_and}
 use Rattle.std.specs.Prelude.{Ok}
 use Prim.Native.Nat.{◌≤◌}
 use native.Mathlib.Omega.{arith}
@@ -12,24 +13,25 @@ use Rattle.audits.specs.Guard.{ready-whole}
 use Rattle.differences.specs.Laws.{full-given, full-refused}
 use Rattle.differences.proofs.second.difference_report_fc2.Goals as goal
 
-pub returns-in-Refused : goal.returns-in-Refused
-returns-in-Refused c =
+pub returns-in_err-judge_full : goal.returns-in_err-judge_full
+returns-in_err-judge_full c =
     let a = c.args in
-    full-refused limit2 1 perms2 a.fc.now a.num_atom _ (sym c.judge_full-a.ensures ∙ c.in-Refused.is)
+    let p = err_from_is_err_and c.from_residual.result c.from_residual.ensures.1 in
+    rw (p.1, p.2) (full-refused limit2 1 perms2 a.fc.now a.num_atom _ (sym c.judge_full.ensures ∙ c.in_err-judge_full.was))
 
 pub scan_full-seen-requires : goal.scan_full-seen-requires
 scan_full-seen-requires c =
     let a = c.args in
-    let e = sym c.judge_full-a.ensures ∙ c.in-Done.is in
+    let e = sym c.judge_full.ensures ∙ c.in_ok-judge_full.was in
     let few = (done_full limit2 1 (length a.fc.now) [] a.num_atom e).0 in
     let h : a.num_atom ≤ 1024 = omega arith in
     (ready-whole limit2 1 (length a.fc.now) a.num_atom (lit≤ tt) e, h)
 
-pub returns-in-Done : goal.returns-in-Done
-returns-in-Done c =
+pub returns : goal.returns
+returns c =
     let a = c.args in
     ap Ok c.conclude.ensures
-    ∙ full-given limit2 1 perms2 a.fc.now a.num_atom (sym c.judge_full-a.ensures ∙ c.in-Done.is) c.scan_full-seen.ensures
+    ∙ full-given limit2 1 perms2 a.fc.now a.num_atom (sym c.judge_full.ensures ∙ c.in_ok-judge_full.was) c.scan_full-seen.ensures
 
-pub judge_full-a-requires : goal.judge_full-a-requires
-judge_full-a-requires c = (lit≤ tt, lit≤ tt)
+pub judge_full-requires : goal.judge_full-requires
+judge_full-requires c = (lit≤ tt, lit≤ tt)

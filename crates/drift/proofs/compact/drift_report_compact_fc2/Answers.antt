@@ -1,3 +1,4 @@
+use Rattle.std.proofs.lemmas.Result.{err_from_is_err_and}
 use Rattle.std.specs.Prelude.{Ok}
 use lib.Dec.{lit≤}
 use lib.ListN.{length}
@@ -8,24 +9,25 @@ use Rattle.audits.specs.Guard.{ready_compact}
 use Rattle.drift.specs.CompactLaws.{held, report-refused, report-done}
 use Rattle.drift.proofs.compact.drift_report_compact_fc2.Goals as goal
 
-pub judge_set-a-requires : goal.judge_set-a-requires
-judge_set-a-requires c = (lit≤ tt, lit≤ tt)
+pub judge_set-requires : goal.judge_set-requires
+judge_set-requires c = (lit≤ tt, lit≤ tt)
 
-pub returns-in-Refused : goal.returns-in-Refused
-returns-in-Refused c =
+pub returns-in_err-judge_set : goal.returns-in_err-judge_set
+returns-in_err-judge_set c =
     let a = c.args in
     let T : ShiftTables = shift_tables a.p2s.now a.s2pp.now a.nsym_list.now a.perms.now a.n_satom a.n_patom a.num_trans in
-    report-refused a.fc.now T _ (sym c.judge_set-a.ensures ∙ c.in-Refused.is)
+    let p = err_from_is_err_and c.from_residual.result c.from_residual.ensures.1 in
+    rw (p.1, p.2) (report-refused a.fc.now T _ (sym c.judge_set.ensures ∙ c.in_err-judge_set.was))
 
 pub scan-seen-requires : goal.scan-seen-requires
 scan-seen-requires c =
     let a = c.args in
     let T : ShiftTables = shift_tables a.p2s.now a.s2pp.now a.nsym_list.now a.perms.now a.n_satom a.n_patom a.num_trans in
-    held _ T (ready_compact limit2 1 (length a.fc.now) T (sym c.judge_set-a.ensures ∙ c.in-Done.is))
+    held _ T (ready_compact limit2 1 (length a.fc.now) T (sym c.judge_set.ensures ∙ c.in_ok-judge_set.was))
 
-pub returns-in-Done : goal.returns-in-Done
-returns-in-Done c =
+pub returns : goal.returns
+returns c =
     let a = c.args in
     let T : ShiftTables = shift_tables a.p2s.now a.s2pp.now a.nsym_list.now a.perms.now a.n_satom a.n_patom a.num_trans in
     ap Ok c.conclude.ensures
-    ∙ report-done a.fc.now T (sym c.judge_set-a.ensures ∙ c.in-Done.is) c.scan-seen.result c.scan-seen.ensures
+    ∙ report-done a.fc.now T (sym c.judge_set.ensures ∙ c.in_ok-judge_set.was) c.scan-seen.result c.scan-seen.ensures

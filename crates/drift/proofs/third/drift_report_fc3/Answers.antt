@@ -1,3 +1,4 @@
+use Rattle.std.proofs.lemmas.Result.{err_from_is_err_and}
 use Rattle.std.specs.Prelude.{Ok}
 use native.Mathlib.Omega.{arith}
 use mathlib.Core.Path.{sym, ap, ◌∙◌}
@@ -9,17 +10,18 @@ pub returns-then-num_atom-eq0 : goal.returns-then-num_atom-eq0
 returns-then-num_atom-eq0 c =
     let a = c.args in
     ap Ok c.still.ensures
-    ∙ report-none a.fc.now a.num_atom c.if-num_atom-eq0.true (sym c.judge_full-a.ensures ∙ c.in-Done.is)
+    ∙ report-none a.fc.now a.num_atom c.if-num_atom-eq0.true (sym c.judge_full.ensures ∙ c.in_ok-judge_full.was)
 
-pub returns-in-Refused : goal.returns-in-Refused
-returns-in-Refused c =
+pub returns-in_err-judge_full : goal.returns-in_err-judge_full
+returns-in_err-judge_full c =
     let a = c.args in
-    report-refused a.fc.now a.num_atom _ (sym c.judge_full-a.ensures ∙ c.in-Refused.is)
+    let p = err_from_is_err_and c.from_residual.result c.from_residual.ensures.1 in
+    rw (p.1, p.2) (report-refused a.fc.now a.num_atom _ (sym c.judge_full.ensures ∙ c.in_err-judge_full.was))
 
 pub scan-seen-requires : goal.scan-seen-requires
 scan-seen-requires c =
     let a = c.args in
-    let e = sym c.judge_full-a.ensures ∙ c.in-Done.is in
+    let e = sym c.judge_full.ensures ∙ c.in_ok-judge_full.was in
     (few-atoms a.fc.now a.num_atom e, long-set a.fc.now a.num_atom e)
 
 pub conclude-requires : goal.conclude-requires
@@ -29,7 +31,7 @@ pub returns-else-num_atom-eq0 : goal.returns-else-num_atom-eq0
 returns-else-num_atom-eq0 c =
     let a = c.args in
     ap Ok c.conclude.ensures
-    ∙ report-done a.fc.now a.num_atom (sym c.judge_full-a.ensures ∙ c.in-Done.is) c.scan-seen.result c.scan-seen.ensures
+    ∙ report-done a.fc.now a.num_atom (sym c.judge_full.ensures ∙ c.in_ok-judge_full.was) c.scan-seen.result c.scan-seen.ensures
 
-pub judge_full-a-requires : goal.judge_full-a-requires
-judge_full-a-requires c = (lit≤ tt, lit≤ tt)
+pub judge_full-requires : goal.judge_full-requires
+judge_full-requires c = (lit≤ tt, lit≤ tt)

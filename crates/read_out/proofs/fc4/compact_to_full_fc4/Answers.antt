@@ -1,3 +1,5 @@
+use Rattle.std.proofs.lemmas.Result.{err_from_is_err_and}
+use Rattle.tables.specs.Answers.{passes, refuses}
 use mathlib.Core.Path.{sym, ◌∙◌}
 use lib.Dec.{lit≤}
 use Rattle.tables.specs.Compact.{ShiftTables, shift_tables}
@@ -5,23 +7,24 @@ use Rattle.read_out.specs.Guard.{in81, read-out-refused, reading}
 use Rattle.read_out.proofs.GuardLaws.{read-out-done}
 use Rattle.read_out.proofs.fc4.compact_to_full_fc4.Goals as goal
 
-pub judge-a-requires : goal.judge-a-requires
-judge-a-requires c = (lit≤ tt, lit≤ tt)
+pub judge-requires : goal.judge-requires
+judge-requires c = (lit≤ tt, lit≤ tt)
 
-pub returns-then-is_refusal : goal.returns-then-is_refusal
-returns-then-is_refusal c =
+pub returns-in_err-judge : goal.returns-in_err-judge
+returns-in_err-judge c =
     let a = c.args in
     let T : ShiftTables = shift_tables a.p2s.now a.s2pp.now a.nsym_list.now a.perms.now a.n_satom a.n_patom a.num_trans in
-    read-out-refused 64 3 81 in81 (lit≤ tt) a.full.now a.fc4.now T c.judge-a.result c.judge-a.ensures (sym c.is_refusal.ensures ∙ c.if-is_refusal.true)
+    let p = err_from_is_err_and c.from_residual.result c.from_residual.ensures.1 in
+    rw (p.1, p.2) (rw (← c.in_err-judge.was) (read-out-refused 64 3 81 in81 (lit≤ tt) a.full.now a.fc4.now T c.judge.result c.judge.ensures (refuses c.in_err-judge.was)))
 
 pub rows-requires : goal.rows-requires
 rows-requires c =
     let a = c.args in
     let T : ShiftTables = shift_tables a.p2s.now a.s2pp.now a.nsym_list.now a.perms.now a.n_satom a.n_patom a.num_trans in
-    reading 64 3 81 in81 (lit≤ tt) a.full.now a.fc4.now T c.judge-a.result c.judge-a.ensures (sym c.is_refusal.ensures ∙ c.if-is_refusal.false)
+    reading 64 3 81 in81 (lit≤ tt) a.full.now a.fc4.now T c.judge.result c.judge.ensures (passes c.in_ok-judge.was)
 
 pub returns : goal.returns
 returns c =
     let a = c.args in
     let T : ShiftTables = shift_tables a.p2s.now a.s2pp.now a.nsym_list.now a.perms.now a.n_satom a.n_patom a.num_trans in
-    read-out-done 64 3 81 in81 (lit≤ tt) a.full.now a.fc4.now T c.judge-a.result c.judge-a.ensures (sym c.is_refusal.ensures ∙ c.if-is_refusal.false) c.rows.ensures
+    read-out-done 64 3 81 in81 (lit≤ tt) a.full.now a.fc4.now T c.judge.result c.judge.ensures (passes c.in_ok-judge.was) c.rows.ensures
