@@ -27,7 +27,7 @@ audit_number (Err r) = refusal_number r
 
 -- the guard's refusal, or what was found
 abbrev pub found_after : Answer → Result (Option Difference) Refusal → Result (Option Difference) Refusal
-found_after (Ok tt) a = a
+found_after (Ok u) a = a
 found_after (Err r) a = Err r
 
 -- ---- two numbers

@@ -108,7 +108,7 @@ operating n num_rot lenCarts operations e =
 
 -- an answer's number is 0 where it is done, and 1 or more where it is refused
 number-done : (a : Answer) → (a ≡ Ok tt) ⊎ (1 ≤ number_of a)
-number-done (Ok tt) = inl refl
+number-done (Ok u) = inl refl
 number-done (Err r) = inr (by r)
   where
     by : (r : Refusal) → 1 ≤ refusal_number r

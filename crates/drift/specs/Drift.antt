@@ -25,7 +25,7 @@ answer_of (Err r) = Err r
 
 -- the guard's refusal, or the report
 abbrev pub reported_after : Answer → DriftReport → Result DriftReport Refusal
-reported_after (Ok tt) r = Ok r
+reported_after (Ok u) r = Ok r
 reported_after (Err a) r = Err a
 
 -- ---- the sums, in the order of their places

@@ -44,7 +44,7 @@ still_report3 = record { drift = Still; leg = 2; first = 0; second = 0; k = 0; l
 
 -- the guard's refusal, or the report
 abbrev pub reported_after3 : Answer → LegReport → Result LegReport Refusal
-reported_after3 (Ok tt) r = Ok r
+reported_after3 (Ok u) r = Ok r
 reported_after3 (Err a) r = Err a
 
 -- the call's answer

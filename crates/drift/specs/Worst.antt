@@ -175,7 +175,7 @@ module _ (xs : List Float) (n : ℕ) where
 
   -- the report of an answer
   after-guard : (a : Answer) (p q : DriftReport) → reported_after a p ≡ Ok q → q ≡ p
-  after-guard (Ok tt) p q e = sym (ap report_in e)
+  after-guard (Ok u) p q e = sym (ap report_in e)
     where
       report_in : Result DriftReport Refusal → DriftReport
       report_in (Ok r) = r

@@ -97,11 +97,11 @@ module _ (slots : List ℤ) (marks : List ℕ) (cell : Cell) (positions rotated 
 
   -- a call that answers Found or NoMatch was not refused
   if_found : (a : Answer) → Answered a slots marks is_near n r → is_found r.0 ≡ true → Result is_near n r
-  if_found (Ok tt) A e = A
+  if_found (Ok u) A e = A
   if_found (Err q) A e = absurd (not-both e (ap (λ (x : Left). is_found x.0) A))
 
   if_none : (a : Answer) → Answered a slots marks is_near n r → is_none r.0 ≡ true → Result is_near n r
-  if_none (Ok tt) A e = A
+  if_none (Ok u) A e = A
   if_none (Err q) A e = absurd (not-both e (ap (λ (x : Left). is_none x.0) A))
 
   if_done : (a : Answer) → Answered a slots marks is_near n r → a ≡ Ok tt → Result is_near n r

@@ -47,7 +47,7 @@ pub record Result (is_near : ℕ → ℕ → Bool) (n : ℕ) (r : Finding × Lis
 
 -- what the call answers and leaves, by its guard: a refused call leaves the slots and the marks
 abbrev pub Answered : Answer → List ℤ → List ℕ → (ℕ → ℕ → Bool) → ℕ → Finding × List ℤ × List ℕ → Type 0
-Answered (Ok tt) slots marks is_near n r = Result is_near n r
+Answered (Ok u) slots marks is_near n r = Result is_near n r
 Answered (Err a) slots marks is_near n r = r ≡ (Refused a, slots, marks)
 
 -- the promise of the call

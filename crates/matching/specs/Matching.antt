@@ -98,7 +98,7 @@ searched dist n =
 
 -- what the call answers and leaves, by its guard: a refused call leaves the slots
 unfoldable pub answered : Answer → List ℤ → Matching × List ℤ → Matching × List ℤ
-answered (Ok tt) slots found = found
+answered (Ok u) slots found = found
 answered (Err r) slots found = (Refused r, slots)
 
 -- the answer, and the slots that the call leaves

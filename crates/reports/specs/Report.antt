@@ -61,7 +61,7 @@ report c S = placed_by (report_at Still 0) report_at c S (deviation_in c S)
 
 -- the guard's refusal, or the report
 abbrev pub reported_after : Answer → Report → Result Report Refusal
-reported_after (Ok tt) r = Ok r
+reported_after (Ok u) r = Ok r
 reported_after (Err a) r = Err a
 
 -- ---- the cases: a number for each, and its value

@@ -51,20 +51,20 @@ and_then (Err r) next = Err r
 
 -- two guards, one after the other
 pub first_refuses : (a next : Answer) → is_refusal a ≡ true → a ≡ and_then a next
-first_refuses (Ok tt) next e = absurd (false≢true e)
+first_refuses (Ok u) next e = absurd (false≢true e)
 first_refuses (Err r) next e = refl
 
 pub first_passes : (a next : Answer) → is_refusal a ≡ false → next ≡ and_then a next
-first_passes (Ok tt) next e = refl
+first_passes (Ok u) next e = refl
 first_passes (Err r) next e = absurd (true≢false e)
 
 pub both-done : (a next : Answer) → and_then a next ≡ Ok tt → (a ≡ Ok tt) × (next ≡ Ok tt)
-both-done (Ok tt) next e = (refl, e)
+both-done (Ok u) next e = (refl, e)
 both-done (Err r) next e = absurd (true≢false (ap is_refusal e))
 
 -- an answer that is no refusal is Done
 pub is_done : (a : Answer) → is_refusal a ≡ false → a ≡ Ok tt
-is_done (Ok tt) e = refl
+is_done (Ok u) e = refl
 is_done (Err r) e = absurd (true≢false e)
 
 -- a refused call leaves what it was lent

@@ -77,10 +77,10 @@ legs_fine t a b h = sym (rw h refl)
 -- ---- a call that is done: the tables passed, and the legs are below 4
 
 none_done : (t : Answer) → with_bad_leg t ≡ Ok tt → ⊥
-none_done (Ok tt) e = true≢false (ap is_refusal e)
+none_done (Ok u) e = true≢false (ap is_refusal e)
 none_done (Err q) e = go (eqb (number_of (Err q)) 1 || eqb (number_of (Err q)) 2) e
   where
-    go : (b : Bool) → cond b (Err q) (Err IndexOutOfRange) ≡ Ok tt → ⊥
+    go : (b : Bool) → cond b (Err q) (Err IndexOutOfRange) ≡ Ok (tt {0}) → ⊥
     go true e = true≢false (ap is_refusal e)
     go false e = true≢false (ap is_refusal e)
 
