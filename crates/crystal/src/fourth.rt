@@ -154,8 +154,7 @@ pub fn crystal_report_compact_fc4(
     );
     judge(s, n_satom, num_rot, r_carts.len(), operations)?;
     let seen = scan(
-        fc, p2s, s2pp, nsym_list, perms, r_carts, operations, n_satom, n_patom, num_trans,
-        num_rot,
+        fc, p2s, s2pp, nsym_list, perms, r_carts, operations, n_satom, n_patom, num_trans, num_rot,
     );
     Ok(conclude(seen))
 }

@@ -17,7 +17,12 @@ use tables::{Refusal, number};
 const MOST: usize = 1024;
 
 // Refusals 1, 2 and 3 of num_rot operations on n atoms.
-fn judge_operations(n: usize, num_rot: usize, carts_len: usize, operations: &[i64]) -> Result<(), Refusal>
+fn judge_operations(
+    n: usize,
+    num_rot: usize,
+    carts_len: usize,
+    operations: &[i64],
+) -> Result<(), Refusal>
     requires { n ≤ 1024 }
     ensures { result ≡ judged_operations n num_rot carts_len operations.now }
 {
@@ -55,7 +60,13 @@ fn earlier(a: Result<(), Refusal>, b: Result<(), Refusal>) -> Result<(), Refusal
 }
 
 // The answer a to the set, and that to the operations on its n atoms. Where a count of the set is above its limit nothing else is looked at.
-pub fn judge(a: Result<(), Refusal>, n: usize, num_rot: usize, carts_len: usize, operations: &[i64]) -> Result<(), Refusal>
+pub fn judge(
+    a: Result<(), Refusal>,
+    n: usize,
+    num_rot: usize,
+    carts_len: usize,
+    operations: &[i64],
+) -> Result<(), Refusal>
     requires { (number_of a ≡ 1 → ⊥) → n ≤ 1024 }
     ensures { result ≡ earlier_of a (judged_operations n num_rot carts_len operations.now) }
 {

@@ -10,9 +10,9 @@ use lines::line_sums;
 use places::{column_of, index_of, row_of};
 use reports::Deviation;
 use reports::seen::{Seen, start};
+use tables::Refusal;
 use tables::limits::LIMIT3;
 use tables::sets::judge_full;
-use tables::Refusal;
 
 // The drift and its place: the leg that is summed over, 0, 1 or 2, the atoms of the two others, and the directions.
 #[derive(Clone, Copy)]

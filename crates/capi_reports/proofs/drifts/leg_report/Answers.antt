@@ -12,14 +12,14 @@ pub bounds-place-5 : goal.bounds-place-5
 bounds-place-5 c = let h = c.requires.1 in simp length-set (omega arith)
 
 pub overflow_add-result : goal.overflow_add-result
-overflow_add-result c = let g = few c.in-Report.q.drift in omega (arith, g, c.number.ensures)
+overflow_add-result c = let g = few c.in-Ok.q.drift in omega (arith, g, c.number.ensures)
 
-pub returns-in-Report : goal.returns-in-Report
-returns-in-Report c =
+pub returns-in-Ok : goal.returns-in-Ok
+returns-in-Ok c =
     let a = c.args in
-    leg-put a.value.now a.place.now c.in-Report.q a.a c.value.result c.number.result (search rules) c.in-Report.is c.value.ensures c.number.ensures
+    leg-put a.value.now a.place.now c.in-Ok.q a.a c.value.result c.number.result (search rules) c.in-Ok.is c.value.ensures c.number.ensures
 
-pub returns-in-Refused : goal.returns-in-Refused
-returns-in-Refused c =
+pub returns-in-Err : goal.returns-in-Err
+returns-in-Err c =
     let a = c.args in
-    leg-kept a.value.now a.place.now a.a c.in-Refused.r c.refusal_number.result c.in-Refused.is c.refusal_number.ensures
+    leg-kept a.value.now a.place.now a.a c.in-Err.r c.from.result c.in-Err.is c.from.ensures

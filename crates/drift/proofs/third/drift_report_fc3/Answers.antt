@@ -27,8 +27,8 @@ scan-seen-requires c =
 pub conclude-requires : goal.conclude-requires
 conclude-requires c = let z = c.if-num_atom-eq0.false in omega arith
 
-pub returns-else-num_atom-eq0 : goal.returns-else-num_atom-eq0
-returns-else-num_atom-eq0 c =
+pub returns : goal.returns-else-num_atom-eq0
+returns c =
     let a = c.args in
     ap Ok c.conclude.ensures
     ∙ report-done a.fc.now a.num_atom (sym c.judge_full.ensures ∙ c.in_ok-judge_full.was) c.scan-seen.result c.scan-seen.ensures
