@@ -6,11 +6,11 @@ ghost use Rattle.tables.specs.Conditions.{index_at, Readable};
 use super::index::entry;
 
 // an atom of the supercell: what p2s and the rows of perms yield
-#[derive(Clone, Copy)]
+#[derive(Clone, Copy, PartialEq, Eq)]
 pub struct SuperAtom(pub usize);
 
 // an atom of the primitive cell: what s2pp yields
-#[derive(Clone, Copy)]
+#[derive(Clone, Copy, PartialEq, Eq)]
 pub struct PrimAtom(pub usize);
 
 // The representative of primitive atom p.
