@@ -1,4 +1,4 @@
-use Prim.Native.Nat.{ℕ, ◌-◌, ◌≤◌, ◌<◌}
+use Prim.Native.Nat.{ℕ, ◌<◌}
 use Rattle.shifts.specs.Loops.{KeepsAt}
 use Rattle.shifts.proofs.rows.keeps_rows.Given as goal
 

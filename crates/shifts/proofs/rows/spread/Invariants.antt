@@ -1,4 +1,4 @@
-use Prim.Native.Nat.{◌-◌, ◌≤◌, ◌<◌}
+use Prim.Native.Nat.{◌<◌}
 use Rattle.shifts.specs.Loops.{Made, Known}
 use Rattle.shifts.proofs.rows.spread.Given as goal
 

@@ -1,8 +1,7 @@
-use mathlib.Core.Bool.{false}
 use mathlib.Core.Path.{sym, ◌∙◌}
 use native.Mathlib.Omega.{arith}
 use borrow.Author.Count.{below_none, below_more}
-use Rattle.tables.specs.Shifts.{is_null, has_null}
+use Rattle.tables.specs.Shifts.{has_null}
 use Rattle.tables.proofs.Loops.{one-passed, all_failed}
 use Rattle.shifts.proofs.rules.has_null.Goals as goal
 

@@ -1,6 +1,6 @@
 use mathlib.Core.Bool.{false}
 use mathlib.Core.Path.{◌≡◌}
-use Prim.Native.Nat.{ℕ, ◌≤◌, ◌<◌, ◌-◌}
+use Prim.Native.Nat.{ℕ, ◌<◌}
 use Rattle.shifts.specs.Rows.{rows_of}
 use Rattle.tables.specs.Shifts.{is_null}
 use Rattle.shifts.proofs.rules.has_null.Given as goal

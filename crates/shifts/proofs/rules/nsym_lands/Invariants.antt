@@ -1,6 +1,6 @@
 use mathlib.Core.Bool.{true}
 use mathlib.Core.Path.{◌≡◌}
-use Prim.Native.Nat.{ℕ, ◌≤◌, ◌<◌, ◌-◌}
+use Prim.Native.Nat.{ℕ, ◌<◌}
 use lib.Dec.{eqb}
 use Rattle.tables.specs.Compact.{shift_tables, shifts_of}
 use Rattle.tables.specs.Shifts.{Shifts, row, p2s_at, s2pp_at, nsym_at}

@@ -1,4 +1,3 @@
-use Prim.Native.Nat.{◌-◌, ◌≤◌}
 use Rattle.shifts.specs.Placing.{Placed}
 use Rattle.shifts.proofs.rules.place_all.Given as goal
 

@@ -64,7 +64,7 @@ loop-t-preserved c =
     let f = c.s2pp_at-q.ensures ∙ ap (index_at a.s2pp.now) e in
     let small : image a.perms.now a.n_satom l.t a.a.0 < 1024 = omega (arith, c.requires.1.atoms, image-below c.requires.1 l.t a.a.0 h c.requires.2) in
     subst (λ x. Placing a.n_satom (l.t + 1) a.a.0 a.p.0 a.perms.now a.s2pp.now a.sent.now (set l.sent x (l.t + 1))) (sym e)
-          (placing-more a.n_satom l.t a.a.0 a.p.0 a.perms.now a.s2pp.now a.sent.now l.sent l.invariant small (sym f ∙ eqb-true _ _ (not-false _ (sym c.ne.ensures ∙ c.if-ne.false))) (ap (λ x. get_or l.sent x 0) (sym e) ∙ c.if-sent-i-ne0.false))
+    (placing-more a.n_satom l.t a.a.0 a.p.0 a.perms.now a.s2pp.now a.sent.now l.sent l.invariant small (sym f ∙ eqb-true _ _ (not-false _ (sym c.ne.ensures ∙ c.if-ne.false))) (ap (λ x. get_or l.sent x 0) (sym e) ∙ c.if-sent-i-ne0.false))
 
 pub returns : goal.returns
 returns c =

@@ -1,4 +1,3 @@
-use Prim.Native.Nat.{◌-◌, ◌≤◌}
 use Rattle.shifts.specs.Placing.{Placing}
 use Rattle.shifts.proofs.rules.place_images.Given as goal
 
