@@ -36,6 +36,7 @@ fn lowered(n: u64, s0: u64) -> u64
     ensures { result * result ≤ n }
 {
     let mut s = s0;
+    // no count: how far the guess is above is not known before
     while n < s * s {
         s -= 1;
     }
@@ -49,6 +50,7 @@ fn raised(n: u64, s0: u64) -> u64
     ensures { (result * result ≤ n) × (n < (result + 1) * (result + 1)) }
 {
     let mut s = s0;
+    // no count: how far it is below is not known before
     while 2 * s < n - s * s {
         s += 1;
     }

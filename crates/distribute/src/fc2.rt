@@ -130,12 +130,10 @@ fn listed(atom_list: &[i64], atom: usize) -> bool
     requires { (i : ℕ) → i < length atom_list.now → Readable atom_list.now i }
     ensures { result ≡ listedIn atom_list.now atom }
 {
-    let mut i = 0;
-    while i < atom_list.len() {
+    for i in 0..atom_list.len() {
         if tables::index::entry(atom_list, i) == atom {
             return true;
         }
-        i += 1;
     }
     false
 }
@@ -160,11 +158,8 @@ fn bad_representative(atom_list: &[i64], map_atoms: &[i64]) -> bool
     requires index_table_2 { IndexTable (length map_atoms.now) (length map_atoms.now) map_atoms.now }
     ensures { result ≡ bad_representative atom_list.now map_atoms.now }
 {
-    let mut i = 0;
-    while i < atom_list.len() {
-        if is_represented(atom_list, map_atoms, i) {
-            i += 1;
-        } else {
+    for i in 0..atom_list.len() {
+        if !is_represented(atom_list, map_atoms, i) {
             return true;
         }
     }

@@ -90,15 +90,12 @@ fn is_index(x: i64, n: usize) -> bool
 fn first_beyond(t: &[i64], n: usize) -> usize
     ensures { result ≡ first_beyond n t.now }
 {
-    let mut k = 0;
-    while k < t.len() {
-        if is_index(t[k], n) {
-            k += 1;
-        } else {
+    for k in 0..t.len() {
+        if !is_index(t[k], n) {
             return k;
         }
     }
-    k
+    t.len()
 }
 
 fn because(r: Refusal, which: usize, first: usize, second: usize, third: usize) -> Explanation

@@ -5,9 +5,7 @@ ghost use Rattle.tables.specs.Shifts.{row, p2s_at, s2pp_at, nsym_at, is_null, ha
 ghost use Rattle.tables.specs.Compact.{ShiftTables, shift_tables, shifts_of, TablesFit};
 ghost use Rattle.explain.specs.Explain.{rule_at};
 
-use tables::atoms::{
-    PrimAtom, SuperAtom, nsym_at, p2s_at, perms_at, s2pp_at, same_prim, same_super,
-};
+use tables::atoms::{PrimAtom, SuperAtom, nsym_at, p2s_at, perms_at, s2pp_at};
 
 // Whether row t sends atom a where row u sends atom b.
 fn meet(
@@ -28,7 +26,7 @@ fn meet(
 {
     let x = perms_at(perms, n_satom, t, SuperAtom(a));
     let y = perms_at(perms, n_satom, u, SuperAtom(b));
-    same_super(x, y)
+    x == y
 }
 
 // Whether row t sends each atom to itself.
@@ -45,13 +43,11 @@ fn is_null(
     requires { let T : ShiftTables = shift_tables p2s.now s2pp.now nsym_list.now perms.now n_satom n_patom num_trans in TablesFit 1024 T × (t < num_trans) }
     ensures { let T : ShiftTables = shift_tables p2s.now s2pp.now nsym_list.now perms.now n_satom n_patom num_trans in result ≡ is_null (shifts_of T) t }
 {
-    let mut a = 0;
-    while a < n_satom {
+    for a in 0..n_satom {
         let b = perms_at(perms, n_satom, t, SuperAtom(a));
-        if !same_super(b, SuperAtom(a)) {
+        if b != SuperAtom(a) {
             return false;
         }
-        a += 1;
     }
     true
 }
@@ -69,12 +65,10 @@ fn has_null(
     requires { let T : ShiftTables = shift_tables p2s.now s2pp.now nsym_list.now perms.now n_satom n_patom num_trans in TablesFit 1024 T }
     ensures { let T : ShiftTables = shift_tables p2s.now s2pp.now nsym_list.now perms.now n_satom n_patom num_trans in result ≡ has_null (shifts_of T) }
 {
-    let mut t = 0;
-    while t < num_trans {
+    for t in 0..num_trans {
         if is_null(p2s, s2pp, nsym_list, perms, n_satom, n_patom, num_trans, t) {
             return true;
         }
-        t += 1;
     }
     false
 }
@@ -95,15 +89,13 @@ fn is_after(
     requires { let T : ShiftTables = shift_tables p2s.now s2pp.now nsym_list.now perms.now n_satom n_patom num_trans in TablesFit 1024 T × (t < num_trans) × (u < num_trans) × (v < num_trans) }
     ensures { let T : ShiftTables = shift_tables p2s.now s2pp.now nsym_list.now perms.now n_satom n_patom num_trans in result ≡ is_after (shifts_of T) t u v }
 {
-    let mut a = 0;
-    while a < n_satom {
+    for a in 0..n_satom {
         let b = perms_at(perms, n_satom, t, SuperAtom(a));
         let x = perms_at(perms, n_satom, u, b);
         let y = perms_at(perms, n_satom, v, SuperAtom(a));
-        if !same_super(x, y) {
+        if x != y {
             return false;
         }
-        a += 1;
     }
     true
 }
@@ -123,14 +115,12 @@ fn has_after(
     requires { let T : ShiftTables = shift_tables p2s.now s2pp.now nsym_list.now perms.now n_satom n_patom num_trans in TablesFit 1024 T × (t < num_trans) × (u < num_trans) }
     ensures { let T : ShiftTables = shift_tables p2s.now s2pp.now nsym_list.now perms.now n_satom n_patom num_trans in result ≡ some num_trans (is_after (shifts_of T) t u) }
 {
-    let mut v = 0;
-    while v < num_trans {
+    for v in 0..num_trans {
         if is_after(
             p2s, s2pp, nsym_list, perms, n_satom, n_patom, num_trans, t, u, v,
         ) {
             return true;
         }
-        v += 1;
     }
     false
 }
@@ -150,7 +140,7 @@ fn comes_back(
     ensures { let T : ShiftTables = shift_tables p2s.now s2pp.now nsym_list.now perms.now n_satom n_patom num_trans in result ≡ eqb (s2pp_at (shifts_of T) (p2s_at (shifts_of T) p)) p }
 {
     let q = s2pp_at(s2pp, p2s_at(p2s, PrimAtom(p)));
-    same_prim(q, PrimAtom(p))
+    q == PrimAtom(p)
 }
 
 // Whether s2pp is the same for atom a and its image under row t.
@@ -170,7 +160,7 @@ fn keeps_prim(
 {
     let p = s2pp_at(s2pp, perms_at(perms, n_satom, t, SuperAtom(a)));
     let q = s2pp_at(s2pp, SuperAtom(a));
-    same_prim(p, q)
+    p == q
 }
 
 // Whether row nsym_list[a] sends a to p2s[s2pp[a]].
@@ -190,7 +180,7 @@ fn lands(
     let t = nsym_at(nsym_list, SuperAtom(a));
     let x = perms_at(perms, n_satom, t, SuperAtom(a));
     let y = p2s_at(p2s, s2pp_at(s2pp, SuperAtom(a)));
-    same_super(x, y)
+    x == y
 }
 
 // Whether i, j and k break the rule.

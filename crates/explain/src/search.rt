@@ -100,16 +100,14 @@ pub fn third_of(
     let n = thirds(
         rule, p2s, s2pp, nsym_list, perms, n_satom, n_patom, num_trans,
     );
-    let mut k = 0;
-    while k < n {
+    for k in 0..n {
         if breaks(
             rule, p2s, s2pp, nsym_list, perms, n_satom, n_patom, num_trans, i, j, k,
         ) {
             return k;
         }
-        k += 1;
     }
-    k
+    n
 }
 
 // The least j that breaks it with i and some k.
@@ -133,17 +131,15 @@ pub fn second_of(
     let m = thirds(
         rule, p2s, s2pp, nsym_list, perms, n_satom, n_patom, num_trans,
     );
-    let mut j = 0;
-    while j < n {
+    for j in 0..n {
         if third_of(
             rule, p2s, s2pp, nsym_list, perms, n_satom, n_patom, num_trans, i, j,
         ) < m
         {
             return j;
         }
-        j += 1;
     }
-    j
+    n
 }
 
 // The least i that breaks it with some j and k.
@@ -166,17 +162,15 @@ pub fn first_of(
     let m = seconds(
         rule, p2s, s2pp, nsym_list, perms, n_satom, n_patom, num_trans,
     );
-    let mut i = 0;
-    while i < n {
+    for i in 0..n {
         if second_of(
             rule, p2s, s2pp, nsym_list, perms, n_satom, n_patom, num_trans, i,
         ) < m
         {
             return i;
         }
-        i += 1;
     }
-    i
+    n
 }
 
 // The first rule that is broken, or 8.
@@ -192,8 +186,7 @@ pub fn first_broken(
     requires { let T : ShiftTables = shift_tables p2s.now s2pp.now nsym_list.now perms.now n_satom n_patom num_trans in TablesFit 1024 T }
     ensures { let T : ShiftTables = shift_tables p2s.now s2pp.now nsym_list.now perms.now n_satom n_patom num_trans in result ≡ first_broken (shifts_of T) }
 {
-    let mut rule = 0;
-    while rule < 8 {
+    for rule in 0..8 {
         if first_of(
             rule, p2s, s2pp, nsym_list, perms, n_satom, n_patom, num_trans,
         ) < firsts(
@@ -201,7 +194,6 @@ pub fn first_broken(
         ) {
             return rule;
         }
-        rule += 1;
     }
-    rule
+    8
 }

@@ -22,11 +22,8 @@ pub fn on_grid(x: f64) -> bool
 pub fn nine_on_grid(v: [f64; 9]) -> bool
     ensures { result ≡ nineAre v }
 {
-    let mut k = 0;
-    while k < 9 {
-        if on_grid(v[k]) {
-            k += 1;
-        } else {
+    for x in &v {
+        if !on_grid(*x) {
             return false;
         }
     }

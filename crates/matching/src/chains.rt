@@ -69,8 +69,7 @@ pub fn search(
         marks.old i result rot_atom.new marks.new }
 {
     marks[i] = 1;
-    let mut j = 0;
-    while j < rot_atom.len() {
+    for j in 0..rot_atom.len() {
         if is_open(rot_atom, marks, cell, reach, pos, rot_pos, i, j) {
             if !filled_at(rot_atom, j) {
                 give(rot_atom, j, i);
@@ -83,7 +82,6 @@ pub fn search(
             }
             give(rot_atom, j, k);
         }
-        j += 1;
     }
     false
 }

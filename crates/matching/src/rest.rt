@@ -31,12 +31,10 @@ fn holds_at(rot_atom: &[i64], j: usize, i: usize) -> bool
 fn is_held(rot_atom: &[i64], i: usize) -> bool
     ensures { Holding (length rot_atom.now) rot_atom.now i result }
 {
-    let mut j = 0;
-    while j < rot_atom.len() {
+    for j in 0..rot_atom.len() {
         if holds_at(rot_atom, j, i) {
             return true;
         }
-        j += 1;
     }
     false
 }
@@ -82,11 +80,8 @@ pub fn place_rest(
         rot_atom.new marks.new }
 {
     let reach = reach_of(cell);
-    let mut i = 0;
-    while i < rot_atom.len() {
-        if place_one(rot_atom, marks, cell, reach, pos, rot_pos, i) {
-            i += 1;
-        } else {
+    for i in 0..rot_atom.len() {
+        if !place_one(rot_atom, marks, cell, reach, pos, rot_pos, i) {
             return false;
         }
     }

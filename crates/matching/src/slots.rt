@@ -14,11 +14,7 @@ use distances::{Cell, Distance, Reach, distance_of, is_near, reach_of};
 pub fn clear(rot_atom: &mut [i64])
     ensures { rot_atom.new ≡ replicate (length rot_atom.old) (negsuc 0) }
 {
-    let mut j = 0;
-    while j < rot_atom.len() {
-        rot_atom[j] = -1;
-        j += 1;
-    }
+    rot_atom.fill(-1);
 }
 
 pub fn is_filled(slot: i64) -> bool
@@ -79,15 +75,12 @@ fn skip_filled(rot_atom: &[i64], start: usize) -> usize
     requires { FilledBelow rot_atom.now start }
     ensures { FilledBelow rot_atom.now result × FreeAt rot_atom.now result }
 {
-    let mut k = start;
-    while k < rot_atom.len() {
-        if is_filled(rot_atom[k]) {
-            k += 1;
-        } else {
+    for k in start..rot_atom.len() {
+        if !is_filled(rot_atom[k]) {
             return k;
         }
     }
-    k
+    rot_atom.len()
 }
 
 // The slot that takes a position, and the first slot tried for it whose distance is no number: each the number of slots if there is none.
@@ -112,16 +105,17 @@ fn find(
         × (result.none ≡ noted_at (distance_of cell pos.now rot_pos.now) rot_atom.now i) }
 {
     let mut none = rot_atom.len();
-    let mut j = start;
-    while j < rot_atom.len() {
+    for j in start..rot_atom.len() {
         let d = tried(rot_atom[j], cell, reach, pos, rot_pos, i, j);
         if is_near(d) {
             return Found { at: j, none };
         }
         none = noted(d, none, rot_atom.len(), j);
-        j += 1;
     }
-    Found { at: j, none }
+    Found {
+        at: rot_atom.len(),
+        none,
+    }
 }
 
 // The lowest free slot that is near position i takes i. Returns the first slot tried whose distance is no number; the number of slots if there is none.
@@ -175,13 +169,10 @@ fn place_all(rot_atom: &mut [i64], cell: Cell, pos: &[f64], rot_pos: &[f64]) -> 
         slot: 0,
     };
     let mut start = 0;
-    let mut i = 0;
-    while i < rot_atom.len() {
+    for i in 0..rot_atom.len() {
         start = skip_filled(rot_atom, start);
         let s = place(rot_atom, cell, r, pos, rot_pos, i, start);
-        let more = first_pair(first, rot_atom.len(), i, s);
-        first = more;
-        i += 1;
+        first = first_pair(first, rot_atom.len(), i, s);
     }
     first
 }

@@ -4,7 +4,7 @@ ghost use Rattle.shifts.specs.Rows.{Rows, image, Composed, Closed, Sent};
 ghost use Rattle.tables.specs.Conditions.{Tells};
 ghost use Rattle.shifts.specs.Loops.{Marked, Made, Known, Learnt, KeepsAt, right_of, Commutes, Settled};
 
-use tables::atoms::{PrimAtom, SuperAtom, p2s_at, perms_at, s2pp_at, same_prim, same_super};
+use tables::atoms::{PrimAtom, SuperAtom, p2s_at, perms_at, s2pp_at};
 
 // Whether row u after row t sends atom a where row v sends it.
 fn agrees_at(
@@ -21,7 +21,7 @@ fn agrees_at(
 {
     let b = perms_at(perms, n_satom, u, perms_at(perms, n_satom, t, a));
     let d = perms_at(perms, n_satom, v, a);
-    same_super(b, d)
+    b == d
 }
 
 // The same for four atoms, without a branch between them.
@@ -62,11 +62,8 @@ fn agrees_from(
         → k < n_satom
         → image perms.now n_satom u (image perms.now n_satom t k) ≡ image perms.now n_satom v k) }
 {
-    let mut a = start;
-    while a < n_satom {
-        if agrees_at(perms, n_satom, num_trans, t, u, v, SuperAtom(a)) {
-            a += 1;
-        } else {
+    for a in start..n_satom {
+        if !agrees_at(perms, n_satom, num_trans, t, u, v, SuperAtom(a)) {
             return false;
         }
     }
@@ -78,15 +75,13 @@ fn is_after(perms: &[i64], n_satom: usize, num_trans: usize, t: usize, u: usize,
     requires { Rows n_satom num_trans perms.now × (t < num_trans) × (u < num_trans) × (v < num_trans) }
     ensures { Tells result (Composed n_satom perms.now t u v) }
 {
-    let mut a = 0;
-    while n_satom - a > 3 {
-        if agrees_at_four(perms, n_satom, num_trans, t, u, v, a) {
-            a += 4;
-        } else {
+    let fours = n_satom / 4;
+    for f in 0..fours {
+        if !agrees_at_four(perms, n_satom, num_trans, t, u, v, f * 4) {
             return false;
         }
     }
-    agrees_from(perms, n_satom, num_trans, t, u, v, a)
+    agrees_from(perms, n_satom, num_trans, t, u, v, fours * 4)
 }
 
 // The row that sends base where row r and then row u send it.
@@ -160,8 +155,7 @@ fn spread(
         × (Closed n_satom num_trans perms.now → result ≡ true) }
 {
     let mut r = null;
-    let mut k = 0;
-    while k < num_trans {
+    for _ in 0..num_trans {
         if !learn_after(perms, n_satom, num_trans, base, sent, gens, u, r, known) {
             return false;
         }
@@ -173,7 +167,6 @@ fn spread(
             return true;
         }
         r = x - 1;
-        k += 1;
     }
     true
 }
@@ -223,13 +216,10 @@ fn learn_all(
 {
     let mut known = [0usize; 1024];
     known[null] = num_trans + 1;
-    let mut u = 0;
-    while u < num_trans {
-        if learn(
+    for u in 0..num_trans {
+        if !learn(
             perms, n_satom, num_trans, base, sent, null, u, &mut known, gens,
         ) {
-            u += 1;
-        } else {
             return false;
         }
     }
@@ -263,7 +253,7 @@ fn keeps_row(
     let b = perms_at(perms, n_satom, g, a);
     let p = s2pp_at(s2pp, a);
     let q = s2pp_at(s2pp, b);
-    if !same_prim(q, p) {
+    if q != p {
         return false;
     }
     let first = p2s_at(p2s, PrimAtom(0));
@@ -290,9 +280,8 @@ fn keeps_rows(
     requires { Sent n_satom num_trans n_patom perms.now p2s.now s2pp.now sent.now × (g < num_trans) }
     ensures { Tells result ((a : ℕ) → a < n_satom → KeepsAt n_satom perms.now p2s.now s2pp.now sent.now g a) }
 {
-    let mut a = 0;
-    while a < n_satom {
-        if keeps_row(
+    for a in 0..n_satom {
+        if !keeps_row(
             p2s,
             s2pp,
             perms,
@@ -303,8 +292,6 @@ fn keeps_rows(
             g,
             SuperAtom(a),
         ) {
-            a += 1;
-        } else {
             return false;
         }
     }
@@ -329,8 +316,7 @@ fn shift_right(
         → get_or right.new a 0 ≡ right_of perms.now n_satom p2s.now s2pp.now sent.now s a)
         × (length right.new ≡ 1024) }
 {
-    let mut a = 0;
-    while a < n_satom {
+    for a in 0..n_satom {
         let p = p2s_at(p2s, s2pp_at(s2pp, SuperAtom(a)));
         let b = perms_at(
             perms,
@@ -339,7 +325,6 @@ fn shift_right(
             perms_at(perms, n_satom, s, p),
         );
         right[a] = b.0;
-        a += 1;
     }
 }
 
@@ -363,14 +348,12 @@ fn commutes(
     requires { Rows n_satom num_trans perms.now × (g < num_trans) × ((a : ℕ) → a < n_satom → get_or right.now a 0 < n_satom) }
     ensures { Tells result (Commutes n_satom perms.now g (λ a. get_or right.now a 0)) }
 {
-    let mut a = 0;
-    while a < n_satom {
+    for a in 0..n_satom {
         let b = perms_at(perms, n_satom, g, SuperAtom(a));
         let d = perms_at(perms, n_satom, g, shifted(right, SuperAtom(a)));
-        if !same_super(d, shifted(right, b)) {
+        if d != shifted(right, b) {
             return false;
         }
-        a += 1;
     }
     true
 }
@@ -407,11 +390,8 @@ fn all_commute(
         → (get_or gens.now g 0 ≡ 0 → ⊥)
         → Commutes n_satom perms.now g (λ a. get_or right.now a 0)) }
 {
-    let mut g = 0;
-    while g < num_trans {
-        if generator_commutes(perms, n_satom, num_trans, gens, g, right) {
-            g += 1;
-        } else {
+    for g in 0..num_trans {
+        if !generator_commutes(perms, n_satom, num_trans, gens, g, right) {
             return false;
         }
     }
@@ -466,13 +446,10 @@ fn all_settled(
         → Settled n_satom num_trans perms.now p2s.now s2pp.now sent.now gens.now s) }
 {
     let mut right = [0usize; 1024];
-    let mut s = 0;
-    while s < num_trans {
-        if is_settled(
+    for s in 0..num_trans {
+        if !is_settled(
             p2s, s2pp, perms, n_satom, n_patom, num_trans, sent, gens, s, &mut right,
         ) {
-            s += 1;
-        } else {
             return false;
         }
     }

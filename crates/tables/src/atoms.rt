@@ -1,16 +1,16 @@
 // Atom numbers as they are read from the shift tables. A number of the supercell and one of the primitive cell are types of their own,
-// so that neither is accepted in the other's place.
-ghost use Rattle.std.specs.Prelude.{◌≡◌, eqb, ◌+◌, ◌*◌};
+// so that neither is accepted in the other's place. Two of one kind are compared by ==, which compares the numbers.
+ghost use Rattle.std.specs.Prelude.{◌≡◌, ◌+◌, ◌*◌};
 ghost use Rattle.tables.specs.Conditions.{index_at, Readable};
 
 use super::index::entry;
 
 // an atom of the supercell: what p2s and the rows of perms yield
-#[derive(Clone, Copy)]
+#[derive(Clone, Copy, PartialEq, Eq)]
 pub struct SuperAtom(pub usize);
 
 // an atom of the primitive cell: what s2pp yields
-#[derive(Clone, Copy)]
+#[derive(Clone, Copy, PartialEq, Eq)]
 pub struct PrimAtom(pub usize);
 
 // The representative of primitive atom p.
@@ -47,18 +47,4 @@ pub fn nsym_at(nsym_list: &[i64], a: SuperAtom) -> usize
 {
     let i = a.0;
     entry(nsym_list, i)
-}
-
-// Whether two atoms of the supercell are one.
-pub fn same_super(a: SuperAtom, b: SuperAtom) -> bool
-    ensures { result ≡ eqb a.0 b.0 }
-{
-    a.0 == b.0
-}
-
-// Whether two atoms of the primitive cell are one.
-pub fn same_prim(p: PrimAtom, q: PrimAtom) -> bool
-    ensures { result ≡ eqb p.0 q.0 }
-{
-    p.0 == q.0
 }

@@ -45,11 +45,8 @@ fn rest_below(t: &[i64], start: usize, n: usize) -> bool
     requires { start ≤ length t.now }
     ensures { Tells result ((k : ℕ) → start ≤ k → k < length t.now → below n (get_or t.now k (pos 0)) ≡ true) }
 {
-    let mut i = start;
-    while i < t.len() {
-        if is_below(t[i], n) {
-            i += 1;
-        } else {
+    for i in start..t.len() {
+        if !is_below(t[i], n) {
             return false;
         }
     }
@@ -61,15 +58,13 @@ fn fours_below(t: &[i64], n: usize, m: i64) -> bool
     requires { m ≡ pos n }
     ensures { Tells result ((k : ℕ) → k < length t.now → below n (get_or t.now k (pos 0)) ≡ true) }
 {
-    let mut i = 0;
-    while t.len() - i > 3 {
-        if four_within(t, i, n, m) {
-            i += 4;
-        } else {
+    let fours = t.len() / 4;
+    for f in 0..fours {
+        if !four_within(t, f * 4, n, m) {
             return false;
         }
     }
-    rest_below(t, i, n)
+    rest_below(t, fours * 4, n)
 }
 
 // Whether every entry of t is an index into n things, whether it is read later or not.

@@ -12,10 +12,8 @@ fn times_power(b: usize, k: usize, n: usize) -> usize
     ensures { result ≡ times_power b k n }
 {
     let mut x = n;
-    let mut i = 0;
-    while i < k {
+    for _ in 0..k {
         x *= b;
-        i += 1;
     }
     x
 }

@@ -8,7 +8,7 @@ use Rattle.distribute.specs.Fc2Laws.{none_yet, none_more}
 use Rattle.distribute.proofs.fc2.bad_representative.Goals as goal
 
 pub loop-i-init : goal.loop-i-init
-loop-i-init c = (omega arith, none_yet _)
+loop-i-init c = none_yet _
 
 pub is_represented-requires : goal.is_represented-requires
 is_represented-requires c = record { index_table = c.requires.index_table; index_table_2 = c.requires.index_table_2; i_in_bounds = omega arith }
@@ -16,18 +16,18 @@ is_represented-requires c = record { index_table = c.requires.index_table; index
 pub loop-i-preserved : goal.loop-i-preserved
 loop-i-preserved c =
     let l = c.loop-i in
-    (omega arith, none_more l.i _ l.invariant.1 (ap not (sym c.is_represented.ensures ∙ c.if-is_represented.true)))
+    none_more l.i _ l.invariant (ap not (sym c.is_represented.ensures ∙ c.if-not-is_represented.false))
 
-pub returns-else-is_represented : goal.returns-else-is_represented
+pub returns-then-not-is_represented : goal.returns-then-not-is_represented
 unfolding bad_representative
-returns-else-is_represented c =
+returns-then-not-is_represented c =
     let l = c.loop-i in
     let a = c.args in
-    sym (some_of (length a.atom_list.now) _ l.i (omega arith) (ap not (sym c.is_represented.ensures ∙ c.if-is_represented.false)))
+    sym (some_of (length a.atom_list.now) _ l.i (omega arith) (ap not (sym c.is_represented.ensures ∙ c.if-not-is_represented.true)))
 
 pub returns : goal.returns
 unfolding bad_representative
 returns c =
     let l = c.loop-i in
     let e : l.i ≡ length c.args.atom_list.now = omega arith in
-    sym (rw e at l.invariant.1)
+    sym (rw e at l.invariant)

@@ -7,7 +7,4 @@ use Rattle.distribute.specs.Fc2.{represented}
 use Rattle.distribute.proofs.fc2.bad_representative.Given as goal
 
 abbrev pub invariant-loop-i : goal.invariant-loop-i
-invariant-loop-i l = (l.i ≤ length l.atom_list) × (some l.i (λ k. not (represented l.atom_list l.map_atoms k)) ≡ false)
-
-abbrev pub decreases-loop-i : goal.decreases-loop-i
-decreases-loop-i l = length l.atom_list - l.i
+invariant-loop-i l = some l.i (λ k. not (represented l.atom_list l.map_atoms k)) ≡ false

@@ -9,7 +9,7 @@ use Rattle.distribute.specs.Fc2Laws.{none_yet, none_more}
 use Rattle.distribute.proofs.fc2.listed.Goals as goal
 
 pub loop-i-init : goal.loop-i-init
-loop-i-init c = (omega arith, none_yet _)
+loop-i-init c = none_yet _
 
 pub entry-requires : goal.entry-requires
 entry-requires c = c.requires c.loop-i.i (omega arith)
@@ -25,11 +25,11 @@ pub loop-i-preserved : goal.loop-i-preserved
 loop-i-preserved c =
     let l = c.loop-i in
     let a = c.args in
-    (omega arith, none_more l.i _ l.invariant.1 (ne_eqb _ _ (λ e. c.if-entry-atom.false (c.entry.ensures ∙ e))))
+    none_more l.i _ l.invariant (ne_eqb _ _ (λ e. c.if-entry-atom.false (c.entry.ensures ∙ e)))
 
 pub returns : goal.returns
 unfolding listed_atom
 returns c =
     let l = c.loop-i in
     let e : l.i ≡ length c.args.atom_list.now = omega arith in
-    sym (rw e at l.invariant.1)
+    sym (rw e at l.invariant)

@@ -8,7 +8,4 @@ use Rattle.tables.specs.Conditions.{index_at}
 use Rattle.distribute.proofs.fc2.listed.Given as goal
 
 abbrev pub invariant-loop-i : goal.invariant-loop-i
-invariant-loop-i l = (l.i ≤ length l.atom_list) × (some l.i (λ k. eqb (index_at l.atom_list k) l.atom) ≡ false)
-
-abbrev pub decreases-loop-i : goal.decreases-loop-i
-decreases-loop-i l = length l.atom_list - l.i
+invariant-loop-i l = some l.i (λ k. eqb (index_at l.atom_list k) l.atom) ≡ false

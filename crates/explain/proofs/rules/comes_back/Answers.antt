@@ -1,6 +1,6 @@
 use mathlib.Core.Path.{ap, ◌∙◌}
 use lib.Dec.{eqb}
-use Rattle.tables.specs.Shifts.{p2s_at, s2pp_at}
+use Rattle.tables.specs.Shifts.{s2pp_at}
 use Rattle.tables.specs.Compact.{ShiftTables, shift_tables, shifts_of, p2s_is, s2pp_is}
 use Rattle.explain.specs.Laws.{p2s-read, s2pp-read, p2s-below}
 use Rattle.explain.proofs.rules.comes_back.Goals as goal
@@ -22,4 +22,4 @@ returns c =
     let a = c.args in
     let T : ShiftTables = shift_tables a.p2s.now a.s2pp.now a.nsym_list.now a.perms.now a.n_satom a.n_patom a.num_trans in
     let S = shifts_of T in
-    c.same_prim.ensures ∙ ap (λ q. eqb q a.p) (c.s2pp_at-q.ensures ∙ s2pp_is T _ ∙ ap (s2pp_at S) (c.p2s_at.ensures ∙ p2s_is T a.p))
+    c.eq.ensures ∙ ap (λ q. eqb q a.p) (c.s2pp_at-q.ensures ∙ s2pp_is T _ ∙ ap (s2pp_at S) (c.p2s_at.ensures ∙ p2s_is T a.p))

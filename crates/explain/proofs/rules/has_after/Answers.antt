@@ -1,13 +1,11 @@
 use mathlib.Core.Path.{sym, ◌∙◌}
 use native.Mathlib.Omega.{arith}
 use borrow.Author.Count.{below_none, below_more}
-use mathlib.Core.Bool.{false}
-use Rattle.tables.specs.Shifts.{is_after}
 use Rattle.tables.proofs.Loops.{one-passed, all_failed}
 use Rattle.explain.proofs.rules.has_after.Goals as goal
 
 pub loop-v-init : goal.loop-v-init
-loop-v-init c = (omega arith, below_none _)
+loop-v-init c = below_none _
 
 pub returns-then-is_after : goal.returns-then-is_after
 returns-then-is_after c = one-passed _ _ c.loop-v.v c.loop-v-test.true (sym c.is_after.ensures ∙ c.if-is_after.true)
@@ -15,7 +13,7 @@ returns-then-is_after c = one-passed _ _ c.loop-v.v c.loop-v-test.true (sym c.is
 pub loop-v-preserved : goal.loop-v-preserved
 loop-v-preserved c =
     let l = c.loop-v in
-    (omega arith, below_more _ l.v l.invariant.1 (sym c.is_after.ensures ∙ c.if-is_after.false))
+    below_more _ l.v l.invariant (sym c.is_after.ensures ∙ c.if-is_after.false)
 
 pub returns : goal.returns
-returns c = all_failed _ _ (λ k h. c.loop-v.invariant.1 k (omega arith))
+returns c = all_failed _ _ (λ k h. c.loop-v.invariant k (omega arith))

@@ -1,5 +1,5 @@
 use mathlib.Core.Path.{◌≡◌}
-use Prim.Native.Nat.{ℕ, ◌≤◌, ◌<◌, ◌-◌}
+use Prim.Native.Nat.{ℕ, ◌<◌}
 use mathlib.Core.Bool.{false}
 use Rattle.tables.specs.Shifts.{Shifts, is_after}
 use Rattle.tables.specs.Compact.{shift_tables, shifts_of}
@@ -8,7 +8,4 @@ use Rattle.explain.proofs.rules.has_after.Given as goal
 abbrev pub invariant-loop-v : goal.invariant-loop-v
 invariant-loop-v l =
     let S : Shifts = shifts_of (shift_tables l.p2s l.s2pp l.nsym_list l.perms l.n_satom l.n_patom l.num_trans) in
-    (l.v ≤ l.num_trans) × ((k : ℕ) → k < l.v → is_after S l.t l.u k ≡ false)
-
-abbrev pub decreases-loop-v : goal.decreases-loop-v
-decreases-loop-v l = l.num_trans - l.v
+    (k : ℕ) → k < l.v → is_after S l.t l.u k ≡ false

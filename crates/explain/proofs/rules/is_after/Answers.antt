@@ -1,7 +1,7 @@
 use mathlib.Core.Path.{◌≡◌, sym, ap, ap₂, ◌∙◌}
 use native.Mathlib.Omega.{arith}
+use borrow.Author.Tests.{not-true, not-false}
 use borrow.Author.Count.{below_none, below_more}
-use mathlib.Core.Bool.{true}
 use Rattle.tables.proofs.Loops.{all-passed, one_failed}
 use lib.Dec.{eqb}
 use Rattle.tables.specs.Shifts.{row, is_after}
@@ -10,7 +10,7 @@ use Rattle.explain.specs.Laws.{perms-read, image-below}
 use Rattle.explain.proofs.rules.is_after.Goals as goal
 
 pub loop-a-init : goal.loop-a-init
-loop-a-init c = (omega arith, below_none _)
+loop-a-init c = below_none _
 
 pub perms_at-b-requires : goal.perms_at-b-requires
 perms_at-b-requires c =
@@ -33,9 +33,9 @@ perms_at-y-requires c =
     let p = c.requires in
     perms-read T p.0 a.v c.loop-a.a p.3 c.loop-a-test.true
 
-pub returns-then-not-same_super : goal.returns-then-not-same_super
+pub returns-then-ne : goal.returns-then-ne
 unfolding is_after
-returns-then-not-same_super c =
+returns-then-ne c =
     let a = c.args in
     let T : ShiftTables = shift_tables a.p2s.now a.s2pp.now a.nsym_list.now a.perms.now a.n_satom a.n_patom a.num_trans in
     let S = shifts_of T in
@@ -43,7 +43,7 @@ returns-then-not-same_super c =
     let e : c.perms_at-x.result.0 ≡ row S a.u (row S a.t l.a) =
     c.perms_at-x.ensures ∙ perms_is T a.u _ ∙ ap (row S a.u) (c.perms_at-b.ensures ∙ perms_is T a.t l.a) in
     let d = c.perms_at-y.ensures ∙ perms_is T a.v l.a in
-    one_failed a.n_satom _ l.a c.loop-a-test.true (ap₂ eqb (sym e) (sym d) ∙ sym c.same_super.ensures ∙ c.if-not-same_super.true)
+    one_failed a.n_satom _ l.a c.loop-a-test.true (ap₂ eqb (sym e) (sym d) ∙ not-true _ (sym c.ne.ensures ∙ c.if-ne.true))
 
 pub loop-a-preserved : goal.loop-a-preserved
 loop-a-preserved c =
@@ -54,10 +54,10 @@ loop-a-preserved c =
     let e : c.perms_at-x.result.0 ≡ row S a.u (row S a.t l.a) =
     c.perms_at-x.ensures ∙ perms_is T a.u _ ∙ ap (row S a.u) (c.perms_at-b.ensures ∙ perms_is T a.t l.a) in
     let d = c.perms_at-y.ensures ∙ perms_is T a.v l.a in
-    (omega arith, below_more _ l.a l.invariant.1 (ap₂ eqb (sym e) (sym d) ∙ sym c.same_super.ensures ∙ c.if-not-same_super.false))
+    below_more _ l.a l.invariant (ap₂ eqb (sym e) (sym d) ∙ not-false _ (sym c.ne.ensures ∙ c.if-ne.false))
 
 pub returns : goal.returns
 unfolding is_after
 returns c =
     let a = c.args in
-    all-passed a.n_satom _ (λ k h. c.loop-a.invariant.1 k (omega arith))
+    all-passed a.n_satom _ (λ k h. c.loop-a.invariant k (omega arith))

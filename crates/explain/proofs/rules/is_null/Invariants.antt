@@ -1,5 +1,5 @@
 use mathlib.Core.Path.{◌≡◌}
-use Prim.Native.Nat.{ℕ, ◌≤◌, ◌<◌, ◌-◌}
+use Prim.Native.Nat.{ℕ, ◌<◌}
 use mathlib.Core.Bool.{true}
 use lib.Dec.{eqb}
 use Rattle.tables.specs.Shifts.{Shifts, row}
@@ -9,7 +9,4 @@ use Rattle.explain.proofs.rules.is_null.Given as goal
 abbrev pub invariant-loop-a : goal.invariant-loop-a
 invariant-loop-a l =
     let S : Shifts = shifts_of (shift_tables l.p2s l.s2pp l.nsym_list l.perms l.n_satom l.n_patom l.num_trans) in
-    (l.a ≤ l.n_satom) × ((k : ℕ) → k < l.a → eqb (row S l.t k) k ≡ true)
-
-abbrev pub decreases-loop-a : goal.decreases-loop-a
-decreases-loop-a l = l.n_satom - l.a
+    (k : ℕ) → k < l.a → eqb (row S l.t k) k ≡ true

@@ -29,4 +29,4 @@ returns c =
     let a = c.args in
     let T : ShiftTables = shift_tables a.p2s.now a.s2pp.now a.nsym_list.now a.perms.now a.n_satom a.n_patom a.num_trans in
     let S = shifts_of T in
-    c.same_prim.ensures ∙ ap₂ eqb (c.s2pp_at-p.ensures ∙ s2pp_is T _ ∙ ap (s2pp_at S) (c.perms_at.ensures ∙ perms_is T a.t a.a)) (c.s2pp_at-q.ensures ∙ s2pp_is T a.a)
+    c.eq.ensures ∙ ap₂ eqb (c.s2pp_at-p.ensures ∙ s2pp_is T _ ∙ ap (s2pp_at S) (c.perms_at.ensures ∙ perms_is T a.t a.a)) (c.s2pp_at-q.ensures ∙ s2pp_is T a.a)

@@ -1,6 +1,6 @@
 use mathlib.Core.Path.{◌≡◌, ap, ap₂, ◌∙◌}
 use lib.Dec.{eqb}
-use Rattle.tables.specs.Shifts.{row, p2s_at, s2pp_at, nsym_at}
+use Rattle.tables.specs.Shifts.{row, p2s_at, nsym_at}
 use Rattle.tables.specs.Compact.{ShiftTables, shift_tables, shifts_of, perms_is, p2s_is, s2pp_is, nsym_is}
 use Rattle.explain.specs.Laws.{perms-read, p2s-read, s2pp-read, nsym_read, s2pp-below, nsym_below}
 use Rattle.explain.proofs.rules.lands.Goals as goal
@@ -38,4 +38,4 @@ returns c =
     let S = shifts_of T in
     let e : c.perms_at-x.result.0 ≡ row S (nsym_at S a.a) a.a =
     c.perms_at-x.ensures ∙ perms_is T _ a.a ∙ ap (λ t. row S t a.a) (c.nsym_at-t.ensures ∙ nsym_is T a.a) in
-    c.same_super.ensures ∙ ap₂ eqb e (c.p2s_at-y.ensures ∙ p2s_is T _ ∙ ap (p2s_at S) (c.s2pp_at.ensures ∙ s2pp_is T a.a))
+    c.eq.ensures ∙ ap₂ eqb e (c.p2s_at-y.ensures ∙ p2s_is T _ ∙ ap (p2s_at S) (c.s2pp_at.ensures ∙ s2pp_is T a.a))

@@ -21,4 +21,4 @@ returns c =
     let a = c.args in
     let T : ShiftTables = shift_tables a.p2s.now a.s2pp.now a.nsym_list.now a.perms.now a.n_satom a.n_patom a.num_trans in
     let S = shifts_of T in
-    c.same_super.ensures ∙ ap₂ eqb (c.perms_at-x.ensures ∙ perms_is T a.t a.a) (c.perms_at-y.ensures ∙ perms_is T a.u a.b)
+    c.eq.ensures ∙ ap₂ eqb (c.perms_at-x.ensures ∙ perms_is T a.t a.a) (c.perms_at-y.ensures ∙ perms_is T a.u a.b)

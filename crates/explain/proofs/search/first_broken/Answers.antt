@@ -1,4 +1,3 @@
-use mathlib.Core.Bool.{false}
 use native.Mathlib.Omega.{arith}
 use borrow.Author.Count.{below_none, below_more}
 use Rattle.lists.specs.Lowest.{lowest_by}
@@ -8,7 +7,7 @@ use Rattle.explain.specs.Laws.{found_some, found_none}
 use Rattle.explain.proofs.search.first_broken.Goals as goal
 
 pub loop-rule-init : goal.loop-rule-init
-loop-rule-init c = (omega arith, below_none _)
+loop-rule-init c = below_none _
 
 pub first_of-requires : goal.first_of-requires
 first_of-requires c = (c.requires, c.loop-rule-test.true)
@@ -23,7 +22,7 @@ returns-then-first_of-firsts c =
     let T : ShiftTables = shift_tables a.p2s.now a.s2pp.now a.nsym_list.now a.perms.now a.n_satom a.n_patom a.num_trans in
     let l = c.loop-rule in
     let R = rule_at (shifts_of T) l.rule in
-    lowest_by 8 (λ r. broken (rule_at (shifts_of T) r)) l.rule l.invariant.0 l.invariant.1 (λ _. found_some R.firsts (broken_from R) c.first_of.ensures c.firsts.ensures c.if-first_of-firsts.true)
+    lowest_by 8 (λ r. broken (rule_at (shifts_of T) r)) l.rule (omega arith) l.invariant (λ _. found_some R.firsts (broken_from R) c.first_of.ensures c.firsts.ensures c.if-first_of-firsts.true)
 
 pub loop-rule-preserved : goal.loop-rule-preserved
 unfolding broken first_of
@@ -32,7 +31,7 @@ loop-rule-preserved c =
     let T : ShiftTables = shift_tables a.p2s.now a.s2pp.now a.nsym_list.now a.perms.now a.n_satom a.n_patom a.num_trans in
     let l = c.loop-rule in
     let R = rule_at (shifts_of T) l.rule in
-    (omega arith, below_more _ l.rule l.invariant.1 (found_none R.firsts (broken_from R) c.first_of.ensures c.firsts.ensures c.if-first_of-firsts.false))
+    below_more _ l.rule l.invariant (found_none R.firsts (broken_from R) c.first_of.ensures c.firsts.ensures c.if-first_of-firsts.false)
 
 pub returns : goal.returns
 unfolding first_broken
@@ -40,4 +39,4 @@ returns c =
     let a = c.args in
     let T : ShiftTables = shift_tables a.p2s.now a.s2pp.now a.nsym_list.now a.perms.now a.n_satom a.n_patom a.num_trans in
     let l = c.loop-rule in
-    lowest_by 8 (λ r. broken (rule_at (shifts_of T) r)) l.rule l.invariant.0 l.invariant.1 (λ h. absurd (omega (arith, h, c.loop-rule-test.false)))
+    lowest_by 8 (λ r. broken (rule_at (shifts_of T) r)) 8 (omega arith) (λ q h. l.invariant q (omega arith)) (λ h. absurd (omega arith))

@@ -1,4 +1,3 @@
-use mathlib.Core.Bool.{false}
 use native.Mathlib.Omega.{arith}
 use borrow.Author.Count.{below_none, below_more}
 use Rattle.lists.specs.Lowest.{lowest_by}
@@ -14,13 +13,13 @@ pub seconds-m-requires : goal.seconds-m-requires
 seconds-m-requires c = c.requires.1
 
 pub loop-i-init : goal.loop-i-init
-loop-i-init c = (omega arith, c.firsts-n.ensures, c.seconds-m.ensures, below_none _)
+loop-i-init c = below_none _
 
 pub second_of-requires : goal.second_of-requires
 second_of-requires c =
     let l = c.loop-i in
     let p = c.requires in
-    (p.0, p.1, omega (arith, c.loop-i-test.true, l.invariant.1))
+    (p.0, p.1, omega (arith, c.firsts-n.ensures))
 
 pub returns-then-second_of-m : goal.returns-then-second_of-m
 unfolding first_of second_of
@@ -29,7 +28,7 @@ returns-then-second_of-m c =
     let T : ShiftTables = shift_tables a.p2s.now a.s2pp.now a.nsym_list.now a.perms.now a.n_satom a.n_patom a.num_trans in
     let R = rule_at (shifts_of T) a.rule in
     let l = c.loop-i in
-    lowest_by R.firsts (broken_from R) l.i (omega (arith, l.invariant.0, l.invariant.1)) l.invariant.3 (λ _. found_some R.seconds (broken_at R l.i) c.second_of.ensures l.invariant.2 c.if-second_of-m.true)
+    lowest_by R.firsts (broken_from R) l.i (omega (arith, c.firsts-n.ensures)) l.invariant (λ _. found_some R.seconds (broken_at R l.i) c.second_of.ensures c.seconds-m.ensures c.if-second_of-m.true)
 
 pub loop-i-preserved : goal.loop-i-preserved
 unfolding second_of
@@ -38,7 +37,7 @@ loop-i-preserved c =
     let T : ShiftTables = shift_tables a.p2s.now a.s2pp.now a.nsym_list.now a.perms.now a.n_satom a.n_patom a.num_trans in
     let R = rule_at (shifts_of T) a.rule in
     let l = c.loop-i in
-    (omega arith, l.invariant.1, l.invariant.2, below_more _ l.i l.invariant.3 (found_none R.seconds (broken_at R l.i) c.second_of.ensures l.invariant.2 c.if-second_of-m.false))
+    below_more _ l.i l.invariant (found_none R.seconds (broken_at R l.i) c.second_of.ensures c.seconds-m.ensures c.if-second_of-m.false)
 
 pub returns : goal.returns
 unfolding first_of
@@ -47,4 +46,4 @@ returns c =
     let T : ShiftTables = shift_tables a.p2s.now a.s2pp.now a.nsym_list.now a.perms.now a.n_satom a.n_patom a.num_trans in
     let R = rule_at (shifts_of T) a.rule in
     let l = c.loop-i in
-    lowest_by R.firsts (broken_from R) l.i (omega (arith, l.invariant.0, l.invariant.1)) l.invariant.3 (λ h. absurd (omega (arith, h, c.loop-i-test.false, l.invariant.1)))
+    lowest_by R.firsts (broken_from R) c.firsts-n.result (omega (arith, c.firsts-n.ensures)) (λ q h. l.invariant q (omega arith)) (λ h. absurd (omega (arith, c.firsts-n.ensures)))

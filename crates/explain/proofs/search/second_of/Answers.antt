@@ -1,4 +1,3 @@
-use mathlib.Core.Bool.{false}
 use native.Mathlib.Omega.{arith}
 use borrow.Author.Count.{below_none, below_more}
 use Rattle.lists.specs.Lowest.{lowest_by}
@@ -14,13 +13,13 @@ pub thirds-m-requires : goal.thirds-m-requires
 thirds-m-requires c = c.requires.1
 
 pub loop-j-init : goal.loop-j-init
-loop-j-init c = (omega arith, c.seconds-n.ensures, c.thirds-m.ensures, below_none _)
+loop-j-init c = below_none _
 
 pub third_of-requires : goal.third_of-requires
 third_of-requires c =
     let l = c.loop-j in
     let p = c.requires in
-    (p.0, p.1, p.2, omega (arith, c.loop-j-test.true, l.invariant.1))
+    (p.0, p.1, p.2, omega (arith, c.seconds-n.ensures))
 
 pub returns-then-third_of-m : goal.returns-then-third_of-m
 unfolding second_of third_of
@@ -29,7 +28,7 @@ returns-then-third_of-m c =
     let T : ShiftTables = shift_tables a.p2s.now a.s2pp.now a.nsym_list.now a.perms.now a.n_satom a.n_patom a.num_trans in
     let R = rule_at (shifts_of T) a.rule in
     let l = c.loop-j in
-    lowest_by R.seconds (broken_at R a.i) l.j (omega (arith, l.invariant.0, l.invariant.1)) l.invariant.3 (λ _. found_some R.thirds (R.breaks a.i l.j) c.third_of.ensures l.invariant.2 c.if-third_of-m.true)
+    lowest_by R.seconds (broken_at R a.i) l.j (omega (arith, c.seconds-n.ensures)) l.invariant (λ _. found_some R.thirds (R.breaks a.i l.j) c.third_of.ensures c.thirds-m.ensures c.if-third_of-m.true)
 
 pub loop-j-preserved : goal.loop-j-preserved
 unfolding third_of
@@ -38,7 +37,7 @@ loop-j-preserved c =
     let T : ShiftTables = shift_tables a.p2s.now a.s2pp.now a.nsym_list.now a.perms.now a.n_satom a.n_patom a.num_trans in
     let R = rule_at (shifts_of T) a.rule in
     let l = c.loop-j in
-    (omega arith, l.invariant.1, l.invariant.2, below_more _ l.j l.invariant.3 (found_none R.thirds (R.breaks a.i l.j) c.third_of.ensures l.invariant.2 c.if-third_of-m.false))
+    below_more _ l.j l.invariant (found_none R.thirds (R.breaks a.i l.j) c.third_of.ensures c.thirds-m.ensures c.if-third_of-m.false)
 
 pub returns : goal.returns
 unfolding second_of
@@ -47,4 +46,4 @@ returns c =
     let T : ShiftTables = shift_tables a.p2s.now a.s2pp.now a.nsym_list.now a.perms.now a.n_satom a.n_patom a.num_trans in
     let R = rule_at (shifts_of T) a.rule in
     let l = c.loop-j in
-    lowest_by R.seconds (broken_at R a.i) l.j (omega (arith, l.invariant.0, l.invariant.1)) l.invariant.3 (λ h. absurd (omega (arith, h, c.loop-j-test.false, l.invariant.1)))
+    lowest_by R.seconds (broken_at R a.i) c.seconds-n.result (omega (arith, c.seconds-n.ensures)) (λ q h. l.invariant q (omega arith)) (λ h. absurd (omega (arith, c.seconds-n.ensures)))

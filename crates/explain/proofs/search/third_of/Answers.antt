@@ -1,5 +1,4 @@
 use mathlib.Core.Path.{sym, ◌∙◌}
-use mathlib.Core.Bool.{false}
 use native.Mathlib.Omega.{arith}
 use borrow.Author.Count.{below_none, below_more}
 use Rattle.lists.specs.Lowest.{lowest_by}
@@ -11,13 +10,13 @@ pub thirds-n-requires : goal.thirds-n-requires
 thirds-n-requires c = c.requires.1
 
 pub loop-k-init : goal.loop-k-init
-loop-k-init c = (omega arith, c.thirds-n.ensures, below_none _)
+loop-k-init c = below_none _
 
 pub breaks-requires : goal.breaks-requires
 breaks-requires c =
     let l = c.loop-k in
     let p = c.requires in
-    (p.0, p.1, p.2, p.3, omega (arith, c.loop-k-test.true, l.invariant.1))
+    (p.0, p.1, p.2, p.3, omega (arith, c.thirds-n.ensures))
 
 pub returns-then-breaks : goal.returns-then-breaks
 unfolding third_of
@@ -26,12 +25,12 @@ returns-then-breaks c =
     let T : ShiftTables = shift_tables a.p2s.now a.s2pp.now a.nsym_list.now a.perms.now a.n_satom a.n_patom a.num_trans in
     let R = rule_at (shifts_of T) a.rule in
     let l = c.loop-k in
-    lowest_by R.thirds (R.breaks a.i a.j) l.k (omega (arith, l.invariant.0, l.invariant.1)) l.invariant.2 (λ _. sym c.breaks.ensures ∙ c.if-breaks.true)
+    lowest_by R.thirds (R.breaks a.i a.j) l.k (omega (arith, c.thirds-n.ensures)) l.invariant (λ _. sym c.breaks.ensures ∙ c.if-breaks.true)
 
 pub loop-k-preserved : goal.loop-k-preserved
 loop-k-preserved c =
     let l = c.loop-k in
-    (omega arith, l.invariant.1, below_more _ l.k l.invariant.2 (sym c.breaks.ensures ∙ c.if-breaks.false))
+    below_more _ l.k l.invariant (sym c.breaks.ensures ∙ c.if-breaks.false)
 
 pub returns : goal.returns
 unfolding third_of
@@ -40,4 +39,4 @@ returns c =
     let T : ShiftTables = shift_tables a.p2s.now a.s2pp.now a.nsym_list.now a.perms.now a.n_satom a.n_patom a.num_trans in
     let R = rule_at (shifts_of T) a.rule in
     let l = c.loop-k in
-    lowest_by R.thirds (R.breaks a.i a.j) l.k (omega (arith, l.invariant.0, l.invariant.1)) l.invariant.2 (λ h. absurd (omega (arith, h, c.loop-k-test.false, l.invariant.1)))
+    lowest_by R.thirds (R.breaks a.i a.j) c.thirds-n.result (omega (arith, c.thirds-n.ensures)) (λ q h. l.invariant q (omega arith)) (λ h. absurd (omega (arith, c.thirds-n.ensures)))

@@ -1,6 +1,6 @@
 use mathlib.Core.Path.{◌≡◌}
 use mathlib.Core.Bool.{false}
-use Prim.Native.Nat.{ℕ, ◌≤◌, ◌<◌, ◌-◌}
+use Prim.Native.Nat.{ℕ, ◌<◌}
 use Rattle.tables.specs.Compact.{shift_tables, shifts_of}
 use Rattle.explain.specs.Explain.{Rule, rule_at}
 use Rattle.explain.proofs.search.third_of.Given as goal
@@ -8,7 +8,4 @@ use Rattle.explain.proofs.search.third_of.Given as goal
 abbrev pub invariant-loop-k : goal.invariant-loop-k
 invariant-loop-k l =
     let R : Rule = rule_at (shifts_of (shift_tables l.p2s l.s2pp l.nsym_list l.perms l.n_satom l.n_patom l.num_trans)) l.rule in
-    (l.k ≤ l.n) × (l.n ≡ R.thirds) × ((q : ℕ) → q < l.k → R.breaks l.i l.j q ≡ false)
-
-abbrev pub decreases-loop-k : goal.decreases-loop-k
-decreases-loop-k l = l.n - l.k
+    (q : ℕ) → q < l.k → R.breaks l.i l.j q ≡ false

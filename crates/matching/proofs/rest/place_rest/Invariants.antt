@@ -1,13 +1,7 @@
-use mathlib.Core.Path.{◌≡◌}
-use Prim.Native.Nat.{◌≤◌, ◌-◌}
 use lib.ListN.{length}
 use Rattle.distances.specs.Near.{near}
 use Rattle.matching.specs.Rest.{PlacedBelow}
 use Rattle.matching.proofs.rest.place_rest.Given as goal
 
 abbrev pub invariant-loop-i : goal.invariant-loop-i
-invariant-loop-i l =
-    (l.i ≤ length l.initial.rot_atom) × (length l.rot_atom ≡ length l.initial.rot_atom) × (length l.marks ≡ length l.initial.marks) × PlacedBelow (near l.cell l.pos l.rot_pos) (length l.initial.rot_atom) l.initial.rot_atom l.i l.rot_atom
-
-abbrev pub decreases-loop-i : goal.decreases-loop-i
-decreases-loop-i l = length l.initial.rot_atom - l.i
+invariant-loop-i l = PlacedBelow (near l.cell l.pos l.rot_pos) (length l.initial.rot_atom) l.initial.rot_atom l.i l.rot_atom

@@ -16,7 +16,6 @@ pub loop-j-init : goal.loop-j-init
 loop-j-init c =
     let a = c.args in
     let b = c.requires.1 in (
-      b.there,
       λ k h. filled-stays-out (near a.cell a.pos.now a.rot_pos.now) a.rot_atom.now a.i k (b.filled k h),
       first-none _ _ _ (λ k h. filled-not-blank (distance a.cell a.pos.now a.rot_pos.now) a.rot_atom.now a.i k (b.filled k h)),
     )
@@ -29,8 +28,8 @@ returns-then-is_near c =
     let slots = a.rot_atom.now in
     let e = handed (λ z. c.tried-d.result ≡ tried_as z (dist a.i l.j)) slots l.j (omega arith) c.tried-d.ensures in
     let t : takes (near a.cell a.pos.now a.rot_pos.now) slots a.i l.j ≡ true = sym (near-tried (is_filled (slot_at slots l.j)) (dist a.i l.j)) ∙ ap is_near (sym e) ∙ sym c.is_near.ensures ∙ c.if-is_near.true in
-    let p = taken_is dist slots a.i l.j l.invariant.0 l.invariant.1 (λ _. t) in
-    (p, noted_is dist slots a.i l.j l.none p l.invariant.0 l.invariant.2)
+    let p = taken_is dist slots a.i l.j (omega arith) l.invariant.0 (λ _. t) in
+    (p, noted_is dist slots a.i l.j l.none p (omega arith) l.invariant.1)
 
 pub loop-j-preserved : goal.loop-j-preserved
 loop-j-preserved c =
@@ -41,13 +40,15 @@ loop-j-preserved c =
     let e = handed (λ z. c.tried-d.result ≡ tried_as z (dist a.i l.j)) slots l.j (omega arith) c.tried-d.ensures in
     let t : takes (near a.cell a.pos.now a.rot_pos.now) slots a.i l.j ≡ false = sym (near-tried (is_filled (slot_at slots l.j)) (dist a.i l.j)) ∙ ap is_near (sym e) ∙ sym c.is_near.ensures ∙ c.if-is_near.false in
     let b : no_number_at dist slots a.i l.j ≡ is_none c.tried-d.result = sym (none_tried (is_filled (slot_at slots l.j)) (dist a.i l.j)) ∙ ap is_none (sym e) in
-    let f = first-noted (no_number_at dist slots a.i) (length slots) l.j l.none l.invariant.2 c.tried-d.result b c.loop-j-test.true in
-    (omega arith, below_more _ l.j l.invariant.1 t, subst (First (no_number_at dist slots a.i) (length slots) (l.j + 1)) (sym c.noted-none.ensures) f)
+    let f = first-noted (no_number_at dist slots a.i) (length slots) l.j l.none l.invariant.1 c.tried-d.result b c.loop-j-test.true in
+    (below_more _ l.j l.invariant.0 t, subst (First (no_number_at dist slots a.i) (length slots) (l.j + 1)) (sym c.noted-none.ensures) f)
 
 pub returns : goal.returns
 returns c =
     let l = c.loop-j in
     let a = c.args in
     let dist = distance a.cell a.pos.now a.rot_pos.now in
-    let p = taken_is dist a.rot_atom.now a.i l.j l.invariant.0 l.invariant.1 (λ h. absurd (omega arith)) in
-    (p, noted_is dist a.rot_atom.now a.i l.j l.none p l.invariant.0 l.invariant.2)
+    let n = length a.rot_atom.now in
+    let e : l.j ≡ n = omega arith in
+    let p = taken_is dist a.rot_atom.now a.i n (omega arith) (rw e at l.invariant.0) (λ h. absurd (omega arith)) in
+    (p, noted_is dist a.rot_atom.now a.i n l.none p (omega arith) (rw e at l.invariant.1))

@@ -4,12 +4,9 @@ use Rattle.distances.specs.Near.{near, distance}
 use Rattle.matching.specs.Search.{First}
 use mathlib.Core.Path.{◌≡◌}
 use lib.ListN.{length}
-use Prim.Native.Nat.{ℕ, ◌-◌, ◌≤◌, ◌<◌}
+use Prim.Native.Nat.{ℕ, ◌<◌}
 use Rattle.matching.proofs.slots.find.Given as goal
 
 abbrev pub invariant-loop-j : goal.invariant-loop-j
 invariant-loop-j l =
-    (l.j ≤ length l.rot_atom) × ((k : ℕ) → k < l.j → takes (near l.cell l.pos l.rot_pos) l.rot_atom l.i k ≡ false) × First (no_number_at (distance l.cell l.pos l.rot_pos) l.rot_atom l.i) (length l.rot_atom) l.j l.none
-
-abbrev pub decreases-loop-j : goal.decreases-loop-j
-decreases-loop-j l = length l.rot_atom - l.j
+    ((k : ℕ) → k < l.j → takes (near l.cell l.pos l.rot_pos) l.rot_atom l.i k ≡ false) × First (no_number_at (distance l.cell l.pos l.rot_pos) l.rot_atom l.i) (length l.rot_atom) l.j l.none

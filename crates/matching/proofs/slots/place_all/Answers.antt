@@ -5,19 +5,19 @@ use Rattle.lists.specs.Tab.{times_none, times_more}
 use borrow.Author.Count.{below_none}
 use lib.ListN.{length}
 use native.Mathlib.Omega.{arith}
-use mathlib.Core.Path.{◌≡◌, refl, ap, ◌∙◌}
+use mathlib.Core.Path.{◌≡◌, ap, ◌∙◌}
 use Rattle.matching.proofs.slots.place_all.Goals as goal
 
 pub loop-i-init : goal.loop-i-init
-loop-i-init c = (omega arith, refl, record { there = omega arith; filled = below_none _ }, times_none _ _, pair-none _ _)
+loop-i-init c = (record { there = omega arith; filled = below_none _ }, times_none _ _, pair-none _ _)
 
 pub skip_filled-start-requires : goal.skip_filled-start-requires
-skip_filled-start-requires c = c.loop-i.invariant.2
+skip_filled-start-requires c = c.loop-i.invariant.0
 
 pub place-s-requires : goal.place-s-requires
 place-s-requires c =
     let l = c.loop-i in
-    (record { triples = record { pos_len = omega (arith, l.invariant.1, c.requires.pos_len); rot_len = omega (arith, l.invariant.1, c.requires.rot_len) }; below = omega arith }, c.skip_filled-start.ensures.0, c.reach_of-r.ensures.1)
+    (record { triples = record { pos_len = omega (arith, l.auto.rot_atom, c.requires.pos_len); rot_len = omega (arith, l.auto.rot_atom, c.requires.rot_len) }; below = omega arith }, c.skip_filled-start.ensures.0, c.reach_of-r.ensures.1)
 
 pub loop-i-preserved : goal.loop-i-preserved
 loop-i-preserved c =
@@ -28,12 +28,10 @@ loop-i-preserved c =
     let b = c.skip_filled-start.ensures.0 in
     let is_near = near a.cell a.pos.now a.rot_pos.now in
     let dist = distance a.cell a.pos.now a.rot_pos.now in
-    let n = ap length p ∙ length-place is_near l.i l.rot_atom ∙ l.invariant.1 in (
-      omega arith,
-      n,
+    let n = ap length p ∙ length-place is_near l.i l.rot_atom ∙ l.auto.rot_atom in (
       rw p (still-filled is_near l.i l.rot_atom _ b),
-      times_more l.i _ _ l.invariant.3 p,
-      c.first_pair-more.ensures ∙ pair-more dist a.rot_atom.now l.i _ _ l.first l.rot_atom l.invariant.4 (omega (arith, n, l.invariant.1)) l.invariant.3 q,
+      times_more l.i _ _ l.invariant.1 p,
+      c.first_pair-first.ensures ∙ pair-more dist a.rot_atom.now l.i _ _ l.first l.rot_atom l.invariant.2 (omega (arith, n, l.auto.rot_atom)) l.invariant.1 q,
     )
 
 pub returns : goal.returns
@@ -41,4 +39,4 @@ returns c =
     let l = c.loop-i in
     let n = length c.args.rot_atom.now in
     let e : l.i ≡ n = omega arith in
-    (l.invariant.3 ∙ rw e, l.invariant.4 ∙ rw e)
+    (l.invariant.1 ∙ rw e, l.invariant.2 ∙ rw e)

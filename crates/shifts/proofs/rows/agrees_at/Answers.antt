@@ -20,5 +20,5 @@ returns c =
     let a = c.args in
     let e = c.perms_at-b.ensures ∙ ap (image a.perms.now a.n_satom a.u) c.perms_at.ensures in
     let f = c.perms_at-d.ensures in
-    let r = c.same_super.ensures in
+    let r = c.eq.ensures in
     (λ q. sym e ∙ eqb-true _ _ (sym r ∙ q) ∙ f, λ q. r ∙ eq-eqb _ _ (e ∙ q ∙ sym f))

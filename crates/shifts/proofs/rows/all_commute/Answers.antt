@@ -8,7 +8,7 @@ use Rattle.shifts.specs.Loops.{Commutes}
 use Rattle.shifts.proofs.rows.all_commute.Goals as goal
 
 pub loop-g-init : goal.loop-g-init
-loop-g-init c = (omega arith, λ k h. absurd (omega arith))
+loop-g-init c = λ k h. absurd (omega arith)
 
 pub generator_commutes-requires : goal.generator_commutes-requires
 generator_commutes-requires c = (c.requires.0, c.loop-g-test.true, c.requires.1)
@@ -17,10 +17,10 @@ pub loop-g-preserved : goal.loop-g-preserved
 loop-g-preserved c =
     let l = c.loop-g in
     let a = c.args in
-    (omega arith, below_more (λ k. (get_or a.gens.now k 0 ≡ 0 → ⊥) → Commutes a.n_satom a.perms.now k (λ x. get_or a.right.now x 0)) l.g l.invariant.1 (c.generator_commutes.ensures.0 c.if-generator_commutes.true))
+    below_more (λ k. (get_or a.gens.now k 0 ≡ 0 → ⊥) → Commutes a.n_satom a.perms.now k (λ x. get_or a.right.now x 0)) l.g l.invariant (c.generator_commutes.ensures.0 c.if-not-generator_commutes.false)
 
-pub returns-else-generator_commutes : goal.returns-else-generator_commutes
-returns-else-generator_commutes c = (λ q. absurd (true≢false (sym q)), λ f. absurd (not-both (c.generator_commutes.ensures.1 (f c.loop-g.g c.loop-g-test.true)) c.if-generator_commutes.false))
+pub returns-then-not-generator_commutes : goal.returns-then-not-generator_commutes
+returns-then-not-generator_commutes c = (λ q. absurd (true≢false (sym q)), λ f. absurd (not-both (c.generator_commutes.ensures.1 (f c.loop-g.g c.loop-g-test.true)) c.if-not-generator_commutes.true))
 
 pub returns : goal.returns
-returns c = (λ _ k h. c.loop-g.invariant.1 k (omega arith), λ _. refl)
+returns c = (λ _ k h. c.loop-g.invariant k (omega arith), λ _. refl)

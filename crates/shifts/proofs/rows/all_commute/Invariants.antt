@@ -1,11 +1,8 @@
 use mathlib.Core.Path.{◌≡◌}
-use Prim.Native.Nat.{ℕ, ◌-◌, ◌≤◌, ◌<◌}
+use Prim.Native.Nat.{ℕ, ◌<◌}
 use lib.ListN.{get_or}
 use Rattle.shifts.specs.Loops.{Commutes}
 use Rattle.shifts.proofs.rows.all_commute.Given as goal
 
 abbrev pub invariant-loop-g : goal.invariant-loop-g
-invariant-loop-g l = (l.g ≤ l.num_trans) × ((k : ℕ) → k < l.g → (get_or l.gens k 0 ≡ 0 → ⊥) → Commutes l.n_satom l.perms k (λ a. get_or l.right a 0))
-
-abbrev pub decreases-loop-g : goal.decreases-loop-g
-decreases-loop-g l = l.num_trans - l.g
+invariant-loop-g l = (k : ℕ) → k < l.g → (get_or l.gens k 0 ≡ 0 → ⊥) → Commutes l.n_satom l.perms k (λ a. get_or l.right a 0)

@@ -9,20 +9,20 @@ use Rattle.shifts.specs.Loops.{Settled}
 use Rattle.shifts.proofs.rows.all_settled.Goals as goal
 
 pub loop-s-init : goal.loop-s-init
-loop-s-init c = (omega arith, length-replicate {A = ℕ} 1024 0, λ k h. absurd (omega arith))
+loop-s-init c = (length-replicate {A = ℕ} 1024 0, λ k h. absurd (omega arith))
 
 pub is_settled-requires : goal.is_settled-requires
-is_settled-requires c = (c.requires, c.loop-s-test.true, c.loop-s.invariant.1)
+is_settled-requires c = (c.requires, c.loop-s-test.true, c.loop-s.invariant.0)
 
 pub loop-s-preserved : goal.loop-s-preserved
 loop-s-preserved c =
     let l = c.loop-s in
     let a = c.args in
     let E = c.is_settled.ensures in
-    (omega arith, E.0, below_more (λ k. (get_or a.gens.now k 0 ≡ 0 → ⊥) → Settled a.n_satom a.num_trans a.perms.now a.p2s.now a.s2pp.now a.sent.now a.gens.now k) l.s l.invariant.2 (E.1.0 c.if-is_settled.true))
+    (E.0, below_more (λ k. (get_or a.gens.now k 0 ≡ 0 → ⊥) → Settled a.n_satom a.num_trans a.perms.now a.p2s.now a.s2pp.now a.sent.now a.gens.now k) l.s l.invariant.1 (E.1.0 c.if-not-is_settled.false))
 
-pub returns-else-is_settled : goal.returns-else-is_settled
-returns-else-is_settled c = (λ q. absurd (true≢false (sym q)), λ f. absurd (not-both (c.is_settled.ensures.1.1 (f c.loop-s.s c.loop-s-test.true)) c.if-is_settled.false))
+pub returns-then-not-is_settled : goal.returns-then-not-is_settled
+returns-then-not-is_settled c = (λ q. absurd (true≢false (sym q)), λ f. absurd (not-both (c.is_settled.ensures.1.1 (f c.loop-s.s c.loop-s-test.true)) c.if-not-is_settled.true))
 
 pub returns : goal.returns
-returns c = (λ _ k h. c.loop-s.invariant.2 k (omega arith), λ _. refl)
+returns c = (λ _ k h. c.loop-s.invariant.1 k (omega arith), λ _. refl)

@@ -1,11 +1,8 @@
 use mathlib.Core.Path.{◌≡◌}
-use Prim.Native.Nat.{ℕ, ◌-◌, ◌≤◌, ◌<◌}
+use Prim.Native.Nat.{ℕ, ◌<◌}
 use lib.ListN.{length, get_or}
 use Rattle.shifts.specs.Loops.{Settled}
 use Rattle.shifts.proofs.rows.all_settled.Given as goal
 
 abbrev pub invariant-loop-s : goal.invariant-loop-s
-invariant-loop-s l = (l.s ≤ l.num_trans) × (length l.right ≡ 1024) × ((k : ℕ) → k < l.s → (get_or l.gens k 0 ≡ 0 → ⊥) → Settled l.n_satom l.num_trans l.perms l.p2s l.s2pp l.sent l.gens k)
-
-abbrev pub decreases-loop-s : goal.decreases-loop-s
-decreases-loop-s l = l.num_trans - l.s
+invariant-loop-s l = (length l.right ≡ 1024) × ((k : ℕ) → k < l.s → (get_or l.gens k 0 ≡ 0 → ⊥) → Settled l.n_satom l.num_trans l.perms l.p2s l.s2pp l.sent l.gens k)

@@ -2,7 +2,7 @@ use mathlib.Core.Bool.{true≢false}
 use mathlib.Core.Path.{refl, sym, ap, ◌∙◌}
 use native.Mathlib.Omega.{arith}
 use lib.ListN.{get_or}
-use borrow.Author.Tests.{eqb-true, eq-eqb}
+use borrow.Author.Tests.{not-true, not-false, eqb-true, eq-eqb}
 use borrow.Author.Count.{below_none, below_more}
 use Rattle.lists.specs.Tests.{not-both}
 use Rattle.shifts.specs.Rows.{image}
@@ -10,7 +10,7 @@ use Rattle.shifts.proofs.Generators.{image-below, image-read}
 use Rattle.shifts.proofs.rows.commutes.Goals as goal
 
 pub loop-a-init : goal.loop-a-init
-loop-a-init c = (omega arith, below_none _)
+loop-a-init c = below_none _
 
 pub perms_at-b-requires : goal.perms_at-b-requires
 perms_at-b-requires c = image-read c.requires.0 c.args.g c.loop-a.a c.requires.1 c.loop-a-test.true
@@ -27,21 +27,19 @@ pub shifted-requires-in-loop-a : goal.shifted-requires-in-loop-a
 shifted-requires-in-loop-a c =
     omega (arith, c.perms_at-b.ensures, c.requires.0.atoms, image-below c.requires.0 c.args.g c.loop-a.a c.requires.1 c.loop-a-test.true)
 
-pub returns-then-not-same_super : goal.returns-then-not-same_super
-returns-then-not-same_super c =
+pub returns-then-ne : goal.returns-then-ne
+returns-then-ne c =
     let l = c.loop-a in
     let e = c.perms_at-d.ensures ∙ ap (image c.args.perms.now c.args.n_satom c.args.g) c.shifted.ensures in
     let f = c.shifted-in-loop-a.ensures ∙ ap (λ x. get_or c.args.right.now x 0) c.perms_at-b.ensures in
-    let r = c.same_super.ensures in
-    (λ q. absurd (true≢false (sym q)), λ h. absurd (not-both (r ∙ eq-eqb _ _ (e ∙ h l.a c.loop-a-test.true ∙ sym f)) c.if-not-same_super.true))
+    (λ q. absurd (true≢false (sym q)), λ h. absurd (not-both (eq-eqb _ _ (e ∙ h l.a c.loop-a-test.true ∙ sym f)) (not-true _ (sym c.ne.ensures ∙ c.if-ne.true))))
 
 pub loop-a-preserved : goal.loop-a-preserved
 loop-a-preserved c =
     let l = c.loop-a in
     let e = c.perms_at-d.ensures ∙ ap (image c.args.perms.now c.args.n_satom c.args.g) c.shifted.ensures in
     let f = c.shifted-in-loop-a.ensures ∙ ap (λ x. get_or c.args.right.now x 0) c.perms_at-b.ensures in
-    let r = c.same_super.ensures in
-    (omega arith, below_more _ l.a l.invariant.1 (sym e ∙ eqb-true _ _ (sym r ∙ c.if-not-same_super.false) ∙ f))
+    below_more _ l.a l.invariant (sym e ∙ eqb-true _ _ (not-false _ (sym c.ne.ensures ∙ c.if-ne.false)) ∙ f)
 
 pub returns : goal.returns
-returns c = (λ _ k h. c.loop-a.invariant.1 k (omega arith), λ _. refl)
+returns c = (λ _ k h. c.loop-a.invariant k (omega arith), λ _. refl)

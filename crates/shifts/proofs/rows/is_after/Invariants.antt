@@ -1,10 +1,7 @@
 use mathlib.Core.Path.{◌≡◌}
-use Prim.Native.Nat.{ℕ, ◌-◌, ◌≤◌, ◌<◌}
+use Prim.Native.Nat.{ℕ, ◌*◌, ◌<◌}
 use Rattle.shifts.specs.Rows.{image}
 use Rattle.shifts.proofs.rows.is_after.Given as goal
 
-abbrev pub invariant-loop-a : goal.invariant-loop-a
-invariant-loop-a l = (l.a ≤ l.n_satom) × ((k : ℕ) → k < l.a → image l.perms l.n_satom l.u (image l.perms l.n_satom l.t k) ≡ image l.perms l.n_satom l.v k)
-
-abbrev pub decreases-loop-a : goal.decreases-loop-a
-decreases-loop-a l = l.n_satom - l.a
+abbrev pub invariant-loop-f : goal.invariant-loop-f
+invariant-loop-f l = (k : ℕ) → k < l.f * 4 → image l.perms l.n_satom l.u (image l.perms l.n_satom l.t k) ≡ image l.perms l.n_satom l.v k

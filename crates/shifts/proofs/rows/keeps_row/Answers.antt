@@ -3,7 +3,7 @@ use mathlib.Core.Path.{sym, ap, ◌∙◌}
 use Prim.Native.Nat.{ℕ, ◌-◌, ◌<◌}
 use native.Mathlib.Omega.{arith}
 use lib.ListN.{get_or}
-use borrow.Author.Tests.{eqb-true, eq-eqb}
+use borrow.Author.Tests.{not-true, not-false, eqb-true, eq-eqb}
 use Rattle.lists.specs.Tests.{not-both}
 use Rattle.tables.specs.Conditions.{index_at, read}
 use Rattle.shifts.specs.Rows.{image}
@@ -20,10 +20,10 @@ pub s2pp_at-q-requires : goal.s2pp_at-q-requires
 s2pp_at-q-requires c =
     (read c.requires.0.orbs c.perms_at-b.result.0 (omega (arith, c.perms_at-b.ensures, image-below c.requires.0.rows c.args.g c.args.a.0 c.requires.1 c.requires.2))).0
 
-pub returns-then-not-same_prim : goal.returns-then-not-same_prim
-returns-then-not-same_prim c =
+pub returns-then-ne : goal.returns-then-ne
+returns-then-ne c =
     let e = c.s2pp_at-q.ensures ∙ ap (index_at c.args.s2pp.now) c.perms_at-b.ensures in
-    (λ q. absurd (true≢false (sym q)), λ K. absurd (not-both (c.same_prim.ensures ∙ eq-eqb _ _ (e ∙ K.0 ∙ sym c.s2pp_at-p.ensures)) c.if-not-same_prim.true))
+    (λ q. absurd (true≢false (sym q)), λ K. absurd (not-both (eq-eqb _ _ (e ∙ K.0 ∙ sym c.s2pp_at-p.ensures)) (not-true _ (sym c.ne.ensures ∙ c.if-ne.true))))
 
 pub p2s_at-first-requires : goal.p2s_at-first-requires
 p2s_at-first-requires c = (read c.requires.0.reps 0 c.requires.0.rep).0
@@ -73,7 +73,7 @@ returns c =
     let hb = image-below Z.rows a.g a.a.0 c.requires.1 c.requires.2 in
     let hd = image-below Z.rows a.g _ c.requires.1 (image-below Z.rows _ _ (sender_below Z a.a.0 c.requires.2) (read Z.reps 0 Z.rep).1) in (
       λ q. (
-        sym i ∙ eqb-true _ _ (sym c.same_prim.ensures ∙ c.if-not-same_prim.false) ∙ c.s2pp_at-p.ensures,
+        sym i ∙ eqb-true _ _ (not-false _ (sym c.ne.ensures ∙ c.if-ne.false)) ∙ c.s2pp_at-p.ensures,
         omega (arith, eqb-true c.sender-2.result c.sender-3.result q, c.sender-2.ensures, c.sender-3.ensures, e, ap at f, sent_pos Z _ hb, sent_pos Z _ hd),
       ),
       λ K. eq-eqb _ _ (c.sender-2.ensures ∙ ap (λ x. x - 1) (e ∙ K.1 ∙ sym (ap at f)) ∙ sym c.sender-3.ensures),

@@ -7,7 +7,7 @@ use Rattle.shifts.specs.Loops.{KeepsAt}
 use Rattle.shifts.proofs.rows.keeps_rows.Goals as goal
 
 pub loop-a-init : goal.loop-a-init
-loop-a-init c = (omega arith, λ k h. absurd (omega arith))
+loop-a-init c = λ k h. absurd (omega arith)
 
 pub keeps_row-requires : goal.keeps_row-requires
 keeps_row-requires c = (c.requires.0, c.requires.1, c.loop-a-test.true)
@@ -16,10 +16,10 @@ pub loop-a-preserved : goal.loop-a-preserved
 loop-a-preserved c =
     let l = c.loop-a in
     let a = c.args in
-    (omega arith, below_more (λ k. KeepsAt a.n_satom a.perms.now a.p2s.now a.s2pp.now a.sent.now a.g k) l.a l.invariant.1 (c.keeps_row.ensures.0 c.if-keeps_row.true))
+    below_more (λ k. KeepsAt a.n_satom a.perms.now a.p2s.now a.s2pp.now a.sent.now a.g k) l.a l.invariant (c.keeps_row.ensures.0 c.if-not-keeps_row.false)
 
-pub returns-else-keeps_row : goal.returns-else-keeps_row
-returns-else-keeps_row c = (λ q. absurd (true≢false (sym q)), λ f. absurd (not-both (c.keeps_row.ensures.1 (f c.loop-a.a c.loop-a-test.true)) c.if-keeps_row.false))
+pub returns-then-not-keeps_row : goal.returns-then-not-keeps_row
+returns-then-not-keeps_row c = (λ q. absurd (true≢false (sym q)), λ f. absurd (not-both (c.keeps_row.ensures.1 (f c.loop-a.a c.loop-a-test.true)) c.if-not-keeps_row.true))
 
 pub returns : goal.returns
-returns c = (λ _ k h. c.loop-a.invariant.1 k (omega arith), λ _. refl)
+returns c = (λ _ k h. c.loop-a.invariant k (omega arith), λ _. refl)

@@ -1,9 +1,6 @@
-use Prim.Native.Nat.{ℕ, ◌-◌, ◌≤◌, ◌<◌}
+use Prim.Native.Nat.{ℕ, ◌<◌}
 use Rattle.shifts.specs.Loops.{KeepsAt}
 use Rattle.shifts.proofs.rows.keeps_rows.Given as goal
 
 abbrev pub invariant-loop-a : goal.invariant-loop-a
-invariant-loop-a l = (l.a ≤ l.n_satom) × ((k : ℕ) → k < l.a → KeepsAt l.n_satom l.perms l.p2s l.s2pp l.sent l.g k)
-
-abbrev pub decreases-loop-a : goal.decreases-loop-a
-decreases-loop-a l = l.n_satom - l.a
+invariant-loop-a l = (k : ℕ) → k < l.a → KeepsAt l.n_satom l.perms l.p2s l.s2pp l.sent l.g k

@@ -18,21 +18,21 @@ bounds-known-null c = omega (arith, c.requires.0.rows.shifts, c.requires.1)
 pub loop-u-init : goal.loop-u-init
 loop-u-init c =
     let a = c.args in
-    (omega arith, c.requires.3, λ k h. absurd (omega arith), known_start a.n_satom a.num_trans a.perms.now a.gens.now a.null (omega (arith, c.requires.0.rows.shifts, c.requires.1)) (c.requires.2 a.gens.now))
+    (c.requires.3, λ k h. absurd (omega arith), known_start a.n_satom a.num_trans a.perms.now a.gens.now a.null (omega (arith, c.requires.0.rows.shifts, c.requires.1)) (c.requires.2 a.gens.now))
 
 pub learn-requires : goal.learn-requires
 learn-requires c =
-    let l = c.loop-u in record { rows = (c.requires.0, c.requires.1, c.loop-u-test.true); made = (c.requires.2 l.gens, l.invariant.3, l.invariant.1) }
+    let l = c.loop-u in record { rows = (c.requires.0, c.requires.1, c.loop-u-test.true); made = (c.requires.2 l.gens, l.invariant.2, l.invariant.0) }
 
 pub loop-u-preserved : goal.loop-u-preserved
 loop-u-preserved c =
     let a = c.args in
     let l = c.loop-u in
     let L = c.learn.ensures.0 in
-    (omega arith, L.size, below_more _ l.u (λ k b. made_more a.n_satom a.num_trans a.perms.now l.gens _ L.more (l.invariant.2 k b)) L.made, L.knows)
+    (L.size, below_more _ l.u (λ k b. made_more a.n_satom a.num_trans a.perms.now l.gens _ L.more (l.invariant.1 k b)) L.made, L.knows)
 
-pub returns-else-learn : goal.returns-else-learn
-returns-else-learn c = (λ q. absurd (true≢false (sym q)), λ C. absurd (not-both (c.learn.ensures.1 C) c.if-learn.false))
+pub returns-then-not-learn : goal.returns-then-not-learn
+returns-then-not-learn c = (λ q. absurd (true≢false (sym q)), λ C. absurd (not-both (c.learn.ensures.1 C) c.if-not-learn.true))
 
 pub returns : goal.returns
-returns c = (λ _ k h. c.loop-u.invariant.2 k (omega arith), λ _. refl)
+returns c = (λ _ k h. c.loop-u.invariant.1 k (omega arith), λ _. refl)

@@ -1,11 +1,8 @@
 use mathlib.Core.Path.{◌≡◌}
-use Prim.Native.Nat.{ℕ, ◌-◌, ◌≤◌, ◌<◌}
+use Prim.Native.Nat.{ℕ, ◌<◌}
 use lib.ListN.{length}
 use Rattle.shifts.specs.Loops.{Made, Known}
 use Rattle.shifts.proofs.rows.learn_all.Given as goal
 
 abbrev pub invariant-loop-u : goal.invariant-loop-u
-invariant-loop-u l = (l.u ≤ l.num_trans) × (length l.gens ≡ 1024) × ((k : ℕ) → k < l.u → Made l.n_satom l.num_trans l.perms l.gens k) × Known l.n_satom l.num_trans l.perms l.gens l.known
-
-abbrev pub decreases-loop-u : goal.decreases-loop-u
-decreases-loop-u l = l.num_trans - l.u
+invariant-loop-u l = (length l.gens ≡ 1024) × ((k : ℕ) → k < l.u → Made l.n_satom l.num_trans l.perms l.gens k) × Known l.n_satom l.num_trans l.perms l.gens l.known

@@ -11,7 +11,7 @@ use Rattle.shifts.proofs.Generators.{image-below, image-read}
 use Rattle.shifts.proofs.rows.shift_right.Goals as goal
 
 pub loop-a-init : goal.loop-a-init
-loop-a-init c = (omega arith, below_none _, c.requires.2)
+loop-a-init c = (below_none _, c.requires.2)
 
 pub s2pp_at-requires : goal.s2pp_at-requires
 s2pp_at-requires c = (read c.requires.0.orbs c.loop-a.a c.loop-a-test.true).0
@@ -55,13 +55,12 @@ loop-a-preserved c =
     let e : v ≡ right_of a.perms.now a.n_satom a.p2s.now a.s2pp.now a.sent.now a.s l.a =
     c.perms_at-b.ensures ∙ ap (λ x. im x c.perms_at.result.0) c.sender.ensures
     ∙ ap (im (get_or a.sent.now l.a 0 - 1)) (c.perms_at.ensures ∙ ap (im a.s) (c.p2s_at-p.ensures ∙ ap (index_at a.p2s.now) c.s2pp_at.ensures)) in
-    let h : l.a < length l.right = omega (arith, c.requires.0.rows.atoms, c.loop-a-test.true, l.invariant.2) in (
-      omega arith,
+    let h : l.a < length l.right = omega (arith, c.requires.0.rows.atoms, c.loop-a-test.true, l.invariant.1) in (
       below_more (λ k. get_or (set l.right l.a v) k 0 ≡ right_of a.perms.now a.n_satom a.p2s.now a.s2pp.now a.sent.now a.s k) l.a
-          (λ k b. get_or-set_other l.right l.a k v 0 (λ q. omega arith) ∙ l.invariant.1 k b)
+          (λ k b. get_or-set_other l.right l.a k v 0 (λ q. omega arith) ∙ l.invariant.0 k b)
           (get_or-set_same l.right l.a v 0 h ∙ e),
-      length-set l.right l.a v ∙ l.invariant.2,
+      length-set l.right l.a v ∙ l.invariant.1,
     )
 
 pub returns : goal.returns
-returns c = (λ k h. c.loop-a.invariant.1 k (omega arith), c.loop-a.invariant.2)
+returns c = (λ k h. c.loop-a.invariant.0 k (omega arith), c.loop-a.invariant.1)

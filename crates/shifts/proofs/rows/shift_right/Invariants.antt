@@ -1,11 +1,8 @@
 use mathlib.Core.Path.{◌≡◌}
-use Prim.Native.Nat.{ℕ, ◌-◌, ◌≤◌, ◌<◌}
+use Prim.Native.Nat.{ℕ, ◌<◌}
 use lib.ListN.{length, get_or}
 use Rattle.shifts.specs.Loops.{right_of}
 use Rattle.shifts.proofs.rows.shift_right.Given as goal
 
 abbrev pub invariant-loop-a : goal.invariant-loop-a
-invariant-loop-a l = (l.a ≤ l.n_satom) × ((k : ℕ) → k < l.a → get_or l.right k 0 ≡ right_of l.perms l.n_satom l.p2s l.s2pp l.sent l.s k) × (length l.right ≡ 1024)
-
-abbrev pub decreases-loop-a : goal.decreases-loop-a
-decreases-loop-a l = l.n_satom - l.a
+invariant-loop-a l = ((k : ℕ) → k < l.a → get_or l.right k 0 ≡ right_of l.perms l.n_satom l.p2s l.s2pp l.sent l.s k) × (length l.right ≡ 1024)

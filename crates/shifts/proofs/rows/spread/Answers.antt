@@ -3,18 +3,18 @@ use native.Mathlib.Omega.{arith}
 use Rattle.lists.specs.Tests.{not-both}
 use Rattle.shifts.proofs.rows.spread.Goals as goal
 
-pub loop-k-init : goal.loop-k-init
-loop-k-init c = (omega arith, c.requires.rows.1, c.requires.made.1, c.requires.made.2)
+pub loop-init : goal.loop-init
+loop-init c = (c.requires.rows.1, c.requires.made.1, c.requires.made.2)
 
 pub learn_after-requires : goal.learn_after-requires
 learn_after-requires c =
-    let l = c.loop-k in record { rows = (c.requires.rows.0, l.invariant.1, c.requires.rows.2); made = (c.requires.made.0, l.invariant.2, l.invariant.3) }
+    let l = c.loop in record { rows = (c.requires.rows.0, l.invariant.0, c.requires.rows.2); made = (c.requires.made.0, l.invariant.1, l.invariant.2) }
 
 pub returns-then-not-learn_after : goal.returns-then-not-learn_after
 returns-then-not-learn_after c = (c.learn_after.ensures.0, λ C. absurd (not-both (c.learn_after.ensures.1 C) c.if-not-learn_after.true))
 
 pub bounds-known-r : goal.bounds-known-r
-bounds-known-r c = omega (arith, c.requires.rows.0.rows.shifts, c.loop-k.invariant.1)
+bounds-known-r c = omega (arith, c.requires.rows.0.rows.shifts, c.loop.invariant.0)
 
 pub returns-then-x-eq0 : goal.returns-then-x-eq0
 returns-then-x-eq0 c = (c.learn_after.ensures.0, λ _. refl)
@@ -22,11 +22,11 @@ returns-then-x-eq0 c = (c.learn_after.ensures.0, λ _. refl)
 pub returns-then-num_trans-x : goal.returns-then-num_trans-x
 returns-then-num_trans-x c = (c.learn_after.ensures.0, λ _. refl)
 
-pub loop-k-preserved : goal.loop-k-preserved
-loop-k-preserved c =
-    let l = c.loop-k in
+pub loop-preserved : goal.loop-preserved
+loop-preserved c =
+    let l = c.loop in
     let K = c.learn_after.ensures.0 in
-    (omega arith, omega arith, K.next l.r _ l.invariant.1 (omega arith) (omega arith), K)
+    (omega arith, K.next l.r _ l.invariant.0 (omega arith) (omega arith), K)
 
 pub returns : goal.returns
-returns c = (c.loop-k.invariant.3, λ _. refl)
+returns c = (c.loop.invariant.2, λ _. refl)

@@ -1,12 +1,9 @@
 use mathlib.Core.Bool.{false}
 use mathlib.Core.Path.{◌≡◌}
-use Prim.Native.Nat.{ℕ, ◌≤◌, ◌<◌, ◌-◌}
+use Prim.Native.Nat.{ℕ, ◌<◌}
 use Rattle.shifts.specs.Rows.{rows_of}
 use Rattle.tables.specs.Shifts.{is_null}
 use Rattle.shifts.proofs.rules.has_null.Given as goal
 
 abbrev pub invariant-loop-t : goal.invariant-loop-t
-invariant-loop-t l = (l.t ≤ l.num_trans) × ((k : ℕ) → k < l.t → is_null (rows_of l.n_satom l.num_trans l.perms) k ≡ false)
-
-abbrev pub decreases-loop-t : goal.decreases-loop-t
-decreases-loop-t l = l.num_trans - l.t
+invariant-loop-t l = (k : ℕ) → k < l.t → is_null (rows_of l.n_satom l.num_trans l.perms) k ≡ false

@@ -1,7 +1,7 @@
-use mathlib.Core.Bool.{true}
 use mathlib.Core.Path.{sym, ap, ◌∙◌}
 use native.Mathlib.Omega.{arith}
 use lib.Dec.{eqb}
+use borrow.Author.Tests.{not-true, not-false}
 use borrow.Author.Count.{below_none, below_more}
 use Rattle.shifts.specs.Rows.{row_is, row_read}
 use Rattle.tables.specs.Shifts.{is_null}
@@ -9,26 +9,26 @@ use Rattle.tables.proofs.Loops.{all-passed, one_failed}
 use Rattle.shifts.proofs.rules.is_null.Goals as goal
 
 pub loop-a-init : goal.loop-a-init
-loop-a-init c = (omega arith, below_none _)
+loop-a-init c = below_none _
 
 pub perms_at-b-requires : goal.perms_at-b-requires
 perms_at-b-requires c = row_read c.requires.0 c.args.t c.loop-a.a c.requires.1 c.loop-a-test.true
 
-pub returns-then-not-same_super : goal.returns-then-not-same_super
+pub returns-then-ne : goal.returns-then-ne
 unfolding is_null
-returns-then-not-same_super c =
+returns-then-ne c =
     let a = c.args in
     let k = c.loop-a.a in
     let e = c.perms_at-b.ensures ∙ row_is a.n_satom a.num_trans a.perms.now a.t k in
-    one_failed a.n_satom _ k c.loop-a-test.true (ap (λ x. eqb x k) (sym e) ∙ sym c.same_super.ensures ∙ c.if-not-same_super.true)
+    one_failed a.n_satom _ k c.loop-a-test.true (ap (λ x. eqb x k) (sym e) ∙ not-true _ (sym c.ne.ensures ∙ c.if-ne.true))
 
 pub loop-a-preserved : goal.loop-a-preserved
 loop-a-preserved c =
     let a = c.args in
     let l = c.loop-a in
     let e = c.perms_at-b.ensures ∙ row_is a.n_satom a.num_trans a.perms.now a.t l.a in
-    (omega arith, below_more _ l.a l.invariant.1 (ap (λ x. eqb x l.a) (sym e) ∙ sym c.same_super.ensures ∙ c.if-not-same_super.false))
+    below_more _ l.a l.invariant (ap (λ x. eqb x l.a) (sym e) ∙ not-false _ (sym c.ne.ensures ∙ c.if-ne.false))
 
 pub returns : goal.returns
 unfolding is_null
-returns c = let a = c.args in all-passed a.n_satom _ (λ k h. c.loop-a.invariant.1 k (omega arith))
+returns c = let a = c.args in all-passed a.n_satom _ (λ k h. c.loop-a.invariant k (omega arith))

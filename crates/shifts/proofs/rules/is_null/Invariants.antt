@@ -1,13 +1,10 @@
 use mathlib.Core.Bool.{true}
 use mathlib.Core.Path.{◌≡◌}
-use Prim.Native.Nat.{ℕ, ◌≤◌, ◌<◌, ◌-◌}
+use Prim.Native.Nat.{ℕ, ◌<◌}
 use lib.Dec.{eqb}
 use Rattle.shifts.specs.Rows.{rows_of}
 use Rattle.tables.specs.Shifts.{row}
 use Rattle.shifts.proofs.rules.is_null.Given as goal
 
 abbrev pub invariant-loop-a : goal.invariant-loop-a
-invariant-loop-a l = (l.a ≤ l.n_satom) × ((k : ℕ) → k < l.a → eqb (row (rows_of l.n_satom l.num_trans l.perms) l.t k) k ≡ true)
-
-abbrev pub decreases-loop-a : goal.decreases-loop-a
-decreases-loop-a l = l.n_satom - l.a
+invariant-loop-a l = (k : ℕ) → k < l.a → eqb (row (rows_of l.n_satom l.num_trans l.perms) l.t k) k ≡ true

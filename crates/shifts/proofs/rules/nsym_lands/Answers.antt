@@ -1,7 +1,7 @@
-use mathlib.Core.Bool.{true}
 use mathlib.Core.Path.{◌≡◌, sym, ap, ap₂, ◌∙◌}
 use native.Mathlib.Omega.{arith}
 use lib.Dec.{eqb}
+use borrow.Author.Tests.{not-true, not-false}
 use borrow.Author.Count.{below_none, below_more}
 use Rattle.lists.specs.Digits.{in_row}
 use Rattle.tables.specs.Compact.{ShiftTables, shift_tables, shifts_of, perms_is, p2s_is, s2pp_is, nsym_is}
@@ -11,7 +11,7 @@ use Rattle.tables.proofs.Loops.{all-passed, one_failed}
 use Rattle.shifts.proofs.rules.nsym_lands.Goals as goal
 
 pub loop-a-init : goal.loop-a-init
-loop-a-init c = (omega arith, below_none _)
+loop-a-init c = below_none _
 
 pub nsym_at-requires : goal.nsym_at-requires
 nsym_at-requires c = (read c.requires.nsym_fit c.loop-a.a c.loop-a-test.true).0
@@ -29,31 +29,29 @@ pub p2s_at-d-requires : goal.p2s_at-d-requires
 p2s_at-d-requires c =
     (read c.requires.p2s-fit c.s2pp_at.result.0 (omega (arith, c.s2pp_at.ensures, (read c.requires.s2pp-fit c.loop-a.a c.loop-a-test.true).1))).0
 
-pub returns-then-not-same_super : goal.returns-then-not-same_super
+pub returns-then-ne : goal.returns-then-ne
 unfolding nsym_lands
-returns-then-not-same_super c =
+returns-then-ne c =
     let a = c.args in
     let l = c.loop-a in
-    let r = c.same_super.ensures in
     let T : ShiftTables = shift_tables a.p2s.now a.s2pp.now a.nsym_list.now a.perms.now a.n_satom a.n_patom a.num_trans in
     let S : Shifts = shifts_of T in
     let e : c.perms_at-b.result.0 ≡ row S (nsym_at S l.a) l.a =
     c.perms_at-b.ensures ∙ perms_is T _ l.a ∙ ap (λ t. row S t l.a) (c.nsym_at.ensures ∙ nsym_is T l.a) in
     let f : c.p2s_at-d.result.0 ≡ p2s_at S (s2pp_at S l.a) = c.p2s_at-d.ensures ∙ p2s_is T _ ∙ ap (p2s_at S) (c.s2pp_at.ensures ∙ s2pp_is T l.a) in
-    one_failed _ _ l.a c.loop-a-test.true (ap₂ eqb (sym e) (sym f) ∙ sym r ∙ c.if-not-same_super.true)
+    one_failed _ _ l.a c.loop-a-test.true (ap₂ eqb (sym e) (sym f) ∙ not-true _ (sym c.ne.ensures ∙ c.if-ne.true))
 
 pub loop-a-preserved : goal.loop-a-preserved
 loop-a-preserved c =
     let a = c.args in
     let l = c.loop-a in
-    let r = c.same_super.ensures in
     let T : ShiftTables = shift_tables a.p2s.now a.s2pp.now a.nsym_list.now a.perms.now a.n_satom a.n_patom a.num_trans in
     let S : Shifts = shifts_of T in
     let e : c.perms_at-b.result.0 ≡ row S (nsym_at S l.a) l.a =
     c.perms_at-b.ensures ∙ perms_is T _ l.a ∙ ap (λ t. row S t l.a) (c.nsym_at.ensures ∙ nsym_is T l.a) in
     let f : c.p2s_at-d.result.0 ≡ p2s_at S (s2pp_at S l.a) = c.p2s_at-d.ensures ∙ p2s_is T _ ∙ ap (p2s_at S) (c.s2pp_at.ensures ∙ s2pp_is T l.a) in
-    (omega arith, below_more _ l.a l.invariant.1 (ap₂ eqb (sym e) (sym f) ∙ sym r ∙ c.if-not-same_super.false))
+    below_more _ l.a l.invariant (ap₂ eqb (sym e) (sym f) ∙ not-false _ (sym c.ne.ensures ∙ c.if-ne.false))
 
 pub returns : goal.returns
 unfolding nsym_lands
-returns c = all-passed _ _ (λ k h. c.loop-a.invariant.1 k (omega arith))
+returns c = all-passed _ _ (λ k h. c.loop-a.invariant k (omega arith))

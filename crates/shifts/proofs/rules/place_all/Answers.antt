@@ -8,7 +8,7 @@ use Rattle.shifts.proofs.Placing.{none-placed, placed-fresh, placed-more}
 use Rattle.shifts.proofs.rules.place_all.Goals as goal
 
 pub loop-p-init : goal.loop-p-init
-loop-p-init c = (omega arith, rw c.requires.3 (none-placed _ _ _ _ _))
+loop-p-init c = rw c.requires.3 (none-placed _ _ _ _ _)
 
 pub p2s_at-a-requires : goal.p2s_at-a-requires
 p2s_at-a-requires c = (read c.requires.0 c.loop-p.p c.loop-p-test.true).0
@@ -18,24 +18,24 @@ place_images-requires c =
     let a = c.args in
     let l = c.loop-p in
     let h = (read c.requires.0 l.p c.loop-p-test.true).1 in
-    (c.requires.1, c.requires.2, omega (arith, c.p2s_at-a.ensures, h), placed-fresh a.n_satom a.num_trans l.p a.perms.now a.p2s.now a.s2pp.now l.sent l.invariant.1, l.invariant.1.size)
+    (c.requires.1, c.requires.2, omega (arith, c.p2s_at-a.ensures, h), placed-fresh a.n_satom a.num_trans l.p a.perms.now a.p2s.now a.s2pp.now l.sent l.invariant, l.invariant.size)
 
 pub loop-p-preserved : goal.loop-p-preserved
 loop-p-preserved c =
     let a = c.args in
     let l = c.loop-p in
     let e = c.p2s_at-a.ensures in
-    (omega arith, placed-more a.n_satom a.num_trans l.p a.perms.now a.p2s.now a.s2pp.now l.sent l.invariant.1 _ _ e (c.place_images.ensures.0 c.if-place_images.true))
+    placed-more a.n_satom a.num_trans l.p a.perms.now a.p2s.now a.s2pp.now l.sent l.invariant _ _ e (c.place_images.ensures.0 c.if-not-place_images.false)
 
-pub returns-else-place_images : goal.returns-else-place_images
-returns-else-place_images c =
+pub returns-then-not-place_images : goal.returns-then-not-place_images
+returns-then-not-place_images c =
     let a = c.args in
     let l = c.loop-p in
     let e = c.p2s_at-a.ensures in (
       λ q. absurd (true≢false (sym q)),
       λ f.
           let o = subst (λ x. Spread a.n_satom a.num_trans a.perms.now a.s2pp.now x l.p) (sym e) (f l.p c.loop-p-test.true) in
-          absurd (not-both (c.place_images.ensures.1 o) c.if-place_images.false),
+          absurd (not-both (c.place_images.ensures.1 o) c.if-not-place_images.true),
     )
 
 pub returns : goal.returns
@@ -43,4 +43,4 @@ returns c =
     let a = c.args in
     let l = c.loop-p in
     let i : l.p ≡ a.n_patom = omega arith in
-    (λ _. subst (λ k. Placed a.n_satom a.num_trans k a.perms.now a.p2s.now a.s2pp.now l.sent) i l.invariant.1, λ _. refl)
+    (λ _. subst (λ k. Placed a.n_satom a.num_trans k a.perms.now a.p2s.now a.s2pp.now l.sent) i l.invariant, λ _. refl)

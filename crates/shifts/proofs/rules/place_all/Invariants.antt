@@ -1,9 +1,5 @@
-use Prim.Native.Nat.{◌-◌, ◌≤◌}
 use Rattle.shifts.specs.Placing.{Placed}
 use Rattle.shifts.proofs.rules.place_all.Given as goal
 
 abbrev pub invariant-loop-p : goal.invariant-loop-p
-invariant-loop-p l = (l.p ≤ l.n_patom) × Placed l.n_satom l.num_trans l.p l.perms l.p2s l.s2pp l.sent
-
-abbrev pub decreases-loop-p : goal.decreases-loop-p
-decreases-loop-p l = l.n_patom - l.p
+invariant-loop-p l = Placed l.n_satom l.num_trans l.p l.perms l.p2s l.s2pp l.sent

@@ -3,7 +3,7 @@ use mathlib.Core.Path.{◌≡◌, refl, sym, ap, ◌∙◌, subst}
 use Prim.Native.Nat.{◌+◌, ◌<◌}
 use native.Mathlib.Omega.{arith}
 use lib.ListN.{get_or, set}
-use borrow.Author.Tests.{eqb-true, eq-eqb}
+use borrow.Author.Tests.{not-true, not-false, eqb-true, eq-eqb}
 use Rattle.lists.specs.Tests.{not-both}
 use Rattle.tables.specs.Conditions.{index_at, read}
 use Rattle.shifts.specs.Rows.{image}
@@ -13,7 +13,7 @@ use Rattle.shifts.proofs.Generators.{image-below, image-read}
 use Rattle.shifts.proofs.rules.place_images.Goals as goal
 
 pub loop-t-init : goal.loop-t-init
-loop-t-init c = (omega arith, none-placing _ _ _ _ _ _ c.requires.4)
+loop-t-init c = none-placing _ _ _ _ _ _ c.requires.4
 
 pub perms_at-x-requires : goal.perms_at-x-requires
 perms_at-x-requires c = image-read c.requires.1 c.loop-t.t c.args.a.0 c.loop-t-test.true c.requires.2
@@ -22,12 +22,12 @@ pub s2pp_at-q-requires : goal.s2pp_at-q-requires
 s2pp_at-q-requires c =
     (read c.requires.0 c.perms_at-x.result.0 (omega (arith, c.perms_at-x.ensures, image-below c.requires.1 c.loop-t.t c.args.a.0 c.loop-t-test.true c.requires.2))).0
 
-pub returns-then-not-same_prim : goal.returns-then-not-same_prim
-returns-then-not-same_prim c =
+pub returns-then-ne : goal.returns-then-ne
+returns-then-ne c =
     let a = c.args in
     let l = c.loop-t in
     let e = c.s2pp_at-q.ensures ∙ ap (index_at a.s2pp.now) c.perms_at-x.ensures in
-    (λ q. absurd (true≢false (sym q)), λ f. absurd (not-both (c.same_prim.ensures ∙ eq-eqb _ _ (e ∙ f.0 l.t c.loop-t-test.true)) c.if-not-same_prim.true))
+    (λ q. absurd (true≢false (sym q)), λ f. absurd (not-both (eq-eqb _ _ (e ∙ f.0 l.t c.loop-t-test.true)) (not-true _ (sym c.ne.ensures ∙ c.if-ne.true))))
 
 pub offset_bounds-sent-i : goal.offset_bounds-sent-i
 offset_bounds-sent-i c =
@@ -44,7 +44,7 @@ returns-then-sent-i-ne0 c =
     let h = c.loop-t-test.true in
     let e = c.perms_at-x.ensures in (
       λ q. absurd (true≢false (sym q)),
-      λ f. absurd (placing-twice a.n_satom l.t a.a.0 a.p.0 a.perms.now a.s2pp.now a.sent.now l.sent l.invariant.1 a.num_trans h c.requires.3 f (λ z. c.if-sent-i-ne0.true (ap (λ x. get_or l.sent x 0) e ∙ z))),
+      λ f. absurd (placing-twice a.n_satom l.t a.a.0 a.p.0 a.perms.now a.s2pp.now a.sent.now l.sent l.invariant a.num_trans h c.requires.3 f (λ z. c.if-sent-i-ne0.true (ap (λ x. get_or l.sent x 0) e ∙ z))),
     )
 
 pub offset_bounds-sent-i-in-loop-t : goal.offset_bounds-sent-i-in-loop-t
@@ -62,15 +62,13 @@ loop-t-preserved c =
     let h = c.loop-t-test.true in
     let e : c.perms_at-x.result.0 ≡ image a.perms.now a.n_satom l.t a.a.0 = c.perms_at-x.ensures in
     let f = c.s2pp_at-q.ensures ∙ ap (index_at a.s2pp.now) e in
-    let small : image a.perms.now a.n_satom l.t a.a.0 < 1024 = omega (arith, c.requires.1.atoms, image-below c.requires.1 l.t a.a.0 h c.requires.2) in (
-      omega arith,
-      subst (λ x. Placing a.n_satom (l.t + 1) a.a.0 a.p.0 a.perms.now a.s2pp.now a.sent.now (set l.sent x (l.t + 1))) (sym e)
-          (placing-more a.n_satom l.t a.a.0 a.p.0 a.perms.now a.s2pp.now a.sent.now l.sent l.invariant.1 small (sym f ∙ eqb-true _ _ (sym c.same_prim.ensures ∙ c.if-not-same_prim.false)) (ap (λ x. get_or l.sent x 0) (sym e) ∙ c.if-sent-i-ne0.false)),
-    )
+    let small : image a.perms.now a.n_satom l.t a.a.0 < 1024 = omega (arith, c.requires.1.atoms, image-below c.requires.1 l.t a.a.0 h c.requires.2) in
+    subst (λ x. Placing a.n_satom (l.t + 1) a.a.0 a.p.0 a.perms.now a.s2pp.now a.sent.now (set l.sent x (l.t + 1))) (sym e)
+    (placing-more a.n_satom l.t a.a.0 a.p.0 a.perms.now a.s2pp.now a.sent.now l.sent l.invariant small (sym f ∙ eqb-true _ _ (not-false _ (sym c.ne.ensures ∙ c.if-ne.false))) (ap (λ x. get_or l.sent x 0) (sym e) ∙ c.if-sent-i-ne0.false))
 
 pub returns : goal.returns
 returns c =
     let a = c.args in
     let l = c.loop-t in
     let i : l.t ≡ a.num_trans = omega arith in
-    (λ _. subst (λ k. Placing a.n_satom k a.a.0 a.p.0 a.perms.now a.s2pp.now a.sent.now l.sent) i l.invariant.1, λ _. refl)
+    (λ _. subst (λ k. Placing a.n_satom k a.a.0 a.p.0 a.perms.now a.s2pp.now a.sent.now l.sent) i l.invariant, λ _. refl)

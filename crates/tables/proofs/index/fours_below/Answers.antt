@@ -1,6 +1,6 @@
 use mathlib.Core.Bool.{true, true≢false}
 use mathlib.Core.Path.{◌≡◌, sym, ◌∙◌}
-use Prim.Native.Nat.{◌+◌}
+use Prim.Native.Nat.{◌+◌, ◌*◌}
 use native.Mathlib.Omega.{arith}
 use lib.ListN.{length, get_or}
 use borrow.Author.Count.{below_none}
@@ -12,25 +12,26 @@ use mir.ValLaws.{to_z-of_z}
 use Rattle.tables.proofs.Loops.{four-more, all_of_lem}
 use Rattle.tables.proofs.index.fours_below.Goals as goal
 
-pub loop-i-init : goal.loop-i-init
-loop-i-init c = (omega arith, below_none _)
+pub loop-f-init : goal.loop-f-init
+loop-f-init c = below_none _
 
 pub four_within-requires : goal.four_within-requires
 four_within-requires c = (to_z-of_z w64 c.args.m c.ranges.m ∙ c.requires, omega arith)
 
-pub loop-i-preserved : goal.loop-i-preserved
-loop-i-preserved c =
+pub loop-f-preserved : goal.loop-f-preserved
+loop-f-preserved c =
     let a = c.args in
-    let l = c.loop-i in
-    (omega arith, four-more (λ k. below a.n (get_or a.t.now k (pos 0)) ≡ true) l.i l.invariant.1 (c.four_within.ensures.0 c.if-four_within.true))
+    let l = c.loop-f in
+    λ k h. four-more (λ k. below a.n (get_or a.t.now k (pos 0)) ≡ true) (l.f * 4) l.invariant (c.four_within.ensures.0 c.if-not-four_within.false) k (omega arith)
 
-pub returns-else-four_within : goal.returns-else-four_within
-returns-else-four_within c = (λ q. absurd (true≢false (sym q)), λ f. absurd (not-both (c.four_within.ensures.1 (λ k h. f (c.loop-i.i + k) (omega arith))) c.if-four_within.false))
+pub returns-then-not-four_within : goal.returns-then-not-four_within
+returns-then-not-four_within c =
+    (λ q. absurd (true≢false (sym q)), λ f. absurd (not-both (c.four_within.ensures.1 (λ k h. f (c.loop-f.f * 4 + k) (omega arith))) c.if-not-four_within.true))
 
 pub returns : goal.returns
 returns c =
     let a = c.args in
-    let l = c.loop-i in (
-      λ q. all_of_lem (λ k. below a.n (get_or a.t.now k (pos 0)) ≡ true) l.i (length a.t.now) l.invariant.1 (c.rest_below.ensures.0 q),
+    let l = c.loop-f in (
+      λ q. all_of_lem (λ k. below a.n (get_or a.t.now k (pos 0)) ≡ true) (l.f * 4) (length a.t.now) l.invariant (λ k g h. c.rest_below.ensures.0 q k (omega arith) h),
       λ f. c.rest_below.ensures.1 (λ k g h. f k h),
     )

@@ -1,13 +1,10 @@
 use mathlib.Core.Path.{◌≡◌}
 use mathlib.Core.Bool.{true}
-use Prim.Native.Nat.{ℕ, ◌≤◌, ◌<◌, ◌-◌}
-use lib.ListN.{length, get_or}
+use Prim.Native.Nat.{ℕ, ◌≤◌, ◌<◌}
+use lib.ListN.{get_or}
 use lib.IntN.{pos}
 use Rattle.tables.specs.Conditions.{below}
 use Rattle.tables.proofs.index.rest_below.Given as goal
 
 abbrev pub invariant-loop-i : goal.invariant-loop-i
-invariant-loop-i l = (l.i ≤ length l.t) × ((k : ℕ) → k < l.i → l.start ≤ k → below l.n (get_or l.t k (pos 0)) ≡ true) × (l.start ≤ l.i)
-
-abbrev pub decreases-loop-i : goal.decreases-loop-i
-decreases-loop-i l = length l.t - l.i
+invariant-loop-i l = (k : ℕ) → k < l.i → l.start ≤ k → below l.n (get_or l.t k (pos 0)) ≡ true
