@@ -1,6 +1,5 @@
 use Rattle.tables.specs.Compact.{shift_tables, shifts_of}
 use Rattle.fc4.specs.Loops.{takes, sized, visit-free, visit-met}
-use borrow.Author.Rules.{rules}
 use Rattle.fc4.proofs.compact.visit.Goals as goal
 
 pub group_blocks-bs-requires : goal.group_blocks-bs-requires

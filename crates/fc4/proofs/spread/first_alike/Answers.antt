@@ -2,9 +2,6 @@ use native.Mathlib.Omega.{arith}
 use mathlib.Core.Path.{refl}
 use Rattle.fc4.proofs.spread.first_alike.Goals as goal
 
-pub loop-r-init : goal.loop-r-init
-loop-r-init c = omega arith
-
 pub returns-then-bs-r : goal.returns-then-bs-r
 returns-then-bs-r c = (omega arith, c.if-bs-r.true)
 

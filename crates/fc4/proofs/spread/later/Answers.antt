@@ -8,15 +8,15 @@ use Rattle.fc4.specs.Spread.{later_of}
 use Rattle.fc4.proofs.spread.later.Goals as goal
 
 pub loop-k-init : goal.loop-k-init
-loop-k-init c = (omega arith, refl, below_none _)
+loop-k-init c = (refl, below_none _)
 
 pub loop-k-preserved : goal.loop-k-preserved
 loop-k-preserved c =
     let l = c.loop-k in
-    (omega arith, simp length-set l.invariant.1, fill_more 0 _ l.r l.k _ (omega arith) (c.later_of.ensures ∙ ap (max (get_or c.args.m l.k 0)) c.entry.ensures) l.invariant.2)
+    (simp length-set l.invariant.0, fill_more 0 _ l.r l.k _ (omega arith) (c.later_of.ensures ∙ ap (max (get_or c.args.m l.k 0)) c.entry.ensures) l.invariant.1)
 
 pub returns : goal.returns
 unfolding later_of
 returns c =
     let l = c.loop-k in
-    is_tab 0 81 _ l.r l.invariant.1 (λ j h. l.invariant.2 j (omega arith))
+    is_tab 0 81 _ l.r l.invariant.0 (λ j h. l.invariant.1 j (omega arith))

@@ -1,3 +1,5 @@
+use native.Mathlib.Omega.{arith}
+use mathlib.Core.Path.{◌≡◌}
 use Rattle.fc4.specs.Spread.{none_passed, one-more-passed}
 use Rattle.fc4.proofs.spread.next_block.Goals as goal
 
@@ -14,4 +16,8 @@ loop-n-preserved c =
     one-more-passed c.args.bs.now c.args.s l.n f.result l.invariant c.loop-n-test.true f.ensures.0 f.ensures.1 c.if-first_alike-n.false
 
 pub returns : goal.returns
-returns c = c.loop-n.invariant
+returns c =
+    let l = c.loop-n in
+    let h = l.invariant.to in
+    let e : l.n ≡ 24 = omega arith in
+    rw e at l.invariant

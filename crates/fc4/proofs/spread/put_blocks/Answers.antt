@@ -18,7 +18,7 @@ sources-m-requires c =
     (c.inverse_permutations-inverse.ensures, c.requires.1)
 
 pub loop-k-init : goal.loop-k-init
-loop-k-init c = (omega arith, refl, below_none _)
+loop-k-init c = (refl, below_none _)
 
 -- the source of a place is a position of the block
 pub overflow_cast-q : goal.overflow_cast-q
@@ -39,7 +39,7 @@ bounds-v-q c =
 pub loop-k-preserved : goal.loop-k-preserved
 loop-k-preserved c =
     let l = c.loop-k in
-    (omega arith, simp length-set l.invariant.1, fill_more nan _ l.block l.k _ (omega arith) refl l.invariant.2)
+    (simp length-set l.invariant.0, fill_more nan _ l.block l.k _ (omega arith) refl l.invariant.1)
 
 pub offset_bounds-bs-s-in-loop-s : goal.offset_bounds-bs-s-in-loop-s
 offset_bounds-bs-s-in-loop-s c =
@@ -83,7 +83,7 @@ loop-s-preserved c =
     let n = c.next_block-s.ensures in
     let b = get_or c.args.bs.now l.s 0 in
     let made : p.block ≡ made_of c.args.bs.now c.args.v b =
-    is_made c.args.bs.now c.args.v b c.sources-m.result p.block c.sources-m.ensures p.invariant.1 (λ j h. p.invariant.2 j (omega arith)) in (
+    is_made c.args.bs.now c.args.v b c.sources-m.result p.block c.sources-m.ensures p.invariant.0 (λ j h. p.invariant.1 j (omega arith)) in (
       n.to,
       w.auto.fc ∙ l.invariant.1,
       times_more l.s _ _ l.invariant.2 (w.ensures ∙ ap (λ y. put_block 81 b y l.fc4) made)
