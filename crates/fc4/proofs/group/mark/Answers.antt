@@ -1,20 +1,11 @@
-use Prim.Native.Nat.{◌<◌}
 use native.Mathlib.Omega.{arith}
 use mathlib.Core.Path.{◌≡◌, refl, ◌∙◌}
-use lib.ListN.{length, get_or}
 use Rattle.lists.specs.Tab.{times_none, times_more}
 use Rattle.fc4.specs.Loops.{stored-marks}
 use Rattle.fc4.proofs.group.mark.Goals as goal
 
 pub loop-b-init : goal.loop-b-init
 loop-b-init c = times_none _ _
-
-pub bounds-done-b : goal.bounds-done-b
-bounds-done-b c =
-    let l = c.loop-b in
-    let g : get_or c.args.bs.now l.b-index 0 < length c.args.done.now = c.requires.inside l.b-index (omega arith) in
-    let m : length l.done ≡ length c.args.done.now = l.auto.done in
-    omega arith
 
 pub loop-b-preserved : goal.loop-b-preserved
 loop-b-preserved c =

@@ -1,18 +1,14 @@
 use Prim.Native.Nat.{◌+◌, ◌*◌}
 use native.Mathlib.Omega.{arith}
-use mathlib.Core.Path.{◌≡◌, refl, ap, ◌∙◌}
+use mathlib.Core.Path.{◌≡◌, ap, ◌∙◌}
 use mathlib.Core.List.{[]}
 use lib.ListN.{get_or, length-set}
 use lib.Ieee.{nan, binary64, add}
-use borrow.Author.Count.{below_none}
 use Rattle.lists.specs.Tab.{fill_more, is_tab}
 use Rattle.blocks.specs.Permuted.{permuted}
 use Rattle.positions.specs.Positions.{permutation_at, permuted_in}
 use Rattle.fc4.specs.Mean.{added_nine}
 use Rattle.fc4.proofs.mean.add_nine.Goals as goal
-
-pub loop-k-init : goal.loop-k-init
-loop-k-init c = (refl, below_none _)
 
 pub bounds-g-q : goal.bounds-g-q
 bounds-g-q c =

@@ -5,9 +5,6 @@ use Rattle.blocks.specs.Block.{put_block}
 use Rattle.fc4.specs.Mean.{nine_sums, divided, means_to, means_are, is_group_lem}
 use Rattle.fc4.proofs.mean.group_means.Goals as goal
 
-pub read_group-g-requires : goal.read_group-g-requires
-read_group-g-requires c = c.requires.0
-
 pub loop-h-init : goal.loop-h-init
 loop-h-init c = (refl, times_none _ _)
 

@@ -7,10 +7,6 @@ use Rattle.fc4.proofs.mean.nine_sums.Goals as goal
 pub loop-s-init : goal.loop-s-init
 loop-s-init c = times_none _ _
 
-pub add_nine-more-requires : goal.add_nine-more-requires
-add_nine-more-requires c =
-    (c.requires.0, c.requires.1, omega arith, c.requires.2)
-
 pub loop-s-preserved : goal.loop-s-preserved
 loop-s-preserved c =
     let l = c.loop-s in

@@ -1,18 +1,13 @@
 use native.Mathlib.Omega.{arith}
 use mathlib.Core.Path.{◌≡◌, ◌∙◌}
 use Rattle.lists.specs.Tab.{times_none, times_more}
-use Rattle.positions.specs.Inverses.{inverse-at, inverse-below}
+use Rattle.positions.specs.Inverses.{inverse-at}
 use Rattle.fc4.specs.Spread.{later_if_shared, sources_of, not-shared, is_shared}
 use Rattle.fc4.proofs.spread.sources.Goals.{then-bs-s, else-bs-s}
 use Rattle.fc4.proofs.spread.sources.Goals as goal
 
 pub loop-s-init : goal.loop-s-init
 loop-s-init c = times_none _ _
-
-pub later-n-requires : goal.later-n-requires
-later-n-requires c =
-    let l = c.loop-s in
-    (c.requires.1, rw (inverse-at c.requires.0 l.s) (inverse-below l.s (omega arith)))
 
 pub loop-s-preserved : goal.loop-s-preserved
 loop-s-preserved c =
