@@ -54,10 +54,8 @@ fn levels(
     requires { let T : ShiftTables = shift_tables p2s.now s2pp.now nsym_list.now perms.now n_satom n_patom num_trans in Ready T (length fc.old) }
     ensures { let T : ShiftTables = shift_tables p2s.now s2pp.now nsym_list.now perms.now n_satom n_patom num_trans in fc.new ≡ times level (λ _. leveled (shifts_of T)) fc.old }
 {
-    let mut done = 0;
-    while done < level {
+    for _ in 0..level {
         level_pass(fc, p2s, s2pp, nsym_list, perms, n_satom, n_patom, num_trans);
-        done += 1;
     }
 }
 

@@ -107,8 +107,7 @@ fn transpose_row(
     ensures { let T : ShiftTables = shift_tables p2s.now s2pp.now nsym_list.now perms.now n_satom n_patom num_trans in fc.new ≡ times n_satom (transpose_visit half_shifts_stay (shifts_of T) p) fc.old }
 {
     let i = p2s_at(p2s, PrimAtom(p));
-    let mut j = 0;
-    while j < n_satom {
+    for j in 0..n_satom {
         transpose_visit(
             fc,
             p2s,
@@ -123,7 +122,6 @@ fn transpose_row(
             i,
             SuperAtom(j),
         );
-        j += 1;
     }
 }
 
@@ -142,8 +140,7 @@ pub fn transpose_pass(
     requires { let T : ShiftTables = shift_tables p2s.now s2pp.now nsym_list.now perms.now n_satom n_patom num_trans in Ready T (length fc.old) }
     ensures { let T : ShiftTables = shift_tables p2s.now s2pp.now nsym_list.now perms.now n_satom n_patom num_trans in fc.new ≡ cond half_shifts_stay (transposed (shifts_of T) fc.old) (swapped (shifts_of T) 1 (0, 1) fc.old) }
 {
-    let mut p = 0;
-    while p < n_patom {
+    for p in 0..n_patom {
         transpose_row(
             fc,
             p2s,
@@ -156,7 +153,6 @@ pub fn transpose_pass(
             half_shifts_stay,
             p,
         );
-        p += 1;
     }
 }
 
@@ -176,8 +172,7 @@ fn average_row(
     ensures { let T : ShiftTables = shift_tables p2s.now s2pp.now nsym_list.now perms.now n_satom n_patom num_trans in fc.new ≡ times n_satom (average_visit (shifts_of T) p) fc.old }
 {
     let i = p2s_at(p2s, PrimAtom(p));
-    let mut j = 0;
-    while j < n_satom {
+    for j in 0..n_satom {
         average_visit(
             fc,
             p2s,
@@ -191,7 +186,6 @@ fn average_row(
             i,
             SuperAtom(j),
         );
-        j += 1;
     }
 }
 
@@ -209,11 +203,9 @@ pub fn average_pass(
     requires { let T : ShiftTables = shift_tables p2s.now s2pp.now nsym_list.now perms.now n_satom n_patom num_trans in Ready T (length fc.old) }
     ensures { let T : ShiftTables = shift_tables p2s.now s2pp.now nsym_list.now perms.now n_satom n_patom num_trans in fc.new ≡ averaged_compact (shifts_of T) fc.old }
 {
-    let mut p = 0;
-    while p < n_patom {
+    for p in 0..n_patom {
         average_row(
             fc, p2s, s2pp, nsym_list, perms, n_satom, n_patom, num_trans, p,
         );
-        p += 1;
     }
 }

@@ -44,12 +44,10 @@ pub fn site_pass(
     requires { let T : ShiftTables = shift_tables p2s.now s2pp.now nsym_list.now perms.now n_satom n_patom num_trans in Ready T (length fc.old) }
     ensures { let T : ShiftTables = shift_tables p2s.now s2pp.now nsym_list.now perms.now n_satom n_patom num_trans in fc.new ≡ on_site (shifts_of T) fc.old }
 {
-    let mut p = 0;
-    while p < n_patom {
+    for p in 0..n_patom {
         site_row(
             fc, p2s, s2pp, nsym_list, perms, n_satom, n_patom, num_trans, p,
         );
-        p += 1;
     }
 }
 

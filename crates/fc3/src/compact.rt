@@ -104,8 +104,7 @@ fn row(
     requires in_range { (p.0 < n_patom) × (j.0 < n_satom) }
     ensures { let T : ShiftTables = shift_tables p2s.now s2pp.now nsym_list.now perms.now n_satom n_patom num_trans in (fc3.new, done.new) ≡ row3 T p.0 j.0 (fc3.old, done.old) }
 {
-    let mut k = 0;
-    while k < n_satom {
+    for k in 0..n_satom {
         visit(
             fc3,
             p2s,
@@ -120,7 +119,6 @@ fn row(
             j,
             SuperAtom(k),
         );
-        k += 1;
     }
 }
 
@@ -141,8 +139,7 @@ fn slab(
     requires in_range { p.0 < n_patom }
     ensures { let T : ShiftTables = shift_tables p2s.now s2pp.now nsym_list.now perms.now n_satom n_patom num_trans in (fc3.new, done.new) ≡ slab3 T p.0 (fc3.old, done.old) }
 {
-    let mut j = 0;
-    while j < n_satom {
+    for j in 0..n_satom {
         row(
             fc3,
             p2s,
@@ -156,7 +153,6 @@ fn slab(
             p,
             SuperAtom(j),
         );
-        j += 1;
     }
 }
 
@@ -175,8 +171,7 @@ fn slabs(
     requires { let T : ShiftTables = shift_tables p2s.now s2pp.now nsym_list.now perms.now n_satom n_patom num_trans in Ready (length fc3.old) 2 (length done.old) T }
     ensures { let T : ShiftTables = shift_tables p2s.now s2pp.now nsym_list.now perms.now n_satom n_patom num_trans in (fc3.new, done.new) ≡ all3 T (fc3.old, done.old) }
 {
-    let mut p = 0;
-    while p < n_patom {
+    for p in 0..n_patom {
         slab(
             fc3,
             p2s,
@@ -189,7 +184,6 @@ fn slabs(
             num_trans,
             PrimAtom(p),
         );
-        p += 1;
     }
 }
 

@@ -66,10 +66,8 @@ fn line_same(fc3: &mut [f64], num_atom: usize, a: SuperAtom)
     ensures { fc3.new ≡ line_of num_atom a.0 a.0 fc3.old }
 {
     group_same(fc3, num_atom, a);
-    let mut c = a.0 + 1;
-    while c < num_atom {
+    for c in a.0 + 1..num_atom {
         group_first(fc3, num_atom, a, SuperAtom(c));
-        c += 1;
     }
 }
 
@@ -79,10 +77,8 @@ fn line_rising(fc3: &mut [f64], num_atom: usize, a: SuperAtom, b: SuperAtom)
     ensures { fc3.new ≡ line_of num_atom a.0 b.0 fc3.old }
 {
     group_last(fc3, num_atom, a, b);
-    let mut c = b.0 + 1;
-    while c < num_atom {
+    for c in b.0 + 1..num_atom {
         group_rising(fc3, num_atom, a, b, SuperAtom(c));
-        c += 1;
     }
 }
 
@@ -92,10 +88,8 @@ fn lines(fc3: &mut [f64], num_atom: usize, a: SuperAtom)
     ensures { fc3.new ≡ lines_of num_atom a.0 fc3.old }
 {
     line_same(fc3, num_atom, a);
-    let mut b = a.0 + 1;
-    while b < num_atom {
+    for b in a.0 + 1..num_atom {
         line_rising(fc3, num_atom, a, SuperAtom(b));
-        b += 1;
     }
 }
 
@@ -104,10 +98,8 @@ pub fn symmetrize(fc3: &mut [f64], num_atom: usize)
     requires { FullReady (length fc3.old) num_atom }
     ensures { fc3.new ≡ symmetrized nan mean6 (full_shifts num_atom) 2 perms3 fc3.old }
 {
-    let mut a = 0;
-    while a < num_atom {
+    for a in 0..num_atom {
         lines(fc3, num_atom, SuperAtom(a));
-        a += 1;
     }
 }
 

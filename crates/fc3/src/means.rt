@@ -10,10 +10,8 @@ fn plus(v: [f64; 27], w: [f64; 27]) -> [f64; 27]
     ensures { result ≡ plusOf v w }
 {
     let mut r = [0.0f64; 27];
-    let mut k = 0;
-    while k < 27 {
+    for k in 0..27 {
         r[k] = v[k] + w[k];
-        k += 1;
     }
     r
 }
@@ -23,10 +21,8 @@ fn sixths(v: [f64; 27]) -> [f64; 27]
     ensures { result ≡ sixthsOf v }
 {
     let mut r = [0.0f64; 27];
-    let mut k = 0;
-    while k < 27 {
+    for k in 0..27 {
         r[k] = v[k] / 6.0;
-        k += 1;
     }
     r
 }

@@ -61,11 +61,9 @@ fn put_line(
     requires { Six group.old × Blocks6 162 s0 s1 s2 s3 s4 s5 × (l < 3) × (m < 3) }
     ensures { Six group.new × (flat group.new ≡ line_at (s0 ∷ s1 ∷ s2 ∷ s3 ∷ s4 ∷ s5 ∷ []) v l m (flat group.old)) }
 {
-    let mut n = 0;
-    while n < 3 {
+    for n in 0..3 {
         let k = dir3(l, m, n);
         put_spots(group, s0, s1, s2, s3, s4, s5, l, m, n, v[k]);
-        n += 1;
     }
 }
 
@@ -84,10 +82,8 @@ fn put_plane(
     requires { Six group.old × Blocks6 162 s0 s1 s2 s3 s4 s5 × (l < 3) }
     ensures { Six group.new × (flat group.new ≡ plane_at (s0 ∷ s1 ∷ s2 ∷ s3 ∷ s4 ∷ s5 ∷ []) v l (flat group.old)) }
 {
-    let mut m = 0;
-    while m < 3 {
+    for m in 0..3 {
         put_line(group, s0, s1, s2, s3, s4, s5, l, m, v);
-        m += 1;
     }
 }
 
@@ -105,10 +101,8 @@ fn put_planes(
     requires { Six group.old × Blocks6 162 s0 s1 s2 s3 s4 s5 }
     ensures { Six group.new × (flat group.new ≡ spread_block 2 perms3 (s0 ∷ s1 ∷ s2 ∷ s3 ∷ s4 ∷ s5 ∷ []) v (flat group.old)) }
 {
-    let mut l = 0;
-    while l < 3 {
+    for l in 0..3 {
         put_plane(group, s0, s1, s2, s3, s4, s5, l, v);
-        l += 1;
     }
 }
 

@@ -54,12 +54,10 @@ fn all_blocks(
     requires in_range { t.now ≡ address_table }
     ensures { let T : ShiftTables = shift_tables p2s.now s2pp.now nsym_list.now perms.now n_satom n_patom num_trans in (fc4.new, done.new) ≡ times (length done.old) (visit_at (shifts_of T)) (fc4.old, done.old) }
 {
-    let mut b = 0;
-    while b < done.len() {
+    for b in 0..done.len() {
         visit(
             fc4, p2s, s2pp, nsym_list, perms, done, n_satom, n_patom, num_trans, t, b,
         );
-        b += 1;
     }
 }
 

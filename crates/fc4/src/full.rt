@@ -33,10 +33,8 @@ fn full_blocks(fc4: &mut [f64], done: &mut [u8], num_atom: usize, t: &[u8; 1944]
     ensures { (fc4.new, done.new)
         ≡ times (length done.old) (visit_at (full_shifts num_atom)) (fc4.old, done.old) }
 {
-    let mut b = 0;
-    while b < done.len() {
+    for b in 0..done.len() {
         full_visit(fc4, done, num_atom, t, b);
-        b += 1;
     }
 }
 

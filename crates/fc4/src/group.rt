@@ -115,11 +115,8 @@ fn mark(done: &mut [u8], bs: &[usize; 24])
     requires { Marks24 (length done.old) bs.now }
     ensures { done.new ≡ set_all bs.now 1 done.old }
 {
-    let mut s = 0;
-    while s < 24 {
-        let b = bs[s];
-        done[b] = 1;
-        s += 1;
+    for b in bs {
+        done[*b] = 1;
     }
 }
 

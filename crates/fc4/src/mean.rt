@@ -15,11 +15,8 @@ fn read_group(fc4: &[f64], bs: &[usize; 24]) -> [[f64; 81]; 24]
     ensures { result ≡ group_of fc4.now bs.now }
 {
     let mut g = [[0.0f64; 81]; 24];
-    let mut s = 0;
-    while s < 24 {
-        let b = blocks::read81(fc4, bs[s]);
-        g[s] = b;
-        s += 1;
+    for s in 0..24 {
+        g[s] = blocks::read81(fc4, bs[s]);
     }
     g
 }
@@ -30,11 +27,9 @@ fn add_nine(sums: [f64; 9], g: &[[f64; 81]; 24], t: &[u8; 1944], s: usize, h: us
     ensures { result ≡ added_nine s h (get_or g.now s []) sums }
 {
     let mut r = [0.0f64; 9];
-    let mut k = 0;
-    while k < 9 {
+    for k in 0..9 {
         let q = entry(t, s, index_of(h, 9, k)) as usize;
         r[k] = sums[k] + g[s][q];
-        k += 1;
     }
     r
 }
@@ -45,11 +40,9 @@ fn nine_sums(g: &[[f64; 81]; 24], t: &[u8; 1944], h: usize) -> [f64; 9]
     ensures { result ≡ nine_sums g.now h }
 {
     let mut sums = [0.0f64; 9];
-    let mut s = 0;
-    while s < 24 {
+    for s in 0..24 {
         let more = add_nine(sums, g, t, s, h);
         sums = more;
-        s += 1;
     }
     sums
 }
@@ -59,10 +52,8 @@ fn divided(sums: [f64; 9]) -> [f64; 9]
     ensures { result ≡ dividedOf sums }
 {
     let mut r = [0.0f64; 9];
-    let mut k = 0;
-    while k < 9 {
+    for k in 0..9 {
         r[k] = sums[k] / 24.0;
-        k += 1;
     }
     r
 }
@@ -74,11 +65,9 @@ pub fn group_means(fc4: &[f64], bs: &[usize; 24], t: &[u8; 1944]) -> [f64; 81]
 {
     let g = read_group(fc4, bs);
     let mut v = [0.0f64; 81];
-    let mut h = 0;
-    while h < 9 {
+    for h in 0..9 {
         let nine = divided(nine_sums(&g, t, h));
         blocks::write9(&mut v, h, nine);
-        h += 1;
     }
     v
 }

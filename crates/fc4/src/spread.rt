@@ -37,10 +37,8 @@ fn later(m: [u8; 81], t: &[u8; 1944], s: usize) -> [u8; 81]
     ensures { result ≡ later_of s m }
 {
     let mut r = [0u8; 81];
-    let mut k = 0;
-    while k < 81 {
+    for k in 0..81 {
         r[k] = later_of(m[k], entry(t, s, k));
-        k += 1;
     }
     r
 }
@@ -52,13 +50,11 @@ fn sources(bs: &[usize; 24], inverse: &[usize; 24], t: &[u8; 1944], b: usize) ->
     ensures { result ≡ sources_of bs.now b }
 {
     let mut m = [0u8; 81];
-    let mut s = 0;
-    while s < 24 {
+    for s in 0..24 {
         if bs[s] == b {
             let n = later(m, t, inverse[s]);
             m = n;
         }
-        s += 1;
     }
     m
 }
@@ -68,12 +64,10 @@ fn first_alike(bs: &[usize; 24], s: usize) -> usize
     requires { s < 24 }
     ensures { (result ≤ s) × (get_or bs.now result 0 ≡ get_or bs.now s 0) }
 {
-    let mut r = 0;
-    while r < s {
+    for r in 0..s {
         if bs[r] == bs[s] {
             return r;
         }
-        r += 1;
     }
     s
 }
@@ -83,14 +77,12 @@ fn next_block(bs: &[usize; 24], s: usize) -> usize
     requires { s ≤ 24 }
     ensures { NextBlock bs.now s result }
 {
-    let mut n = s;
-    while n < 24 {
+    for n in s..24 {
         if first_alike(bs, n) == n {
             return n;
         }
-        n += 1;
     }
-    n
+    24
 }
 
 // Each block once: made of the means as a value, and written. The loop over its places stands here, where the means are, because a function
@@ -101,14 +93,13 @@ pub fn put_blocks(fc4: &mut [f64], bs: &[usize; 24], t: &[u8; 1944], v: [f64; 81
 {
     let inverse = inverse_permutations();
     let mut s = 0;
+    // Not a count: each turn goes on to the next block that is not written yet.
     while s < 24 {
         let m = sources(bs, &inverse, t, bs[s]);
         let mut block = [0.0f64; 81];
-        let mut k = 0;
-        while k < 81 {
+        for k in 0..81 {
             let q = m[k] as usize;
             block[k] = v[q];
-            k += 1;
         }
         blocks::write81(fc4, bs[s], block);
         s = next_block(bs, s + 1);

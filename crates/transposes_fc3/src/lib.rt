@@ -128,8 +128,7 @@ fn line0(
     requires { let T : ShiftTables = shift_tables p2s.now s2pp.now nsym_list.now perms.now n_satom n_patom num_trans in PairAt 2 (length fc3.old) T p.0 i.0 j.0 }
     ensures { let T : ShiftTables = shift_tables p2s.now s2pp.now nsym_list.now perms.now n_satom n_patom num_trans in fc3.new ≡ row_t false T 0 p.0 j.0 fc3.old }
 {
-    let mut k = 0;
-    while k < n_satom {
+    for k in 0..n_satom {
         visit0(
             fc3,
             p2s,
@@ -144,7 +143,6 @@ fn line0(
             j,
             SuperAtom(k),
         );
-        k += 1;
     }
 }
 
@@ -204,8 +202,7 @@ fn row1(
     requires in_range { (p.0 < n_patom) × (j.0 < n_satom) }
     ensures { let T : ShiftTables = shift_tables p2s.now s2pp.now nsym_list.now perms.now n_satom n_patom num_trans in fc3.new ≡ row_t half_shifts_stay T 1 p.0 j.0 fc3.old }
 {
-    let mut k = 0;
-    while k < n_satom {
+    for k in 0..n_satom {
         visit1(
             fc3,
             p2s,
@@ -220,7 +217,6 @@ fn row1(
             j,
             SuperAtom(k),
         );
-        k += 1;
     }
 }
 
@@ -241,8 +237,7 @@ fn row2(
     requires in_range { (p.0 < n_patom) × (j.0 < n_satom) }
     ensures { let T : ShiftTables = shift_tables p2s.now s2pp.now nsym_list.now perms.now n_satom n_patom num_trans in fc3.new ≡ row_t false T 2 p.0 j.0 fc3.old }
 {
-    let mut k = j.0;
-    while k < n_satom {
+    for k in j.0..n_satom {
         visit2(
             fc3,
             p2s,
@@ -256,7 +251,6 @@ fn row2(
             j,
             SuperAtom(k),
         );
-        k += 1;
     }
 }
 
@@ -369,8 +363,7 @@ fn slab(
     requires in_range { (p.0 < n_patom) × (t < 3) }
     ensures { let T : ShiftTables = shift_tables p2s.now s2pp.now nsym_list.now perms.now n_satom n_patom num_trans in fc3.new ≡ slab_t half_shifts_stay T t p.0 fc3.old }
 {
-    let mut j = 0;
-    while j < n_satom {
+    for j in 0..n_satom {
         row(
             fc3,
             p2s,
@@ -385,7 +378,6 @@ fn slab(
             p,
             SuperAtom(j),
         );
-        j += 1;
     }
 }
 
@@ -406,8 +398,7 @@ fn slabs(
     requires in_range { t < 3 }
     ensures { let T : ShiftTables = shift_tables p2s.now s2pp.now nsym_list.now perms.now n_satom n_patom num_trans in fc3.new ≡ all_t half_shifts_stay T t fc3.old }
 {
-    let mut p = 0;
-    while p < n_patom {
+    for p in 0..n_patom {
         slab(
             fc3,
             p2s,
@@ -421,7 +412,6 @@ fn slabs(
             t,
             PrimAtom(p),
         );
-        p += 1;
     }
 }
 

@@ -63,15 +63,13 @@ pub fn permute_pairs(fc4: &mut [f64], b: usize, m: &[u8; 54])
     requires { Inside54 m.now × (b * 81 + 81 ≤ length fc4.old) }
     ensures { fc4.new ≡ put_block 81 b (permuted_block 81 (from_pairs m.now 27) (block 81 b fc4.old)) fc4.old }
 {
-    let mut n = 0;
-    while n < 27 {
+    for n in 0..27 {
         let x = index_of(b, 81, m[n] as usize);
         let y = index_of(b, 81, m[n + 27] as usize);
         let one = fc4[x];
         let other = fc4[y];
         fc4[x] = other;
         fc4[y] = one;
-        n += 1;
     }
 }
 

@@ -83,10 +83,8 @@ fn pairs_by(t: &[u8; 1944], s: usize) -> [u8; 54]
 {
     let first = first_pairs();
     let mut m = [0u8; 54];
-    let mut n = 0;
-    while n < 54 {
+    for n in 0..54 {
         m[n] = entry(t, s, first[n] as usize);
-        n += 1;
     }
     m
 }
@@ -189,8 +187,7 @@ fn line(
     requires in_range { k.0 < n_satom }
     ensures { let T : ShiftTables = shift_tables p2s.now s2pp.now nsym_list.now perms.now n_satom n_patom num_trans in fc4.new ≡ line4 false o.now T (p.0 * n_satom + j.0) k.0 fc4.old }
 {
-    let mut l = 0;
-    while l < n_satom {
+    for l in 0..n_satom {
         trade(
             fc4,
             p2s,
@@ -208,7 +205,6 @@ fn line(
             k,
             SuperAtom(l),
         );
-        l += 1;
     }
 }
 
@@ -231,8 +227,7 @@ fn plane(
     requires { let T : ShiftTables = shift_tables p2s.now s2pp.now nsym_list.now perms.now n_satom n_patom num_trans in PairAt 3 (length fc4.old) T p.0 i.0 j.0 × Swap o.now m.now }
     ensures { let T : ShiftTables = shift_tables p2s.now s2pp.now nsym_list.now perms.now n_satom n_patom num_trans in fc4.new ≡ plane4 false o.now T (p.0 * n_satom + j.0) fc4.old }
 {
-    let mut k = 0;
-    while k < n_satom {
+    for k in 0..n_satom {
         line(
             fc4,
             p2s,
@@ -249,7 +244,6 @@ fn plane(
             j,
             SuperAtom(k),
         );
-        k += 1;
     }
 }
 
@@ -312,9 +306,7 @@ fn pairs(
     requires { let T : ShiftTables = shift_tables p2s.now s2pp.now nsym_list.now perms.now n_satom n_patom num_trans in Trading 3 (length fc4.old) T × Swap o.now m.now }
     ensures { let T : ShiftTables = shift_tables p2s.now s2pp.now nsym_list.now perms.now n_satom n_patom num_trans in fc4.new ≡ pairs4 half_shifts_stay o.now T fc4.old }
 {
-    let end = n_patom * n_satom;
-    let mut q = 0;
-    while q < end {
+    for q in 0..n_patom * n_satom {
         pair(
             fc4,
             p2s,
@@ -329,7 +321,6 @@ fn pairs(
             m,
             q,
         );
-        q += 1;
     }
 }
 

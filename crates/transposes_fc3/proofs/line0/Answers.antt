@@ -1,25 +1,25 @@
 use native.Mathlib.Omega.{arith}
-use mathlib.Core.Path.{◌≡◌, refl, ◌∙◌}
+use mathlib.Core.Path.{◌≡◌, ◌∙◌}
 use Rattle.lists.specs.Tab.{times_none, times_more}
 use Rattle.transposes_fc3.specs.Fc3Loops.{row_t}
 use Rattle.transposes_fc3.proofs.line0.Goals as goal
 
 pub loop-k-init : goal.loop-k-init
-loop-k-init c = (omega arith, refl, times_none _ _)
+loop-k-init c = times_none _ _
 
 pub visit0-requires : goal.visit0-requires
 visit0-requires c =
     let l = c.loop-k in
-    (rw l.invariant.1 c.requires, omega arith)
+    (rw l.auto.fc3 c.requires, omega arith)
 
 pub loop-k-preserved : goal.loop-k-preserved
 loop-k-preserved c =
     let l = c.loop-k in
-    (omega arith, c.visit0.auto.fc3 ∙ l.invariant.1, times_more l.k _ _ l.invariant.2 c.visit0.ensures)
+    times_more l.k _ _ l.invariant c.visit0.ensures
 
 pub returns : goal.returns
 unfolding row_t
 returns c =
     let l = c.loop-k in
     let e : l.k ≡ c.args.n_satom = omega arith in
-    l.invariant.2 ∙ rw e
+    l.invariant ∙ rw e

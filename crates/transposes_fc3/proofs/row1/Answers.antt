@@ -1,24 +1,24 @@
 use native.Mathlib.Omega.{arith}
-use mathlib.Core.Path.{◌≡◌, refl, ◌∙◌}
+use mathlib.Core.Path.{◌≡◌, ◌∙◌}
 use Rattle.lists.specs.Tab.{times_none, times_more}
 use Rattle.transposes_fc3.specs.Fc3Loops.{row_t}
 use Rattle.transposes_fc3.proofs.row1.Goals as goal
 
 pub loop-k-init : goal.loop-k-init
-loop-k-init c = (omega arith, refl, times_none _ _)
+loop-k-init c = times_none _ _
 
 pub visit1-requires : goal.visit1-requires
 visit1-requires c =
-    let l = c.loop-k in record { trading = rw l.invariant.1 c.requires.trading; atoms = (c.requires.in_range.0, c.requires.in_range.1, omega arith) }
+    let l = c.loop-k in record { trading = rw l.auto.fc3 c.requires.trading; atoms = (c.requires.in_range.0, c.requires.in_range.1, omega arith) }
 
 pub loop-k-preserved : goal.loop-k-preserved
 loop-k-preserved c =
     let l = c.loop-k in
-    (omega arith, c.visit1.auto.fc3 ∙ l.invariant.1, times_more l.k _ _ l.invariant.2 c.visit1.ensures)
+    times_more l.k _ _ l.invariant c.visit1.ensures
 
 pub returns : goal.returns
 unfolding row_t
 returns c =
     let l = c.loop-k in
     let e : l.k ≡ c.args.n_satom = omega arith in
-    l.invariant.2 ∙ rw e
+    l.invariant ∙ rw e

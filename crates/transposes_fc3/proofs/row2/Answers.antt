@@ -1,25 +1,25 @@
 use native.Mathlib.Omega.{arith}
-use mathlib.Core.Path.{◌≡◌, refl, ◌∙◌}
+use mathlib.Core.Path.{◌≡◌, ◌∙◌}
 use Rattle.lists.specs.Tab.{times_more}
 use Rattle.transposes_fc3.specs.Fc3Loops.{row_t, idle_2}
 use Rattle.transposes_fc3.proofs.row2.Goals as goal
 
 pub loop-k-init : goal.loop-k-init
 loop-k-init c =
-    (omega arith, refl, idle_2 _ c.requires.trading.sound c.args.p.0 c.args.j.0 c.requires.in_range.0 c.requires.in_range.1 c.args.fc3.now, omega arith)
+    idle_2 _ c.requires.trading.sound c.args.p.0 c.args.j.0 c.requires.in_range.0 c.requires.in_range.1 c.args.fc3.now
 
 pub visit2-requires : goal.visit2-requires
 visit2-requires c =
-    let l = c.loop-k in record { trading = rw l.invariant.1 c.requires.trading; atoms = ((c.requires.in_range.0, c.requires.in_range.1, omega arith), l.invariant.3) }
+    let l = c.loop-k in record { trading = rw l.auto.fc3 c.requires.trading; atoms = ((c.requires.in_range.0, c.requires.in_range.1, omega arith), l.auto.k) }
 
 pub loop-k-preserved : goal.loop-k-preserved
 loop-k-preserved c =
     let l = c.loop-k in
-    (omega arith, c.visit2.auto.fc3 ∙ l.invariant.1, times_more l.k _ _ l.invariant.2 c.visit2.ensures, omega arith)
+    times_more l.k _ _ l.invariant c.visit2.ensures
 
 pub returns : goal.returns
 unfolding row_t
 returns c =
     let l = c.loop-k in
     let e : l.k ≡ c.args.n_satom = omega arith in
-    l.invariant.2 ∙ rw e
+    l.invariant ∙ rw e

@@ -1,24 +1,24 @@
 use native.Mathlib.Omega.{arith}
-use mathlib.Core.Path.{◌≡◌, refl, ◌∙◌}
+use mathlib.Core.Path.{◌≡◌, ◌∙◌}
 use Rattle.lists.specs.Tab.{times_none, times_more}
 use Rattle.transposes_fc3.specs.Fc3Loops.{slab_t}
 use Rattle.transposes_fc3.proofs.slab.Goals as goal
 
 pub loop-j-init : goal.loop-j-init
-loop-j-init c = (omega arith, refl, times_none _ _)
+loop-j-init c = times_none _ _
 
 pub row-requires : goal.row-requires
 row-requires c =
-    let l = c.loop-j in record { trading = rw l.invariant.1 c.requires.trading; in_range = (c.requires.in_range.0, omega arith, c.requires.in_range.1) }
+    let l = c.loop-j in record { trading = rw l.auto.fc3 c.requires.trading; in_range = (c.requires.in_range.0, omega arith, c.requires.in_range.1) }
 
 pub loop-j-preserved : goal.loop-j-preserved
 loop-j-preserved c =
     let l = c.loop-j in
-    (omega arith, c.row.auto.fc3 ∙ l.invariant.1, times_more l.j _ _ l.invariant.2 c.row.ensures)
+    times_more l.j _ _ l.invariant c.row.ensures
 
 pub returns : goal.returns
 unfolding slab_t
 returns c =
     let l = c.loop-j in
     let e : l.j ≡ c.args.n_satom = omega arith in
-    l.invariant.2 ∙ rw e
+    l.invariant ∙ rw e

@@ -1,6 +1,4 @@
-use Prim.Native.Nat.{◌≤◌, ◌-◌}
 use mathlib.Core.Path.{◌≡◌}
-use lib.ListN.{length}
 use Rattle.lists.specs.Tab.{times}
 use Rattle.tables.specs.Compact.{shift_tables}
 use Rattle.transposes_fc3.specs.Fc3Loops.{row_t}
@@ -9,7 +7,4 @@ use Rattle.transposes_fc3.proofs.slab.Given as goal
 abbrev pub invariant-loop-j : goal.invariant-loop-j
 invariant-loop-j l =
     let T = shift_tables l.p2s l.s2pp l.nsym_list l.perms l.n_satom l.n_patom l.num_trans in
-    (l.j ≤ l.n_satom) × (length l.fc3 ≡ length l.initial.fc3) × (l.fc3 ≡ times l.j (λ j. row_t l.half_shifts_stay T l.t l.p.0 j) l.initial.fc3)
-
-abbrev pub decreases-loop-j : goal.decreases-loop-j
-decreases-loop-j l = l.n_satom - l.j
+    l.fc3 ≡ times l.j (λ j. row_t l.half_shifts_stay T l.t l.p.0 j) l.initial.fc3

@@ -1,24 +1,24 @@
 use native.Mathlib.Omega.{arith}
-use mathlib.Core.Path.{◌≡◌, refl, ◌∙◌}
+use mathlib.Core.Path.{◌≡◌, ◌∙◌}
 use Rattle.lists.specs.Tab.{times_none, times_more}
 use Rattle.transposes_fc3.specs.Fc3Loops.{all_t}
 use Rattle.transposes_fc3.proofs.slabs.Goals as goal
 
 pub loop-p-init : goal.loop-p-init
-loop-p-init c = (omega arith, refl, times_none _ _)
+loop-p-init c = times_none _ _
 
 pub slab-requires : goal.slab-requires
 slab-requires c =
-    let l = c.loop-p in record { trading = rw l.invariant.1 c.requires.trading; in_range = (omega arith, c.requires.in_range) }
+    let l = c.loop-p in record { trading = rw l.auto.fc3 c.requires.trading; in_range = (omega arith, c.requires.in_range) }
 
 pub loop-p-preserved : goal.loop-p-preserved
 loop-p-preserved c =
     let l = c.loop-p in
-    (omega arith, c.slab.auto.fc3 ∙ l.invariant.1, times_more l.p _ _ l.invariant.2 c.slab.ensures)
+    times_more l.p _ _ l.invariant c.slab.ensures
 
 pub returns : goal.returns
 unfolding all_t
 returns c =
     let l = c.loop-p in
     let e : l.p ≡ c.args.n_patom = omega arith in
-    l.invariant.2 ∙ rw e
+    l.invariant ∙ rw e

@@ -1,24 +1,24 @@
-use mathlib.Core.Path.{◌≡◌, refl, ◌∙◌}
+use mathlib.Core.Path.{◌≡◌, ◌∙◌}
 use native.Mathlib.Omega.{arith}
 use Rattle.lists.specs.Tab.{times_none, times_more}
 use Rattle.fc2_compact.specs.Code.{ready-same, transpose_all}
 use Rattle.fc2_compact.proofs.pairs.transpose_pass.Goals as goal
 
 pub loop-p-init : goal.loop-p-init
-loop-p-init c = (omega arith, refl, times_none _ _)
+loop-p-init c = times_none _ _
 
 pub transpose_row-requires : goal.transpose_row-requires
 transpose_row-requires c =
     let l = c.loop-p in
-    (ready-same l.invariant.1 c.requires, c.loop-p-test.true)
+    (ready-same l.auto.fc c.requires, c.loop-p-test.true)
 
 pub loop-p-preserved : goal.loop-p-preserved
 loop-p-preserved c =
     let l = c.loop-p in
-    (omega arith, c.transpose_row.auto.fc ∙ l.invariant.1, times_more l.p _ _ l.invariant.2 c.transpose_row.ensures)
+    times_more l.p _ _ l.invariant c.transpose_row.ensures
 
 pub returns : goal.returns
 returns c =
     let l = c.loop-p in
     let e : l.p ≡ c.args.n_patom = omega arith in
-    l.invariant.2 ∙ rw e (transpose_all c.args.fc.now c.requires c.args.half_shifts_stay)
+    l.invariant ∙ rw e (transpose_all c.args.fc.now c.requires c.args.half_shifts_stay)

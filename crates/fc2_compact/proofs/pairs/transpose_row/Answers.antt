@@ -1,7 +1,6 @@
-use mathlib.Core.Path.{◌≡◌, refl, ◌∙◌}
+use mathlib.Core.Path.{◌≡◌, ◌∙◌}
 use native.Mathlib.Omega.{arith}
 use Rattle.lists.specs.Tab.{times_none, times_more}
-use Rattle.fc2_compact.specs.Visits.{transpose_visit}
 use Rattle.fc2_compact.specs.Code.{ready_at, p2s-read}
 use Rattle.fc2_compact.proofs.pairs.transpose_row.Goals as goal
 
@@ -9,21 +8,21 @@ pub p2s_at-i-requires : goal.p2s_at-i-requires
 p2s_at-i-requires c = p2s-read c.requires.0 c.args.p c.requires.1
 
 pub loop-j-init : goal.loop-j-init
-loop-j-init c = (omega arith, refl, times_none _ _)
+loop-j-init c = times_none _ _
 
 pub transpose_visit-requires : goal.transpose_visit-requires
 transpose_visit-requires c =
     let l = c.loop-j in
-    ready_at l.invariant.1 c.requires.0 c.requires.1 c.p2s_at-i.ensures c.loop-j-test.true
+    ready_at l.auto.fc c.requires.0 c.requires.1 c.p2s_at-i.ensures c.loop-j-test.true
 
 pub loop-j-preserved : goal.loop-j-preserved
 loop-j-preserved c =
     let l = c.loop-j in
-    (omega arith, c.transpose_visit.auto.fc ∙ l.invariant.1, times_more l.j _ _ l.invariant.2 c.transpose_visit.ensures)
+    times_more l.j _ _ l.invariant c.transpose_visit.ensures
 
 pub returns : goal.returns
 returns c =
     let l = c.loop-j in
     let a = c.args in
     let e : l.j ≡ a.n_satom = omega arith in
-    l.invariant.2 ∙ rw e
+    l.invariant ∙ rw e

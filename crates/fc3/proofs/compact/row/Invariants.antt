@@ -1,6 +1,4 @@
-use Prim.Native.Nat.{◌≤◌, ◌-◌}
 use mathlib.Core.Path.{◌≡◌}
-use lib.ListN.{length}
 use Rattle.lists.specs.Tab.{times}
 use Rattle.tables.specs.Compact.{shift_tables}
 use Rattle.orbits.specs.GroupLoop.{State}
@@ -10,7 +8,4 @@ use Rattle.fc3.proofs.compact.row.Given as goal
 abbrev pub invariant-loop-k : goal.invariant-loop-k
 invariant-loop-k l =
     let T = shift_tables l.p2s l.s2pp l.nsym_list l.perms l.n_satom l.n_patom l.num_trans in
-    (l.k ≤ l.n_satom) × (length l.fc3 ≡ length l.initial.fc3) × (length l.done ≡ length l.initial.done) × (◌≡◌ {A = State} (l.fc3, l.done) (times l.k (λ k. visit_at T (at3 T l.p.0 l.j.0 k)) (l.initial.fc3, l.initial.done)))
-
-abbrev pub decreases-loop-k : goal.decreases-loop-k
-decreases-loop-k l = l.n_satom - l.k
+    ◌≡◌ {A = State} (l.fc3, l.done) (times l.k (λ k. visit_at T (at3 T l.p.0 l.j.0 k)) (l.initial.fc3, l.initial.done))

@@ -1,24 +1,24 @@
 use native.Mathlib.Omega.{arith}
-use mathlib.Core.Path.{◌≡◌, refl, ◌∙◌}
+use mathlib.Core.Path.{◌≡◌, ◌∙◌}
 use Rattle.lists.specs.Tab.{times_none, times_more}
 use Rattle.fc3.specs.Loops.{slab3}
 use Rattle.fc3.proofs.compact.slab.Goals as goal
 
 pub loop-j-init : goal.loop-j-init
-loop-j-init c = (omega arith, refl, refl, times_none _ _)
+loop-j-init c = times_none _ _
 
 pub row-requires : goal.row-requires
 row-requires c =
-    let l = c.loop-j in record { ready = rw (l.invariant.1, l.invariant.2) c.requires.ready; in_range = (c.requires.in_range, omega arith) }
+    let l = c.loop-j in record { ready = rw (l.auto.fc3, l.auto.done) c.requires.ready; in_range = (c.requires.in_range, omega arith) }
 
 pub loop-j-preserved : goal.loop-j-preserved
 loop-j-preserved c =
     let l = c.loop-j in
-    (omega arith, c.row.auto.fc3 ∙ l.invariant.1, c.row.auto.done ∙ l.invariant.2, times_more l.j _ _ l.invariant.3 c.row.ensures)
+    times_more l.j _ _ l.invariant c.row.ensures
 
 pub returns : goal.returns
 unfolding slab3
 returns c =
     let l = c.loop-j in
     let e : l.j ≡ c.args.n_satom = omega arith in
-    l.invariant.3 ∙ rw e
+    l.invariant ∙ rw e

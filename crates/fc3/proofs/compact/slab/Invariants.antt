@@ -1,6 +1,4 @@
-use Prim.Native.Nat.{◌≤◌, ◌-◌}
 use mathlib.Core.Path.{◌≡◌}
-use lib.ListN.{length}
 use Rattle.lists.specs.Tab.{times}
 use Rattle.tables.specs.Compact.{shift_tables}
 use Rattle.orbits.specs.GroupLoop.{State}
@@ -10,7 +8,4 @@ use Rattle.fc3.proofs.compact.slab.Given as goal
 abbrev pub invariant-loop-j : goal.invariant-loop-j
 invariant-loop-j l =
     let T = shift_tables l.p2s l.s2pp l.nsym_list l.perms l.n_satom l.n_patom l.num_trans in
-    (l.j ≤ l.n_satom) × (length l.fc3 ≡ length l.initial.fc3) × (length l.done ≡ length l.initial.done) × (◌≡◌ {A = State} (l.fc3, l.done) (times l.j (λ j. row3 T l.p.0 j) (l.initial.fc3, l.initial.done)))
-
-abbrev pub decreases-loop-j : goal.decreases-loop-j
-decreases-loop-j l = l.n_satom - l.j
+    ◌≡◌ {A = State} (l.fc3, l.done) (times l.j (λ j. row3 T l.p.0 j) (l.initial.fc3, l.initial.done))

@@ -1,24 +1,24 @@
 use native.Mathlib.Omega.{arith}
-use mathlib.Core.Path.{◌≡◌, refl, ◌∙◌}
+use mathlib.Core.Path.{◌≡◌, ◌∙◌}
 use Rattle.lists.specs.Tab.{times_none, times_more}
 use Rattle.fc3.specs.Loops.{all3}
 use Rattle.fc3.proofs.compact.slabs.Goals as goal
 
 pub loop-p-init : goal.loop-p-init
-loop-p-init c = (omega arith, refl, refl, times_none _ _)
+loop-p-init c = times_none _ _
 
 pub slab-requires : goal.slab-requires
 slab-requires c =
-    let l = c.loop-p in record { ready = rw (l.invariant.1, l.invariant.2) c.requires; in_range = omega arith }
+    let l = c.loop-p in record { ready = rw (l.auto.fc3, l.auto.done) c.requires; in_range = omega arith }
 
 pub loop-p-preserved : goal.loop-p-preserved
 loop-p-preserved c =
     let l = c.loop-p in
-    (omega arith, c.slab.auto.fc3 ∙ l.invariant.1, c.slab.auto.done ∙ l.invariant.2, times_more l.p _ _ l.invariant.3 c.slab.ensures)
+    times_more l.p _ _ l.invariant c.slab.ensures
 
 pub returns : goal.returns
 unfolding all3
 returns c =
     let l = c.loop-p in
     let e : l.p ≡ c.args.n_patom = omega arith in
-    l.invariant.3 ∙ rw e
+    l.invariant ∙ rw e

@@ -1,6 +1,4 @@
-use Prim.Native.Nat.{◌≤◌, ◌-◌}
 use mathlib.Core.Path.{◌≡◌}
-use lib.ListN.{length}
 use Rattle.lists.specs.Tab.{times}
 use Rattle.tables.specs.Compact.{shift_tables}
 use Rattle.orbits.specs.GroupLoop.{State}
@@ -10,7 +8,4 @@ use Rattle.fc3.proofs.compact.slabs.Given as goal
 abbrev pub invariant-loop-p : goal.invariant-loop-p
 invariant-loop-p l =
     let T = shift_tables l.p2s l.s2pp l.nsym_list l.perms l.n_satom l.n_patom l.num_trans in
-    (l.p ≤ l.n_patom) × (length l.fc3 ≡ length l.initial.fc3) × (length l.done ≡ length l.initial.done) × (◌≡◌ {A = State} (l.fc3, l.done) (times l.p (λ p. slab3 T p) (l.initial.fc3, l.initial.done)))
-
-abbrev pub decreases-loop-p : goal.decreases-loop-p
-decreases-loop-p l = l.n_patom - l.p
+    ◌≡◌ {A = State} (l.fc3, l.done) (times l.p (λ p. slab3 T p) (l.initial.fc3, l.initial.done))

@@ -1,36 +1,26 @@
 use Prim.Native.Nat.{◌+◌}
 use native.Mathlib.Omega.{arith}
-use mathlib.Core.Path.{◌≡◌, refl, ◌∙◌}
+use mathlib.Core.Path.{◌≡◌, ◌∙◌}
 use Rattle.lists.specs.Tab.{times-at, times-from}
 use Rattle.fc3.specs.FullLoops.{group_at, line_of, first-turn}
 use Rattle.fc3.proofs.full.line_same.Goals as goal
 
-pub group_same-requires : goal.group_same-requires
-group_same-requires c = c.requires
-
-pub overflow_add-c : goal.overflow_add-c
-overflow_add-c c =
-    let h = c.requires.0.atoms in
-    let k = c.requires.1 in
-    omega arith
-
 pub loop-c-init : goal.loop-c-init
-loop-c-init c = let k = c.requires.1 in (omega arith, omega arith, refl, times-at _ _ _)
+loop-c-init c = times-at _ _ _
 
 pub group_first-requires : goal.group_first-requires
 group_first-requires c =
     let l = c.loop-c in
-    let h = l.invariant.0 in
-    (rw (l.invariant.2 ∙ c.group_same.auto.fc3) c.requires.0, omega arith, omega arith)
+    (rw (l.auto.fc3 ∙ c.group_same.auto.fc3) c.requires.0, omega arith, omega arith)
 
 pub loop-c-preserved : goal.loop-c-preserved
 loop-c-preserved c =
     let l = c.loop-c in
     let a = c.args in
-    (omega arith, omega arith, c.group_first.auto.fc3 ∙ l.invariant.2, times-from (a.a.0 + 1) l.c (group_at a.num_atom a.a.0 a.a.0) _ l.invariant.0 l.invariant.3 c.group_first.ensures)
+    times-from (a.a.0 + 1) l.c (group_at a.num_atom a.a.0 a.a.0) _ l.auto.c l.invariant c.group_first.ensures
 
 pub shape_of-fc3 : goal.shape_of-fc3
-shape_of-fc3 c = c.loop-c.invariant.2 ∙ c.group_same.auto.fc3
+shape_of-fc3 c = c.loop-c.auto.fc3 ∙ c.group_same.auto.fc3
 
 pub returns : goal.returns
 unfolding line_of
@@ -38,4 +28,4 @@ returns c =
     let l = c.loop-c in
     let a = c.args in
     let e : l.c ≡ a.num_atom = omega arith in
-    first-turn a.a.0 a.num_atom (group_at a.num_atom a.a.0 a.a.0) a.fc3.now c.requires.1 c.group_same.ensures e l.invariant.3
+    first-turn a.a.0 a.num_atom (group_at a.num_atom a.a.0 a.a.0) a.fc3.now c.requires.1 c.group_same.ensures e l.invariant

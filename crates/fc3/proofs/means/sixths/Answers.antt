@@ -8,15 +8,15 @@ use borrow.Author.Rules.{rules}
 use Rattle.fc3.proofs.means.sixths.Goals as goal
 
 pub loop-k-init : goal.loop-k-init
-loop-k-init c = (search rules, refl, below_none _)
+loop-k-init c = (refl, below_none _)
 
 pub loop-k-preserved : goal.loop-k-preserved
 loop-k-preserved c =
     let l = c.loop-k in
-    (search rules, search rules, fill_more nan _ l.r l.k _ (omega arith) refl l.invariant.2)
+    (search rules, fill_more nan _ l.r l.k _ (omega arith) refl l.invariant.1)
 
 pub returns : goal.returns
 unfolding sixths
 returns c =
     let l = c.loop-k in
-    is_tab nan 27 _ l.r l.invariant.1 (λ j h. l.invariant.2 j (omega arith))
+    is_tab nan 27 _ l.r l.invariant.0 (λ j h. l.invariant.1 j (omega arith))

@@ -14,7 +14,7 @@ use borrow.Author.Rules.{rules}
 use Rattle.fc3.proofs.spots.put_line.Goals as goal
 
 pub loop-n-init : goal.loop-n-init
-loop-n-init c = (omega arith, c.requires.0, times_none _ _)
+loop-n-init c = (c.requires.0, times_none _ _)
 
 pub offset_bounds-v-k : goal.offset_bounds-v-k
 offset_bounds-v-k c =
@@ -33,7 +33,7 @@ bounds-v-k c =
 pub put_spots-requires : goal.put_spots-requires
 put_spots-requires c =
     let l = c.loop-n in
-    (l.invariant.1, c.requires.1, c.requires.2, c.requires.3, omega arith)
+    (l.invariant.0, c.requires.1, c.requires.2, c.requires.3, omega arith)
 
 pub loop-n-preserved : goal.loop-n-preserved
 loop-n-preserved c =
@@ -41,9 +41,8 @@ loop-n-preserved c =
     let (h0, h1, h2, h3) = c.requires in
     let (e, h) = dirs_are c.args.l c.args.m l.n h2 h3 (omega arith) c.dir3-k.ensures in
     let bs = c.args.s0 ∷ c.args.s1 ∷ c.args.s2 ∷ c.args.s3 ∷ c.args.s4 ∷ c.args.s5 ∷ [] in (
-      omega arith,
       c.put_spots.ensures.0,
-      times_more l.n _ _ l.invariant.2
+      times_more l.n _ _ l.invariant.1
           (c.put_spots.ensures.1 ∙ ap (λ k. set_all (spots 2 perms3 bs ((c.args.l * 3 + c.args.m) * 3 + l.n)) (get_or c.args.v k nan) (flat l.group)) e),
     )
 
@@ -52,4 +51,4 @@ unfolding line_at
 returns c =
     let l = c.loop-n in
     let e : l.n ≡ 3 = omega arith in
-    (l.invariant.1, l.invariant.2 ∙ rw e)
+    (l.invariant.0, l.invariant.1 ∙ rw e)

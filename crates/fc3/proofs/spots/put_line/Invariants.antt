@@ -1,4 +1,4 @@
-use Prim.Native.Nat.{◌+◌, ◌*◌, ◌≤◌, ◌-◌}
+use Prim.Native.Nat.{◌+◌, ◌*◌}
 use mathlib.Core.Path.{◌≡◌}
 use mathlib.Core.List.{[], ◌∷◌}
 use lib.ListN.{get_or}
@@ -12,7 +12,4 @@ use Rattle.fc3.proofs.spots.put_line.Given as goal
 
 abbrev pub invariant-loop-n : goal.invariant-loop-n
 invariant-loop-n at =
-    (at.n ≤ 3) × Six at.group × (flat at.group ≡ times at.n (λ n. set_all (spots 2 perms3 (at.s0 ∷ at.s1 ∷ at.s2 ∷ at.s3 ∷ at.s4 ∷ at.s5 ∷ []) ((at.l * 3 + at.m) * 3 + n)) (get_or at.v ((at.l * 3 + at.m) * 3 + n) nan)) (flat at.initial.group))
-
-abbrev pub decreases-loop-n : goal.decreases-loop-n
-decreases-loop-n at = 3 - at.n
+    Six at.group × (flat at.group ≡ times at.n (λ n. set_all (spots 2 perms3 (at.s0 ∷ at.s1 ∷ at.s2 ∷ at.s3 ∷ at.s4 ∷ at.s5 ∷ []) ((at.l * 3 + at.m) * 3 + n)) (get_or at.v ((at.l * 3 + at.m) * 3 + n) nan)) (flat at.initial.group))

@@ -5,21 +5,21 @@ use Rattle.fc3.specs.Spread.{plane_at}
 use Rattle.fc3.proofs.spots.put_plane.Goals as goal
 
 pub loop-m-init : goal.loop-m-init
-loop-m-init c = (omega arith, c.requires.0, times_none _ _)
+loop-m-init c = (c.requires.0, times_none _ _)
 
 pub put_line-requires : goal.put_line-requires
 put_line-requires c =
     let l = c.loop-m in
-    (l.invariant.1, c.requires.1, c.requires.2, omega arith)
+    (l.invariant.0, c.requires.1, c.requires.2, omega arith)
 
 pub loop-m-preserved : goal.loop-m-preserved
 loop-m-preserved c =
     let l = c.loop-m in
-    (omega arith, c.put_line.ensures.0, times_more l.m _ _ l.invariant.2 c.put_line.ensures.1)
+    (c.put_line.ensures.0, times_more l.m _ _ l.invariant.1 c.put_line.ensures.1)
 
 pub returns : goal.returns
 unfolding plane_at
 returns c =
     let l = c.loop-m in
     let e : l.m ≡ 3 = omega arith in
-    (l.invariant.1, l.invariant.2 ∙ rw e)
+    (l.invariant.0, l.invariant.1 ∙ rw e)

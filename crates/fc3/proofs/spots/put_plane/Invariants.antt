@@ -1,4 +1,3 @@
-use Prim.Native.Nat.{◌≤◌, ◌-◌}
 use mathlib.Core.Path.{◌≡◌}
 use mathlib.Core.List.{[], ◌∷◌}
 use Rattle.lists.specs.Tab.{times}
@@ -8,7 +7,4 @@ use Rattle.fc3.proofs.spots.put_plane.Given as goal
 
 abbrev pub invariant-loop-m : goal.invariant-loop-m
 invariant-loop-m at =
-    (at.m ≤ 3) × Six at.group × (flat at.group ≡ times at.m (λ m. line_at (at.s0 ∷ at.s1 ∷ at.s2 ∷ at.s3 ∷ at.s4 ∷ at.s5 ∷ []) at.v at.l m) (flat at.initial.group))
-
-abbrev pub decreases-loop-m : goal.decreases-loop-m
-decreases-loop-m at = 3 - at.m
+    Six at.group × (flat at.group ≡ times at.m (λ m. line_at (at.s0 ∷ at.s1 ∷ at.s2 ∷ at.s3 ∷ at.s4 ∷ at.s5 ∷ []) at.v at.l m) (flat at.initial.group))

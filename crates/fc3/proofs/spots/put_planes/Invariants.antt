@@ -1,4 +1,3 @@
-use Prim.Native.Nat.{◌≤◌, ◌-◌}
 use mathlib.Core.Path.{◌≡◌}
 use mathlib.Core.List.{[], ◌∷◌}
 use Rattle.lists.specs.Tab.{times}
@@ -8,7 +7,4 @@ use Rattle.fc3.proofs.spots.put_planes.Given as goal
 
 abbrev pub invariant-loop-l : goal.invariant-loop-l
 invariant-loop-l at =
-    (at.l ≤ 3) × Six at.group × (flat at.group ≡ times at.l (λ l. plane_at (at.s0 ∷ at.s1 ∷ at.s2 ∷ at.s3 ∷ at.s4 ∷ at.s5 ∷ []) at.v l) (flat at.initial.group))
-
-abbrev pub decreases-loop-l : goal.decreases-loop-l
-decreases-loop-l at = 3 - at.l
+    Six at.group × (flat at.group ≡ times at.l (λ l. plane_at (at.s0 ∷ at.s1 ∷ at.s2 ∷ at.s3 ∷ at.s4 ∷ at.s5 ∷ []) at.v l) (flat at.initial.group))

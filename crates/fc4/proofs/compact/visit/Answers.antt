@@ -1,11 +1,6 @@
 use Rattle.tables.specs.Compact.{shift_tables, shifts_of}
 use Rattle.fc4.specs.Loops.{takes, sized, visit-free, visit-met}
-use borrow.Author.Rules.{rules}
 use Rattle.fc4.proofs.compact.visit.Goals as goal
-
-pub group_blocks-bs-requires : goal.group_blocks-bs-requires
-group_blocks-bs-requires c =
-    (c.requires.ready.fit, rw c.requires.ready.work-length at c.requires.in_range.1)
 
 pub take-requires : goal.take-requires
 take-requires c =

@@ -1,18 +1,14 @@
 use Prim.Native.Nat.{◌+◌, ◌*◌}
 use native.Mathlib.Omega.{arith}
-use mathlib.Core.Path.{◌≡◌, refl, ap, ◌∙◌}
+use mathlib.Core.Path.{◌≡◌, ap, ◌∙◌}
 use mathlib.Core.List.{[]}
 use lib.ListN.{get_or, length-set}
 use lib.Ieee.{nan, binary64, add}
-use borrow.Author.Count.{below_none}
 use Rattle.lists.specs.Tab.{fill_more, is_tab}
 use Rattle.blocks.specs.Permuted.{permuted}
 use Rattle.positions.specs.Positions.{permutation_at, permuted_in}
 use Rattle.fc4.specs.Mean.{added_nine}
 use Rattle.fc4.proofs.mean.add_nine.Goals as goal
-
-pub loop-k-init : goal.loop-k-init
-loop-k-init c = (omega arith, refl, below_none _)
 
 pub bounds-g-q : goal.bounds-g-q
 bounds-g-q c =
@@ -25,15 +21,14 @@ bounds-g-q c =
 pub loop-k-preserved : goal.loop-k-preserved
 loop-k-preserved c =
     let l = c.loop-k in (
-      omega arith,
-      simp length-set l.invariant.1,
+      simp length-set l.invariant.0,
       fill_more nan _ l.r l.k _ (omega arith)
           (ap (λ q. add binary64 (get_or c.args.sums l.k nan) (get_or (get_or c.args.g.now c.args.s []) q nan)) (c.entry-q.ensures ∙ ap (permuted 3 (permutation_at c.args.s)) c.index_of.ensures))
-          l.invariant.2,
+          l.invariant.1,
     )
 
 pub returns : goal.returns
 unfolding added_nine
 returns c =
     let l = c.loop-k in
-    is_tab nan 9 _ l.r l.invariant.1 (λ j h. l.invariant.2 j (omega arith))
+    is_tab nan 9 _ l.r l.invariant.0 (λ j h. l.invariant.1 j (omega arith))

@@ -1,4 +1,4 @@
-use Prim.Native.Nat.{ℕ, ◌+◌, ◌*◌, ◌≤◌, ◌<◌, ◌-◌}
+use Prim.Native.Nat.{ℕ, ◌+◌, ◌*◌, ◌<◌}
 use mathlib.Core.Path.{◌≡◌}
 use mathlib.Core.List.{[]}
 use lib.ListN.{length, get_or}
@@ -9,7 +9,4 @@ use Rattle.fc4.proofs.mean.add_nine.Given as goal
 
 abbrev pub invariant-loop-k : goal.invariant-loop-k
 invariant-loop-k l =
-    (l.k ≤ 9) × (length l.r ≡ 9) × ((j : ℕ) → j < l.k → get_or l.r j nan ≡ add binary64 (get_or l.sums j nan) (get_or (get_or l.g l.s []) (permuted 3 (permutation_at l.s) (l.h * 9 + j)) nan))
-
-abbrev pub decreases-loop-k : goal.decreases-loop-k
-decreases-loop-k l = 9 - l.k
+    (length l.r ≡ 9) × ((j : ℕ) → j < l.k → get_or l.r j nan ≡ add binary64 (get_or l.sums j nan) (get_or (get_or l.g l.s []) (permuted 3 (permutation_at l.s) (l.h * 9 + j)) nan))

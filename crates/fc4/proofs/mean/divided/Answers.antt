@@ -1,22 +1,11 @@
 use native.Mathlib.Omega.{arith}
-use mathlib.Core.Path.{refl}
 use lib.Ieee.{nan}
-use borrow.Author.Count.{below_none}
-use borrow.Author.Rules.{rules}
-use Rattle.lists.specs.Tab.{fill_more, is_tab}
+use Rattle.lists.specs.Tab.{is_tab}
 use Rattle.fc4.specs.Mean.{divided}
 use Rattle.fc4.proofs.mean.divided.Goals as goal
-
-pub loop-k-init : goal.loop-k-init
-loop-k-init c = (search rules, refl, below_none _)
-
-pub loop-k-preserved : goal.loop-k-preserved
-loop-k-preserved c =
-    let l = c.loop-k in
-    (search rules, search rules, fill_more nan _ l.r l.k _ (omega arith) refl l.invariant.2)
 
 pub returns : goal.returns
 unfolding divided
 returns c =
     let l = c.loop-k in
-    is_tab nan 9 _ l.r l.invariant.1 (λ j h. l.invariant.2 j (omega arith))
+    is_tab nan 9 _ l.r l.invariant.0 (λ j h. l.invariant.1 j (omega arith))

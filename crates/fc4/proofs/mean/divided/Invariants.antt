@@ -1,4 +1,4 @@
-use Prim.Native.Nat.{ℕ, ◌≤◌, ◌<◌, ◌-◌}
+use Prim.Native.Nat.{ℕ, ◌<◌}
 use mathlib.Core.Path.{◌≡◌}
 use lib.ListN.{length, get_or}
 use lib.Ieee.{nan, binary64, div, of_bits}
@@ -6,7 +6,4 @@ use Rattle.fc4.proofs.mean.divided.Given as goal
 
 abbrev pub invariant-loop-k : goal.invariant-loop-k
 invariant-loop-k l =
-    (l.k ≤ 9) × (length l.r ≡ 9) × ((j : ℕ) → j < l.k → get_or l.r j nan ≡ div binary64 (get_or l.sums j nan) (of_bits binary64 0x4038_0000_0000_0000))
-
-abbrev pub decreases-loop-k : goal.decreases-loop-k
-decreases-loop-k l = 9 - l.k
+    (length l.r ≡ 9) × ((j : ℕ) → j < l.k → get_or l.r j nan ≡ div binary64 (get_or l.sums j nan) (of_bits binary64 0x4038_0000_0000_0000))

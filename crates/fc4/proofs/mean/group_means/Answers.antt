@@ -5,11 +5,8 @@ use Rattle.blocks.specs.Block.{put_block}
 use Rattle.fc4.specs.Mean.{nine_sums, divided, means_to, means_are, is_group_lem}
 use Rattle.fc4.proofs.mean.group_means.Goals as goal
 
-pub read_group-g-requires : goal.read_group-g-requires
-read_group-g-requires c = c.requires.0
-
 pub loop-h-init : goal.loop-h-init
-loop-h-init c = (omega arith, refl, times_none _ _)
+loop-h-init c = (refl, times_none _ _)
 
 pub nine_sums-requires : goal.nine_sums-requires
 nine_sums-requires c =
@@ -22,9 +19,8 @@ loop-h-preserved c =
     let d = c.divided-nine in
     let n = c.nine_sums in
     let g = c.read_group-g in (
-      omega arith,
-      w.auto.fc ∙ l.invariant.1,
-      times_more l.h _ _ l.invariant.2 (w.ensures ∙ ap (λ m. put_block 9 l.h m l.v) (d.ensures ∙ ap divided (n.ensures ∙ ap (λ g. nine_sums g l.h) g.ensures))),
+      w.auto.fc ∙ l.invariant.0,
+      times_more l.h _ _ l.invariant.1 (w.ensures ∙ ap (λ m. put_block 9 l.h m l.v) (d.ensures ∙ ap divided (n.ensures ∙ ap (λ g. nine_sums g l.h) g.ensures))),
     )
 
 pub returns : goal.returns
@@ -32,4 +28,4 @@ unfolding means_to
 returns c =
     let l = c.loop-h in
     let e : l.h ≡ 9 = omega arith in
-    (rw e at l.invariant.2) ∙ means_are c.args.fc4.now c.args.bs.now c.requires.0.count
+    (rw e at l.invariant.1) ∙ means_are c.args.fc4.now c.args.bs.now c.requires.0.count

@@ -1,4 +1,3 @@
-use Prim.Native.Nat.{◌≤◌, ◌-◌}
 use mathlib.Core.Path.{◌≡◌}
 use lib.ListN.{length, replicate}
 use lib.Ieee.{binary64, of_bits}
@@ -9,7 +8,4 @@ use Rattle.fc4.proofs.mean.group_means.Given as goal
 
 abbrev pub invariant-loop-h : goal.invariant-loop-h
 invariant-loop-h l =
-    (l.h ≤ 9) × (length l.v ≡ 81) × (l.v ≡ times l.h (λ h. put_block 9 h (divided (nine_sums (group_of l.fc4 l.bs) h))) (replicate 81 (of_bits binary64 0)))
-
-abbrev pub decreases-loop-h : goal.decreases-loop-h
-decreases-loop-h l = 9 - l.h
+    (length l.v ≡ 81) × (l.v ≡ times l.h (λ h. put_block 9 h (divided (nine_sums (group_of l.fc4 l.bs) h))) (replicate 81 (of_bits binary64 0)))

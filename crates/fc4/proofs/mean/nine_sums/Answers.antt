@@ -1,26 +1,20 @@
 use native.Mathlib.Omega.{arith}
-use mathlib.Core.Path.{◌≡◌, refl, ap, ◌∙◌}
-use lib.ListN.{length}
+use mathlib.Core.Path.{◌≡◌, ◌∙◌}
 use Rattle.lists.specs.Tab.{times_none, times_more}
-use Rattle.fc4.specs.Mean.{nine_sums, length-added}
+use Rattle.fc4.specs.Mean.{nine_sums}
 use Rattle.fc4.proofs.mean.nine_sums.Goals as goal
 
 pub loop-s-init : goal.loop-s-init
-loop-s-init c = (omega arith, refl, times_none _ _)
-
-pub add_nine-more-requires : goal.add_nine-more-requires
-add_nine-more-requires c =
-    (c.requires.0, c.requires.1, omega arith, c.requires.2)
+loop-s-init c = times_none _ _
 
 pub loop-s-preserved : goal.loop-s-preserved
 loop-s-preserved c =
     let l = c.loop-s in
-    let e = c.add_nine-more.ensures in
-    (omega arith, ap length e ∙ length-added _ _ _ _, times_more l.s _ _ l.invariant.2 e)
+    times_more l.s _ _ l.invariant c.add_nine-more.ensures
 
 pub returns : goal.returns
 unfolding nine_sums
 returns c =
     let l = c.loop-s in
     let e : l.s ≡ 24 = omega arith in
-    l.invariant.2 ∙ rw e
+    l.invariant ∙ rw e

@@ -1,7 +1,6 @@
-use Prim.Native.Nat.{◌≤◌, ◌-◌}
 use mathlib.Core.Path.{◌≡◌}
 use mathlib.Core.List.{[]}
-use lib.ListN.{length, get_or, replicate}
+use lib.ListN.{get_or, replicate}
 use lib.Ieee.{binary64, of_bits}
 use Rattle.lists.specs.Tab.{times}
 use Rattle.fc4.specs.Mean.{added_nine}
@@ -9,7 +8,4 @@ use Rattle.fc4.proofs.mean.nine_sums.Given as goal
 
 abbrev pub invariant-loop-s : goal.invariant-loop-s
 invariant-loop-s l =
-    (l.s ≤ 24) × (length l.sums ≡ 9) × (l.sums ≡ times l.s (λ s. added_nine s l.h (get_or l.g s [])) (replicate 9 (of_bits binary64 0)))
-
-abbrev pub decreases-loop-s : goal.decreases-loop-s
-decreases-loop-s l = 24 - l.s
+    l.sums ≡ times l.s (λ s. added_nine s l.h (get_or l.g s [])) (replicate 9 (of_bits binary64 0))

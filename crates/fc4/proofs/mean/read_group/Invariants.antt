@@ -1,4 +1,4 @@
-use Prim.Native.Nat.{ℕ, ◌≤◌, ◌<◌, ◌-◌}
+use Prim.Native.Nat.{ℕ, ◌<◌}
 use mathlib.Core.Path.{◌≡◌}
 use mathlib.Core.List.{[]}
 use lib.ListN.{length, get_or}
@@ -7,7 +7,4 @@ use Rattle.fc4.proofs.mean.read_group.Given as goal
 
 abbrev pub invariant-loop-s : goal.invariant-loop-s
 invariant-loop-s l =
-    (l.s ≤ 24) × (length l.g ≡ 24) × ((j : ℕ) → j < l.s → get_or l.g j [] ≡ block 81 (get_or l.bs j 0) l.fc4)
-
-abbrev pub decreases-loop-s : goal.decreases-loop-s
-decreases-loop-s l = 24 - l.s
+    (length l.g ≡ 24) × ((j : ℕ) → j < l.s → get_or l.g j [] ≡ block 81 (get_or l.bs j 0) l.fc4)

@@ -3,8 +3,6 @@ use native.Mathlib.Omega.{arith}
 use mathlib.Core.Path.{◌≡◌, refl, sym, ap, ◌∙◌}
 use lib.ListN.{get_or, length-set}
 use lib.Ieee.{nan}
-use borrow.Author.Count.{below_none}
-use borrow.Author.Rules.{rules}
 use Rattle.lists.specs.Tab.{times_none, times_more, fill_more}
 use Rattle.blocks.specs.Block.{put_block}
 use Rattle.fc4.specs.Spread.{sources_below, made_of, is_made, passed_over, put_blocks, blocks_are}
@@ -13,24 +11,7 @@ use Rattle.fc4.proofs.spread.put_blocks.Goals as goal
 pub loop-s-init : goal.loop-s-init
 loop-s-init c = (omega arith, refl, times_none _ _)
 
-pub sources-m-requires : goal.sources-m-requires
-sources-m-requires c =
-    (c.inverse_permutations-inverse.ensures, c.requires.1)
-
-pub loop-k-init : goal.loop-k-init
-loop-k-init c = (omega arith, refl, below_none _)
-
 -- the source of a place is a position of the block
-pub overflow_cast-q : goal.overflow_cast-q
-overflow_cast-q c =
-    let g : get_or c.sources-m.result c.loop-k.k 0 < 81 = rw c.sources-m.ensures (sources_below c.args.bs.now (get_or c.args.bs.now c.loop-s.s 0) c.loop-k.k (omega (arith, c.loop-k-test.true))) in
-    search rules
-
-pub offset_bounds-v-q : goal.offset_bounds-v-q
-offset_bounds-v-q c =
-    let g : get_or c.sources-m.result c.loop-k.k 0 < 81 = rw c.sources-m.ensures (sources_below c.args.bs.now (get_or c.args.bs.now c.loop-s.s 0) c.loop-k.k (omega (arith, c.loop-k-test.true))) in
-    omega arith
-
 pub bounds-v-q : goal.bounds-v-q
 bounds-v-q c =
     let g : get_or c.sources-m.result c.loop-k.k 0 < 81 = rw c.sources-m.ensures (sources_below c.args.bs.now (get_or c.args.bs.now c.loop-s.s 0) c.loop-k.k (omega (arith, c.loop-k-test.true))) in
@@ -39,39 +20,7 @@ bounds-v-q c =
 pub loop-k-preserved : goal.loop-k-preserved
 loop-k-preserved c =
     let l = c.loop-k in
-    (omega arith, simp length-set l.invariant.1, fill_more nan _ l.block l.k _ (omega arith) refl l.invariant.2)
-
-pub offset_bounds-bs-s-in-loop-s : goal.offset_bounds-bs-s-in-loop-s
-offset_bounds-bs-s-in-loop-s c =
-    let t = c.loop-s-test in
-    search rules
-
-pub bounds-bs-s-in-loop-s : goal.bounds-bs-s-in-loop-s
-bounds-bs-s-in-loop-s c =
-    let t = c.loop-s-test in
-    search rules
-
-pub write81-requires : goal.write81-requires
-write81-requires c =
-    let l = c.loop-s in
-    let t = c.loop-s-test in
-    rw l.invariant.1 (c.requires.0.inside l.s t.true)
-
-pub overflow_add-s : goal.overflow_add-s
-overflow_add-s c =
-    let t = c.loop-s-test in
-    search rules
-
-pub next_block-s-requires : goal.next_block-s-requires
-next_block-s-requires c =
-    let t = c.loop-s-test in
-    omega arith
-
-pub loop-s-smaller : goal.loop-s-smaller
-loop-s-smaller c =
-    let t = c.loop-s-test in
-    let n = c.next_block-s.ensures in
-    omega arith
+    (simp length-set l.invariant.0, fill_more nan _ l.block l.k _ (omega arith) refl l.invariant.1)
 
 -- the block that was made, written, and the blocks that were passed over, which it leaves as they are
 pub loop-s-preserved : goal.loop-s-preserved
@@ -83,7 +32,7 @@ loop-s-preserved c =
     let n = c.next_block-s.ensures in
     let b = get_or c.args.bs.now l.s 0 in
     let made : p.block ≡ made_of c.args.bs.now c.args.v b =
-    is_made c.args.bs.now c.args.v b c.sources-m.result p.block c.sources-m.ensures p.invariant.1 (λ j h. p.invariant.2 j (omega arith)) in (
+    is_made c.args.bs.now c.args.v b c.sources-m.result p.block c.sources-m.ensures p.invariant.0 (λ j h. p.invariant.1 j (omega arith)) in (
       n.to,
       w.auto.fc ∙ l.invariant.1,
       times_more l.s _ _ l.invariant.2 (w.ensures ∙ ap (λ y. put_block 81 b y l.fc4) made)

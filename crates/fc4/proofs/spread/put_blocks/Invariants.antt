@@ -9,10 +9,7 @@ use Rattle.fc4.proofs.spread.put_blocks.Given as goal
 
 abbrev pub invariant-loop-k : goal.invariant-loop-k
 invariant-loop-k l =
-    (l.k ≤ 81) × (length l.block ≡ 81) × ((j : ℕ) → j < l.k → get_or l.block j nan ≡ get_or l.v (get_or l.m j 0) nan)
-
-abbrev pub decreases-loop-k : goal.decreases-loop-k
-decreases-loop-k l = 81 - l.k
+    (length l.block ≡ 81) × ((j : ℕ) → j < l.k → get_or l.block j nan ≡ get_or l.v (get_or l.m j 0) nan)
 
 abbrev pub invariant-loop-s : goal.invariant-loop-s
 invariant-loop-s l =

@@ -1,18 +1,13 @@
 use native.Mathlib.Omega.{arith}
 use mathlib.Core.Path.{◌≡◌, ◌∙◌}
 use Rattle.lists.specs.Tab.{times_none, times_more}
-use Rattle.positions.specs.Inverses.{inverse-at, inverse-below}
+use Rattle.positions.specs.Inverses.{inverse-at}
 use Rattle.fc4.specs.Spread.{later_if_shared, sources_of, not-shared, is_shared}
 use Rattle.fc4.proofs.spread.sources.Goals.{then-bs-s, else-bs-s}
 use Rattle.fc4.proofs.spread.sources.Goals as goal
 
 pub loop-s-init : goal.loop-s-init
-loop-s-init c = (omega arith, times_none _ _)
-
-pub later-n-requires : goal.later-n-requires
-later-n-requires c =
-    let l = c.loop-s in
-    (c.requires.1, rw (inverse-at c.requires.0 l.s) (inverse-below l.s (omega arith)))
+loop-s-init c = times_none _ _
 
 pub loop-s-preserved : goal.loop-s-preserved
 loop-s-preserved c =
@@ -22,11 +17,11 @@ loop-s-preserved c =
       | then-bs-s w ↦ w.m-is ∙ is_shared c.args.bs.now c.args.b l.s l.m w.if-bs-s.true w.later-n.ensures (inverse-at c.requires.0 l.s)
       | else-bs-s w ↦ w.m-is ∙ not-shared c.args.bs.now c.args.b l.s l.m w.if-bs-s.false
     ] in
-    (omega arith, times_more l.s _ _ l.invariant.1 e)
+    times_more l.s _ _ l.invariant e
 
 pub returns : goal.returns
 unfolding sources_of
 returns c =
     let l = c.loop-s in
     let e : l.s ≡ 24 = omega arith in
-    l.invariant.1 ∙ rw e
+    l.invariant ∙ rw e

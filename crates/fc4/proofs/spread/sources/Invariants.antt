@@ -1,4 +1,3 @@
-use Prim.Native.Nat.{◌≤◌, ◌-◌}
 use mathlib.Core.Path.{◌≡◌}
 use lib.ListN.{replicate}
 use Rattle.lists.specs.Tab.{times}
@@ -7,7 +6,4 @@ use Rattle.fc4.proofs.spread.sources.Given as goal
 
 abbrev pub invariant-loop-s : goal.invariant-loop-s
 invariant-loop-s l =
-    (l.s ≤ 24) × (l.m ≡ times l.s (later_if_shared l.bs l.b) (replicate 81 0))
-
-abbrev pub decreases-loop-s : goal.decreases-loop-s
-decreases-loop-s l = 24 - l.s
+    l.m ≡ times l.s (later_if_shared l.bs l.b) (replicate 81 0)

@@ -6,7 +6,7 @@ use Rattle.transposes_fc4.specs.Pairs.{from_pairs, none-traded, one-traded, all-
 use Rattle.transposes_fc4.proofs.exchanging.permute_pairs.Goals as goal
 
 pub loop-n-init : goal.loop-n-init
-loop-n-init c = (omega arith, none-traded c.args.b c.args.fc4.now c.requires.1 c.args.m.now c.requires.0)
+loop-n-init c = none-traded c.args.b c.args.fc4.now c.requires.1 c.args.m.now c.requires.0
 
 pub index_of-x-requires : goal.index_of-x-requires
 index_of-x-requires c =
@@ -36,7 +36,7 @@ pub offset_bounds-fc4-x : goal.offset_bounds-fc4-x
 offset_bounds-fc4-x c =
     let l = c.loop-n in
     let g : get_or c.args.m.now l.n 0 < 81 = c.requires.0 l.n (omega arith) in
-    let e : length l.fc4 ≡ length c.args.fc4.now = l.invariant.1.long in
+    let e : length l.fc4 ≡ length c.args.fc4.now = l.invariant.long in
     let x = c.index_of-x.ensures in
     omega (arith, e, x, g, c.requires.1)
 
@@ -44,7 +44,7 @@ pub bounds-fc4-x : goal.bounds-fc4-x
 bounds-fc4-x c =
     let l = c.loop-n in
     let g : get_or c.args.m.now l.n 0 < 81 = c.requires.0 l.n (omega arith) in
-    let e : length l.fc4 ≡ length c.args.fc4.now = l.invariant.1.long in
+    let e : length l.fc4 ≡ length c.args.fc4.now = l.invariant.long in
     let x = c.index_of-x.ensures in
     omega (arith, e, x, g, c.requires.1)
 
@@ -52,7 +52,7 @@ pub offset_bounds-fc4-y : goal.offset_bounds-fc4-y
 offset_bounds-fc4-y c =
     let l = c.loop-n in
     let g : get_or c.args.m.now (l.n + 27) 0 < 81 = c.requires.0 (l.n + 27) (omega arith) in
-    let e : length l.fc4 ≡ length c.args.fc4.now = l.invariant.1.long in
+    let e : length l.fc4 ≡ length c.args.fc4.now = l.invariant.long in
     let x = c.index_of-y.ensures in
     omega (arith, e, x, g, c.requires.1)
 
@@ -60,7 +60,7 @@ pub bounds-fc4-y : goal.bounds-fc4-y
 bounds-fc4-y c =
     let l = c.loop-n in
     let g : get_or c.args.m.now (l.n + 27) 0 < 81 = c.requires.0 (l.n + 27) (omega arith) in
-    let e : length l.fc4 ≡ length c.args.fc4.now = l.invariant.1.long in
+    let e : length l.fc4 ≡ length c.args.fc4.now = l.invariant.long in
     let x = c.index_of-y.ensures in
     omega (arith, e, x, g, c.requires.1)
 
@@ -68,7 +68,7 @@ pub offset_bounds-fc4-x-in-loop-n : goal.offset_bounds-fc4-x-in-loop-n
 offset_bounds-fc4-x-in-loop-n c =
     let l = c.loop-n in
     let g : get_or c.args.m.now l.n 0 < 81 = c.requires.0 l.n (omega arith) in
-    let e : length l.fc4 ≡ length c.args.fc4.now = l.invariant.1.long in
+    let e : length l.fc4 ≡ length c.args.fc4.now = l.invariant.long in
     let x = c.index_of-x.ensures in
     omega (arith, e, x, g, c.requires.1)
 
@@ -76,7 +76,7 @@ pub bounds-fc4-x-in-loop-n : goal.bounds-fc4-x-in-loop-n
 bounds-fc4-x-in-loop-n c =
     let l = c.loop-n in
     let g : get_or c.args.m.now l.n 0 < 81 = c.requires.0 l.n (omega arith) in
-    let e : length l.fc4 ≡ length c.args.fc4.now = l.invariant.1.long in
+    let e : length l.fc4 ≡ length c.args.fc4.now = l.invariant.long in
     let x = c.index_of-x.ensures in
     omega (arith, e, x, g, c.requires.1)
 
@@ -84,7 +84,7 @@ pub offset_bounds-fc4-y-in-loop-n : goal.offset_bounds-fc4-y-in-loop-n
 offset_bounds-fc4-y-in-loop-n c =
     let l = c.loop-n in
     let g : get_or c.args.m.now (l.n + 27) 0 < 81 = c.requires.0 (l.n + 27) (omega arith) in
-    let e : length l.fc4 ≡ length c.args.fc4.now = l.invariant.1.long in
+    let e : length l.fc4 ≡ length c.args.fc4.now = l.invariant.long in
     let x = c.index_of-y.ensures in
     omega (arith, e, x, g, c.requires.1)
 
@@ -92,17 +92,17 @@ pub bounds-fc4-y-in-loop-n : goal.bounds-fc4-y-in-loop-n
 bounds-fc4-y-in-loop-n c =
     let l = c.loop-n in
     let g : get_or c.args.m.now (l.n + 27) 0 < 81 = c.requires.0 (l.n + 27) (omega arith) in
-    let e : length l.fc4 ≡ length c.args.fc4.now = l.invariant.1.long in
+    let e : length l.fc4 ≡ length c.args.fc4.now = l.invariant.long in
     let x = c.index_of-y.ensures in
     simp length-set (omega (arith, e, x, g, c.requires.1))
 
 pub loop-n-preserved : goal.loop-n-preserved
 loop-n-preserved c =
     let l = c.loop-n in
-    (omega arith, one-traded c.args.b c.args.fc4.now c.requires.1 c.args.m.now c.requires.0 l.n (omega arith) l.fc4 l.invariant.1 c.index_of-x.ensures c.index_of-y.ensures)
+    one-traded c.args.b c.args.fc4.now c.requires.1 c.args.m.now c.requires.0 l.n (omega arith) l.fc4 l.invariant c.index_of-x.ensures c.index_of-y.ensures
 
 pub returns : goal.returns
 returns c =
     let l = c.loop-n in
     let e : l.n ≡ 27 = omega arith in
-    all-permuted c.args.b c.args.fc4.now c.requires.1 (from_pairs c.args.m.now 27) (rw e at l.invariant.1)
+    all-permuted c.args.b c.args.fc4.now c.requires.1 (from_pairs c.args.m.now 27) (rw e at l.invariant)

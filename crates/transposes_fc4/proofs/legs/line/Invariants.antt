@@ -1,7 +1,6 @@
 use mathlib.Core.Bool.{false}
-use Prim.Native.Nat.{◌+◌, ◌*◌, ◌≤◌, ◌-◌}
+use Prim.Native.Nat.{◌+◌, ◌*◌}
 use mathlib.Core.Path.{◌≡◌}
-use lib.ListN.{length}
 use Rattle.lists.specs.Tab.{times}
 use Rattle.tables.specs.Compact.{shift_tables}
 use Rattle.transposes_fc4.specs.Loops.{trade_at}
@@ -10,7 +9,4 @@ use Rattle.transposes_fc4.proofs.legs.line.Given as goal
 abbrev pub invariant-loop-l : goal.invariant-loop-l
 invariant-loop-l v =
     let T = shift_tables v.p2s v.s2pp v.nsym_list v.perms v.n_satom v.n_patom v.num_trans in
-    (v.l ≤ v.n_satom) × (length v.fc4 ≡ length v.initial.fc4) × (v.fc4 ≡ times v.l (λ l. trade_at false v.o T (((v.p.0 * v.n_satom + v.j.0) * v.n_satom + v.k.0) * v.n_satom + l)) v.initial.fc4)
-
-abbrev pub decreases-loop-l : goal.decreases-loop-l
-decreases-loop-l v = v.n_satom - v.l
+    v.fc4 ≡ times v.l (λ l. trade_at false v.o T (((v.p.0 * v.n_satom + v.j.0) * v.n_satom + v.k.0) * v.n_satom + l)) v.initial.fc4

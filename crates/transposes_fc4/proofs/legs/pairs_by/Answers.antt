@@ -9,7 +9,7 @@ use Rattle.transposes_fc4.specs.Rows.{taken_to, first_in_lem}
 use Rattle.transposes_fc4.proofs.legs.pairs_by.Goals as goal
 
 pub loop-n-init : goal.loop-n-init
-loop-n-init c = (omega arith, refl, below_none _)
+loop-n-init c = (refl, below_none _)
 
 pub entry-requires : goal.entry-requires
 entry-requires c =
@@ -19,10 +19,10 @@ entry-requires c =
 pub loop-n-preserved : goal.loop-n-preserved
 loop-n-preserved c =
     let l = c.loop-n in
-    (omega arith, simp length-set l.invariant.1, fill_more 0 _ l.m l.n _ (omega arith) (c.entry.ensures ∙ ap (λ f. permuted 3 (permutation_at c.args.s) (get_or f l.n 0)) c.first_pairs-first.ensures) l.invariant.2)
+    (simp length-set l.invariant.0, fill_more 0 _ l.m l.n _ (omega arith) (c.entry.ensures ∙ ap (λ f. permuted 3 (permutation_at c.args.s) (get_or f l.n 0)) c.first_pairs-first.ensures) l.invariant.1)
 
 pub returns : goal.returns
 unfolding taken_to
 returns c =
     let l = c.loop-n in
-    is_tab 0 54 _ l.m l.invariant.1 (λ j h. l.invariant.2 j (omega arith))
+    is_tab 0 54 _ l.m l.invariant.0 (λ j h. l.invariant.1 j (omega arith))

@@ -1,4 +1,4 @@
-use Prim.Native.Nat.{ℕ, ◌≤◌, ◌<◌, ◌-◌}
+use Prim.Native.Nat.{ℕ, ◌<◌}
 use mathlib.Core.Path.{◌≡◌}
 use lib.ListN.{length, get_or}
 use Rattle.blocks.specs.Permuted.{permuted}
@@ -8,7 +8,4 @@ use Rattle.transposes_fc4.proofs.legs.pairs_by.Given as goal
 
 abbrev pub invariant-loop-n : goal.invariant-loop-n
 invariant-loop-n l =
-    (l.n ≤ 54) × (length l.m ≡ 54) × ((j : ℕ) → j < l.n → get_or l.m j 0 ≡ permuted 3 (permutation_at l.s) (get_or first_pairs j 0))
-
-abbrev pub decreases-loop-n : goal.decreases-loop-n
-decreases-loop-n l = 54 - l.n
+    (length l.m ≡ 54) × ((j : ℕ) → j < l.n → get_or l.m j 0 ≡ permuted 3 (permutation_at l.s) (get_or first_pairs j 0))

@@ -1,24 +1,24 @@
 use native.Mathlib.Omega.{arith}
-use mathlib.Core.Path.{◌≡◌, refl, ◌∙◌}
+use mathlib.Core.Path.{◌≡◌, ◌∙◌}
 use Rattle.lists.specs.Tab.{times_none, times_more}
 use Rattle.transposes_fc4.specs.Loops.{plane4}
 use Rattle.transposes_fc4.proofs.legs.plane.Goals as goal
 
 pub loop-k-init : goal.loop-k-init
-loop-k-init c = (omega arith, refl, times_none _ _)
+loop-k-init c = times_none _ _
 
 pub line-requires : goal.line-requires
 line-requires c =
-    record { pair_at = (rw c.loop-k.invariant.1 c.requires.0, c.requires.1); in_range = omega arith }
+    record { pair_at = (rw c.loop-k.auto.fc4 c.requires.0, c.requires.1); in_range = omega arith }
 
 pub loop-k-preserved : goal.loop-k-preserved
 loop-k-preserved c =
     let l = c.loop-k in
-    (omega arith, c.line.auto.fc4 ∙ l.invariant.1, times_more l.k _ _ l.invariant.2 c.line.ensures)
+    times_more l.k _ _ l.invariant c.line.ensures
 
 pub returns : goal.returns
 unfolding plane4
 returns c =
     let l = c.loop-k in
     let e : l.k ≡ c.args.n_satom = omega arith in
-    l.invariant.2 ∙ rw e
+    l.invariant ∙ rw e
