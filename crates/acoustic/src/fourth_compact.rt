@@ -2,12 +2,13 @@
 ghost use Rattle.std.specs.Prelude.{◌≡◌, length};
 ghost use Rattle.lists.specs.Tab.{times};
 ghost use Rattle.tables.specs.Limits.{limit4};
-ghost use Rattle.tables.specs.Compact.{ShiftTables, shift_tables, shifts_of};
+ghost use Rattle.tables.specs.Compact.{shifts_of, given};
 ghost use Rattle.places.specs.Places.{perms4};
 ghost use Rattle.fc4.specs.Mean24.{mean24};
 ghost use Rattle.acoustic.specs.Acoustic.{leveled, perm_trans_symmetrized, judged_work, judged_levels, perm_trans_symmetrize_compact};
 ghost use Rattle.acoustic.specs.Fourth.{Symmetrizable};
 
+use tables::shift_tables::ShiftTables;
 use crate::fourth::legs_off;
 use fc4::compact::set_permutation_symmetry_compact_fc4;
 use shifts::judge_compact;
@@ -16,166 +17,67 @@ use tables::sets::set_blocks;
 use tables::Refusal;
 
 // One level.
-fn level_pass(
-    fc4: &mut [f64],
-    p2s: &[i64],
-    s2pp: &[i64],
-    nsym_list: &[i64],
-    perms: &[i64],
-    done: &mut [u8],
-    drift: &mut [f64],
-    n_satom: usize,
-    n_patom: usize,
-    num_trans: usize,
-)
-    requires { let T : ShiftTables = shift_tables p2s.now s2pp.now nsym_list.now perms.now n_satom n_patom num_trans in Symmetrizable limit4 3 (length fc4.old) (length done.old) (length drift.old) T }
-    ensures { let T : ShiftTables = shift_tables p2s.now s2pp.now nsym_list.now perms.now n_satom n_patom num_trans in fc4.new ≡ leveled mean24 (shifts_of T) 3 perms4 fc4.old }
+fn level_pass(fc4: &mut [f64], tables: &ShiftTables, done: &mut [u8], drift: &mut [f64])
+    requires { Symmetrizable limit4 3 (length fc4.old) (length done.old) (length drift.old) (given tables.now) }
+    ensures { fc4.new ≡ leveled mean24 (shifts_of (given tables.now)) 3 perms4 fc4.old }
 {
-    legs_off(
-        fc4, drift, p2s, s2pp, nsym_list, perms, n_satom, n_patom, num_trans,
-    );
-    set_permutation_symmetry_compact_fc4(
-        fc4, p2s, s2pp, nsym_list, perms, done, n_satom, n_patom, num_trans,
-    );
+    legs_off(fc4, drift, tables);
+    set_permutation_symmetry_compact_fc4(fc4, tables, done);
 }
 
-fn levels(
-    fc4: &mut [f64],
-    p2s: &[i64],
-    s2pp: &[i64],
-    nsym_list: &[i64],
-    perms: &[i64],
-    done: &mut [u8],
-    drift: &mut [f64],
-    n_satom: usize,
-    n_patom: usize,
-    num_trans: usize,
-    level: usize,
-)
-    requires { let T : ShiftTables = shift_tables p2s.now s2pp.now nsym_list.now perms.now n_satom n_patom num_trans in Symmetrizable limit4 3 (length fc4.old) (length done.old) (length drift.old) T }
-    ensures { let T : ShiftTables = shift_tables p2s.now s2pp.now nsym_list.now perms.now n_satom n_patom num_trans in fc4.new ≡ times level (λ _. leveled mean24 (shifts_of T) 3 perms4) fc4.old }
+fn levels(fc4: &mut [f64], tables: &ShiftTables, done: &mut [u8], drift: &mut [f64], level: usize)
+    requires { Symmetrizable limit4 3 (length fc4.old) (length done.old) (length drift.old) (given tables.now) }
+    ensures { fc4.new ≡ times level (λ _. leveled mean24 (shifts_of (given tables.now)) 3 perms4) fc4.old }
 {
     for t in 0..level {
-        level_pass(
-            fc4, p2s, s2pp, nsym_list, perms, done, drift, n_satom, n_patom, num_trans,
-        );
+        level_pass(fc4, tables, done, drift);
     }
 }
 
 // All levels; none is the symmetrizer alone.
-fn all_levels(
-    fc4: &mut [f64],
-    p2s: &[i64],
-    s2pp: &[i64],
-    nsym_list: &[i64],
-    perms: &[i64],
-    done: &mut [u8],
-    drift: &mut [f64],
-    n_satom: usize,
-    n_patom: usize,
-    num_trans: usize,
-    level: usize,
-)
-    requires { let T : ShiftTables = shift_tables p2s.now s2pp.now nsym_list.now perms.now n_satom n_patom num_trans in Symmetrizable limit4 3 (length fc4.old) (length done.old) (length drift.old) T }
-    ensures { let T : ShiftTables = shift_tables p2s.now s2pp.now nsym_list.now perms.now n_satom n_patom num_trans in fc4.new ≡ perm_trans_symmetrized mean24 (shifts_of T) 3 perms4 level fc4.old }
+fn all_levels(fc4: &mut [f64], tables: &ShiftTables, done: &mut [u8], drift: &mut [f64], level: usize)
+    requires { Symmetrizable limit4 3 (length fc4.old) (length done.old) (length drift.old) (given tables.now) }
+    ensures { fc4.new ≡ perm_trans_symmetrized mean24 (shifts_of (given tables.now)) 3 perms4 level fc4.old }
 {
     if level == 0 {
-        set_permutation_symmetry_compact_fc4(
-            fc4, p2s, s2pp, nsym_list, perms, done, n_satom, n_patom, num_trans,
-        );
+        set_permutation_symmetry_compact_fc4(fc4, tables, done);
         return;
     }
-    levels(
-        fc4, p2s, s2pp, nsym_list, perms, done, drift, n_satom, n_patom, num_trans, level,
-    );
+    levels(fc4, tables, done, drift, level);
 }
 
 // Refusals 1, 2, 3 and 6, of both work slices too.
-fn judge_lengths(
-    set_len: usize,
-    done_len: usize,
-    drift_len: usize,
-    p2s: &[i64],
-    s2pp: &[i64],
-    nsym_list: &[i64],
-    perms: &[i64],
-    n_satom: usize,
-    n_patom: usize,
-    num_trans: usize,
-) -> Result<(), Refusal>
-    ensures { let T : ShiftTables = shift_tables p2s.now s2pp.now nsym_list.now perms.now n_satom n_patom num_trans in result ≡ judged_work limit4 3 set_len done_len drift_len T }
+fn judge_lengths(set_len: usize, done_len: usize, drift_len: usize, tables: &ShiftTables) -> Result<(), Refusal>
+    ensures { result ≡ judged_work limit4 3 set_len done_len drift_len (given tables.now) }
 {
-    let a = judge_compact(
-        LIMIT4, 3, set_len, 3, done_len, p2s, s2pp, nsym_list, perms, n_satom, n_patom, num_trans,
-    );
+    let a = judge_compact(LIMIT4, 3, set_len, 3, done_len, tables);
     if tables::number(a) == 1 {
         return a;
     }
-    if drift_len == set_blocks(n_patom, n_satom, 2) * 81 {
+    if drift_len == set_blocks(tables.n_patom, tables.n_satom, 2) * 81 {
         return a;
     }
     Err(Refusal::WrongLength)
 }
 
 // The same with the limit of the level.
-fn judge(
-    set_len: usize,
-    done_len: usize,
-    drift_len: usize,
-    p2s: &[i64],
-    s2pp: &[i64],
-    nsym_list: &[i64],
-    perms: &[i64],
-    n_satom: usize,
-    n_patom: usize,
-    num_trans: usize,
-    level: usize,
-) -> Result<(), Refusal>
-    ensures { let T : ShiftTables = shift_tables p2s.now s2pp.now nsym_list.now perms.now n_satom n_patom num_trans in result ≡ judged_levels limit4 3 set_len done_len drift_len T level }
+fn judge(set_len: usize, done_len: usize, drift_len: usize, tables: &ShiftTables, level: usize) -> Result<(), Refusal>
+    ensures { result ≡ judged_levels limit4 3 set_len done_len drift_len (given tables.now) level }
 {
     if level > LIMIT_LEVEL {
         return Err(Refusal::CountAboveLimit);
     }
-    judge_lengths(
-        set_len, done_len, drift_len, p2s, s2pp, nsym_list, perms, n_satom, n_patom, num_trans,
-    )
+    judge_lengths(set_len, done_len, drift_len, tables)
 }
 
 // A compact set of fourth order whose read-out is without drift and alike: per level the mean over each leg's atom of the read-out is taken off, leg 0
 // first, then the set is symmetrized; level 0 is set_permutation_symmetry_compact_fc4. The work slices come in with anything and are left with zeros.
-pub fn perm_trans_symmetrize_compact_fc4(
-    fc4: &mut [f64],
-    p2s: &[i64],
-    s2pp: &[i64],
-    nsym_list: &[i64],
-    perms: &[i64],
-    done: &mut [u8],
-    drift: &mut [f64],
-    n_satom: usize,
-    n_patom: usize,
-    num_trans: usize,
-    level: usize,
-) -> Result<(), Refusal>
-    ensures { let T = shift_tables p2s.now s2pp.now nsym_list.now perms.now n_satom n_patom num_trans in
-        (result, fc4.new, done.new, drift.new)
-        ≡ perm_trans_symmetrize_compact limit4 3 mean24 perms4 fc4.old T done.old drift.old level }
+pub fn perm_trans_symmetrize_compact_fc4(fc4: &mut [f64], tables: &ShiftTables, done: &mut [u8], drift: &mut [f64], level: usize) -> Result<(), Refusal>
+    ensures { (result, fc4.new, done.new, drift.new)
+        ≡ perm_trans_symmetrize_compact limit4 3 mean24 perms4 fc4.old (given tables.now) done.old drift.old level }
 {
-    judge(
-        fc4.len(),
-        done.len(),
-        drift.len(),
-        p2s,
-        s2pp,
-        nsym_list,
-        perms,
-        n_satom,
-        n_patom,
-        num_trans,
-        level,
-    )?;
-    all_levels(
-        fc4, p2s, s2pp, nsym_list, perms, done, drift, n_satom, n_patom, num_trans, level,
-    );
+    judge(fc4.len(), done.len(), drift.len(), tables, level)?;
+    all_levels(fc4, tables, done, drift, level);
     lists::clear_bytes(done);
     lists::clear_floats(drift);
     Ok(())

@@ -3,95 +3,57 @@ ghost use Rattle.std.specs.Prelude.{◌≡◌, [], ◌∷◌, ◌+◌, ◌*◌, 
 ghost use Rattle.lists.specs.Tab.{times};
 ghost use Rattle.blocks.specs.Block.{block, put_block};
 ghost use Rattle.tables.specs.Limits.{limit3};
-ghost use Rattle.tables.specs.Compact.{ShiftTables, shift_tables, shifts_of, TablesFit};
+ghost use Rattle.tables.specs.Compact.{shifts_of, TablesFit, given};
 ghost use Rattle.audits.specs.Guard.{Ready};
 ghost use Rattle.lines.specs.Sums3x3.{inverse};
 ghost use Rattle.read_out.specs.Blocks.{block_of};
 ghost use Rattle.acoustic.specs.Acoustic.{without, without_drift, without_drifts};
 ghost use Rattle.acoustic.specs.Laws.{Room, less, drift_block, drift_put, row_less};
 
+use tables::shift_tables::ShiftTables;
 use crate::{scale_all, take_all};
 use blocks::{read27, write27};
 use legs::third::leg_sums;
 use places::{column_of, index_of, row_of, stored_block2};
-use tables::atoms::{PrimAtom, SuperAtom, p2s_at};
+use tables::atoms::{PrimAtom, SuperAtom};
 
 // The sums over leg `leg` times inv_n, where the other legs have the atoms of block r of second order.
-fn drift_block(
-    fc3: &[f64],
-    p2s: &[i64],
-    s2pp: &[i64],
-    nsym_list: &[i64],
-    perms: &[i64],
-    n_satom: usize,
-    n_patom: usize,
-    num_trans: usize,
-    leg: usize,
-    inv_n: f64,
-    r: usize,
-) -> [f64; 27]
-    requires { let T : ShiftTables = shift_tables p2s.now s2pp.now nsym_list.now perms.now n_satom n_patom num_trans in Ready limit3 2 (length fc3.now) T × (leg ≤ 2) × (r < n_patom * n_satom) }
-    ensures { let T : ShiftTables = shift_tables p2s.now s2pp.now nsym_list.now perms.now n_satom n_patom num_trans in result ≡ drift_block (shifts_of T) 2 leg 27 fc3.now inv_n r }
+fn drift_block(fc3: &[f64], tables: &ShiftTables, leg: usize, inv_n: f64, r: usize) -> [f64; 27]
+    requires { Ready limit3 2 (length fc3.now) (given tables.now) × (leg ≤ 2) × (r < tables.now.n_patom * tables.now.n_satom) }
+    ensures { result ≡ drift_block (shifts_of (given tables.now)) 2 leg 27 fc3.now inv_n r }
 {
-    let i = p2s_at(p2s, PrimAtom(row_of(r, n_satom)));
-    let t = index_of(i.0, n_satom, column_of(r, n_satom));
-    let mut v = leg_sums(
-        fc3, p2s, s2pp, nsym_list, perms, n_satom, n_patom, num_trans, leg, t,
-    );
+    let i = tables.p2s_at(PrimAtom(row_of(r, tables.n_satom)));
+    let t = index_of(i.0, tables.n_satom, column_of(r, tables.n_satom));
+    let mut v = leg_sums(fc3, tables, leg, t);
     scale_all(&mut v, inv_n);
     v
 }
 
 // The drift of leg `leg` for all blocks of the other legs.
-fn drifts(
-    fc3: &[f64],
-    drift: &mut [f64],
-    p2s: &[i64],
-    s2pp: &[i64],
-    nsym_list: &[i64],
-    perms: &[i64],
-    n_satom: usize,
-    n_patom: usize,
-    num_trans: usize,
-    leg: usize,
-)
-    requires { let T : ShiftTables = shift_tables p2s.now s2pp.now nsym_list.now perms.now n_satom n_patom num_trans in Room limit3 2 (length fc3.now) (length drift.old) T × (leg ≤ 2) }
-    ensures { let T : ShiftTables = shift_tables p2s.now s2pp.now nsym_list.now perms.now n_satom n_patom num_trans in drift.new ≡ times (n_patom * n_satom) (drift_put (shifts_of T) 2 leg 27 fc3.now (inverse n_satom)) drift.old }
+fn drifts(fc3: &[f64], drift: &mut [f64], tables: &ShiftTables, leg: usize)
+    requires { Room limit3 2 (length fc3.now) (length drift.old) (given tables.now) × (leg ≤ 2) }
+    ensures { drift.new ≡ times (tables.now.n_patom * tables.now.n_satom) (drift_put (shifts_of (given tables.now)) 2 leg 27 fc3.now (inverse tables.now.n_satom)) drift.old }
 {
-    let inv_n = 1.0 / (n_satom as f64);
-    let count = n_patom * n_satom;
+    let inv_n = 1.0 / (tables.n_satom as f64);
+    let count = tables.n_patom * tables.n_satom;
     for r in 0..count {
-        let v = drift_block(
-            fc3, p2s, s2pp, nsym_list, perms, n_satom, n_patom, num_trans, leg, inv_n, r,
-        );
+        let v = drift_block(fc3, tables, leg, inv_n, r);
         write27(drift, r, v);
     }
 }
 
 // The stored block of second order that the atoms of the legs other than `leg` read out.
-fn other_block(
-    p2s: &[i64],
-    s2pp: &[i64],
-    nsym_list: &[i64],
-    perms: &[i64],
-    n_satom: usize,
-    n_patom: usize,
-    num_trans: usize,
-    leg: usize,
-    i: SuperAtom,
-    j: SuperAtom,
-    k: SuperAtom,
-) -> usize
-    requires { let T : ShiftTables = shift_tables p2s.now s2pp.now nsym_list.now perms.now n_satom n_patom num_trans in TablesFit limit3 T × (leg ≤ 2) × (i.0 < n_satom) × (j.0 < n_satom) × (k.0 < n_satom) }
-    ensures { let T : ShiftTables = shift_tables p2s.now s2pp.now nsym_list.now perms.now n_satom n_patom num_trans in result ≡ block_of (shifts_of T) (without leg (i.0 ∷ j.0 ∷ k.0 ∷ [])) }
+fn other_block(tables: &ShiftTables, leg: usize, i: SuperAtom, j: SuperAtom, k: SuperAtom) -> usize
+    requires { TablesFit limit3 (given tables.now) × (leg ≤ 2) × (i.0 < tables.now.n_satom) × (j.0 < tables.now.n_satom) × (k.0 < tables.now.n_satom) }
+    ensures { result ≡ block_of (shifts_of (given tables.now)) (without leg (i.0 ∷ j.0 ∷ k.0 ∷ [])) }
 {
     if leg == 0 {
-        return stored_block2(s2pp, nsym_list, perms, j, k, n_satom);
+        return stored_block2(tables, j, k);
     }
     if leg == 1 {
-        return stored_block2(s2pp, nsym_list, perms, i, k, n_satom);
+        return stored_block2(tables, i, k);
     }
-    stored_block2(s2pp, nsym_list, perms, i, j, n_satom)
+    stored_block2(tables, i, j)
 }
 
 // Block b of the set less block r of the drifts.
@@ -106,109 +68,45 @@ fn block_off(fc3: &mut [f64], drift: &[f64], b: usize, r: usize)
 }
 
 // Every block of row (p, j) less its drift; the row is numbered as a block of second order.
-fn row_off(
-    fc3: &mut [f64],
-    drift: &[f64],
-    p2s: &[i64],
-    s2pp: &[i64],
-    nsym_list: &[i64],
-    perms: &[i64],
-    n_satom: usize,
-    n_patom: usize,
-    num_trans: usize,
-    leg: usize,
-    row: usize,
-)
-    requires { let T : ShiftTables = shift_tables p2s.now s2pp.now nsym_list.now perms.now n_satom n_patom num_trans in Room limit3 2 (length fc3.old) (length drift.now) T × (leg ≤ 2) × (row < n_patom * n_satom) }
-    ensures { let T : ShiftTables = shift_tables p2s.now s2pp.now nsym_list.now perms.now n_satom n_patom num_trans in fc3.new ≡ row_less (shifts_of T) 2 leg 27 drift.now row fc3.old }
+fn row_off(fc3: &mut [f64], drift: &[f64], tables: &ShiftTables, leg: usize, row: usize)
+    requires { Room limit3 2 (length fc3.old) (length drift.now) (given tables.now) × (leg ≤ 2) × (row < tables.now.n_patom * tables.now.n_satom) }
+    ensures { fc3.new ≡ row_less (shifts_of (given tables.now)) 2 leg 27 drift.now row fc3.old }
 {
-    let i = p2s_at(p2s, PrimAtom(row_of(row, n_satom)));
-    let j = SuperAtom(column_of(row, n_satom));
+    let i = tables.p2s_at(PrimAtom(row_of(row, tables.n_satom)));
+    let j = SuperAtom(column_of(row, tables.n_satom));
     for k in 0..n_satom {
-        let r = other_block(
-            p2s,
-            s2pp,
-            nsym_list,
-            perms,
-            n_satom,
-            n_patom,
-            num_trans,
-            leg,
-            i,
-            j,
-            SuperAtom(k),
-        );
-        let b = index_of(row, n_satom, k);
+        let r = other_block(tables, leg, i, j, SuperAtom(k));
+        let b = index_of(row, tables.n_satom, k);
         block_off(fc3, drift, b, r);
     }
 }
 
 // Every block less its drift.
-fn rows_off(
-    fc3: &mut [f64],
-    drift: &[f64],
-    p2s: &[i64],
-    s2pp: &[i64],
-    nsym_list: &[i64],
-    perms: &[i64],
-    n_satom: usize,
-    n_patom: usize,
-    num_trans: usize,
-    leg: usize,
-)
-    requires { let T : ShiftTables = shift_tables p2s.now s2pp.now nsym_list.now perms.now n_satom n_patom num_trans in Room limit3 2 (length fc3.old) (length drift.now) T × (leg ≤ 2) }
-    ensures { let T : ShiftTables = shift_tables p2s.now s2pp.now nsym_list.now perms.now n_satom n_patom num_trans in fc3.new ≡ times (n_patom * n_satom) (row_less (shifts_of T) 2 leg 27 drift.now) fc3.old }
+fn rows_off(fc3: &mut [f64], drift: &[f64], tables: &ShiftTables, leg: usize)
+    requires { Room limit3 2 (length fc3.old) (length drift.now) (given tables.now) × (leg ≤ 2) }
+    ensures { fc3.new ≡ times (tables.now.n_patom * tables.now.n_satom) (row_less (shifts_of (given tables.now)) 2 leg 27 drift.now) fc3.old }
 {
-    let count = n_patom * n_satom;
+    let count = tables.n_patom * tables.n_satom;
     for row in 0..count {
-        row_off(
-            fc3, drift, p2s, s2pp, nsym_list, perms, n_satom, n_patom, num_trans, leg, row,
-        );
+        row_off(fc3, drift, tables, leg, row);
     }
 }
 
 // One leg: its drifts, and then every block less its drift.
-fn leg_off(
-    fc3: &mut [f64],
-    drift: &mut [f64],
-    p2s: &[i64],
-    s2pp: &[i64],
-    nsym_list: &[i64],
-    perms: &[i64],
-    n_satom: usize,
-    n_patom: usize,
-    num_trans: usize,
-    leg: usize,
-)
-    requires { let T : ShiftTables = shift_tables p2s.now s2pp.now nsym_list.now perms.now n_satom n_patom num_trans in Room limit3 2 (length fc3.old) (length drift.old) T × (leg ≤ 2) }
-    ensures { let T : ShiftTables = shift_tables p2s.now s2pp.now nsym_list.now perms.now n_satom n_patom num_trans in fc3.new ≡ without_drift (shifts_of T) 2 leg fc3.old }
+fn leg_off(fc3: &mut [f64], drift: &mut [f64], tables: &ShiftTables, leg: usize)
+    requires { Room limit3 2 (length fc3.old) (length drift.old) (given tables.now) × (leg ≤ 2) }
+    ensures { fc3.new ≡ without_drift (shifts_of (given tables.now)) 2 leg fc3.old }
 {
-    drifts(
-        fc3, drift, p2s, s2pp, nsym_list, perms, n_satom, n_patom, num_trans, leg,
-    );
-    rows_off(
-        fc3, drift, p2s, s2pp, nsym_list, perms, n_satom, n_patom, num_trans, leg,
-    );
+    drifts(fc3, drift, tables, leg);
+    rows_off(fc3, drift, tables, leg);
 }
 
 // The drift of every leg, the first leg first.
-pub fn legs_off(
-    fc3: &mut [f64],
-    drift: &mut [f64],
-    p2s: &[i64],
-    s2pp: &[i64],
-    nsym_list: &[i64],
-    perms: &[i64],
-    n_satom: usize,
-    n_patom: usize,
-    num_trans: usize,
-)
-    requires { let T : ShiftTables = shift_tables p2s.now s2pp.now nsym_list.now perms.now n_satom n_patom num_trans in Room limit3 2 (length fc3.old) (length drift.old) T }
-    ensures { let T : ShiftTables = shift_tables p2s.now s2pp.now nsym_list.now perms.now n_satom n_patom num_trans in fc3.new ≡ without_drifts (shifts_of T) 2 fc3.old }
+pub fn legs_off(fc3: &mut [f64], drift: &mut [f64], tables: &ShiftTables)
+    requires { Room limit3 2 (length fc3.old) (length drift.old) (given tables.now) }
+    ensures { fc3.new ≡ without_drifts (shifts_of (given tables.now)) 2 fc3.old }
 {
     for leg in 0..3usize {
-        leg_off(
-            fc3, drift, p2s, s2pp, nsym_list, perms, n_satom, n_patom, num_trans, leg,
-        );
+        leg_off(fc3, drift, tables, leg);
     }
 }

@@ -10,6 +10,7 @@ ghost use Rattle.audits.specs.Guard.{full_tables};
 ghost use Rattle.acoustic.specs.Acoustic.{without_drifts, leveled, perm_trans_symmetrized, drift_length, judged_full_levels, perm_trans_symmetrize_full};
 ghost use Rattle.acoustic.specs.Laws.{Room};
 
+use tables::shift_tables::ShiftTables;
 use crate::third::legs_off;
 use audits::guard::counted;
 use fc3::full::symmetrize;
@@ -26,17 +27,16 @@ fn full_legs_off(fc3: &mut [f64], drift: &mut [f64], n: usize)
     let s2pp = counted();
     let nsym_list = [0i64; 1024];
     let perms = counted();
-    legs_off(
-        fc3,
-        drift,
-        &p2s[0..n],
-        &s2pp[0..n],
-        &nsym_list[0..n],
-        &perms[0..n],
-        n,
-        n,
-        1,
-    );
+    let tables = ShiftTables {
+        p2s: &p2s[0..n],
+        s2pp: &s2pp[0..n],
+        nsym_list: &nsym_list[0..n],
+        perms: &perms[0..n],
+        n_satom: n,
+        n_patom: n,
+        num_trans: 1,
+    };
+    legs_off(fc3, drift, &tables);
 }
 
 // One level.

@@ -1,12 +1,13 @@
 // The audits of fourth order: whether all 24 permutations of any four legs read out the same bits.
 ghost use Rattle.std.specs.Prelude.{◌≡◌, ◌≤◌, ◌<◌, length};
 ghost use Rattle.tables.specs.Limits.{limit4};
-ghost use Rattle.tables.specs.Compact.{ShiftTables, shift_tables, shifts_of};
+ghost use Rattle.tables.specs.Compact.{shifts_of, given};
 ghost use Rattle.places.specs.Permutations.{perms4};
 ghost use Rattle.audits.specs.Later.{falling, Next};
 ghost use Rattle.audits.specs.Audit.{audited, audit_compact, audit_full};
 ghost use Rattle.audits.specs.Guard.{Ready, full_tables};
 
+use tables::shift_tables::ShiftTables;
 use crate::Difference;
 use crate::guard::counted;
 use crate::kernel::{difference, look};
@@ -50,60 +51,30 @@ fn next(b: usize, count: usize, n: usize) -> usize
 }
 
 // Block after block, up to the first place at which some permutation reads another number.
-fn scan(
-    fc: &[f64],
-    p2s: &[i64],
-    s2pp: &[i64],
-    nsym_list: &[i64],
-    perms: &[i64],
-    n_satom: usize,
-    n_patom: usize,
-    num_trans: usize,
-) -> Result<Option<Difference>, Refusal>
-    requires { let T : ShiftTables = shift_tables p2s.now s2pp.now nsym_list.now perms.now n_satom n_patom num_trans in Ready limit4 3 (length fc.now) T }
-    ensures { let T : ShiftTables = shift_tables p2s.now s2pp.now nsym_list.now perms.now n_satom n_patom num_trans in result ≡ audited (shifts_of T) 3 perms4 fc.now }
+fn scan(fc: &[f64], tables: &ShiftTables) -> Result<Option<Difference>, Refusal>
+    requires { Ready limit4 3 (length fc.now) (given tables.now) }
+    ensures { result ≡ audited (shifts_of (given tables.now)) 3 perms4 fc.now }
 {
     let t = addresses();
     let count = row_of(fc.len(), 81);
-    let mut b = next(0, count, n_satom);
+    let mut b = next(0, count, tables.n_satom);
     while b < count {
-        let bs = group_blocks(p2s, s2pp, nsym_list, perms, n_satom, n_patom, num_trans, b);
+        let bs = group_blocks(tables, b);
         let k = look(fc, &bs, &t, 81, b);
         if k < 81 {
             return Ok(Some(difference(fc, &bs, &t, 81, b, k)));
         }
-        b = next(b + 1, count, n_satom);
+        b = next(b + 1, count, tables.n_satom);
     }
     Ok(None)
 }
 
 // The audit of a compact set, which is read only.
-pub fn audit_compact_fc4(
-    fc: &[f64],
-    p2s: &[i64],
-    s2pp: &[i64],
-    nsym_list: &[i64],
-    perms: &[i64],
-    n_satom: usize,
-    n_patom: usize,
-    num_trans: usize,
-) -> Result<Option<Difference>, Refusal>
-    ensures { let T = shift_tables p2s.now s2pp.now nsym_list.now perms.now n_satom n_patom num_trans in
-        result ≡ audit_compact limit4 3 perms4 fc.now T }
+pub fn audit_compact_fc4(fc: &[f64], tables: &ShiftTables) -> Result<Option<Difference>, Refusal>
+    ensures { result ≡ audit_compact limit4 3 perms4 fc.now (given tables.now) }
 {
-    judge_set(
-        LIMIT4,
-        3,
-        fc.len(),
-        p2s,
-        s2pp,
-        nsym_list,
-        perms,
-        n_satom,
-        n_patom,
-        num_trans,
-    )?;
-    scan(fc, p2s, s2pp, nsym_list, perms, n_satom, n_patom, num_trans)
+    judge_set(LIMIT4, 3, fc.len(), tables)?;
+    scan(fc, tables)
 }
 
 // A full set is a compact set in which every atom is its own representative.
@@ -115,16 +86,16 @@ fn scan_full(fc: &[f64], n: usize) -> Result<Option<Difference>, Refusal>
     let s2pp = counted();
     let nsym_list = [0i64; 1024];
     let perms = counted();
-    scan(
-        fc,
-        &p2s[0..n],
-        &s2pp[0..n],
-        &nsym_list[0..n],
-        &perms[0..n],
-        n,
-        n,
-        1,
-    )
+    let tables = ShiftTables {
+        p2s: &p2s[0..n],
+        s2pp: &s2pp[0..n],
+        nsym_list: &nsym_list[0..n],
+        perms: &perms[0..n],
+        n_satom: n,
+        n_patom: n,
+        num_trans: 1,
+    };
+    scan(fc, &tables)
 }
 
 // The audit of a full set.

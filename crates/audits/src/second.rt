@@ -2,20 +2,21 @@
 ghost use Rattle.std.specs.Prelude.{◌≡◌, ◌+◌, ◌<◌, ◌≤◌, length};
 ghost use Rattle.lists.specs.Digits.{times_power};
 ghost use Rattle.tables.specs.Limits.{limit2};
-ghost use Rattle.tables.specs.Compact.{ShiftTables, shift_tables, shifts_of, TablesFit};
+ghost use Rattle.tables.specs.Compact.{shifts_of, TablesFit, given};
 ghost use Rattle.places.specs.Permutations.{perms2};
 ghost use Rattle.orbits.specs.Groups.{group_blocks};
 ghost use Rattle.audits.specs.Audit.{audited, audit_compact, audit_full};
 ghost use Rattle.audits.specs.Blocks.{position_table, AlikeTo};
 ghost use Rattle.audits.specs.Guard.{Ready, full_tables};
 
+use tables::shift_tables::ShiftTables;
 use crate::Difference;
 use crate::guard::counted;
 use crate::kernel::{difference, look};
 use places::{column_of, row_of, stored_block2};
 use shifts::judge_set;
 use tables::Refusal;
-use tables::atoms::{PrimAtom, SuperAtom, p2s_at};
+use tables::atoms::{PrimAtom, SuperAtom};
 use tables::limits::LIMIT2;
 use tables::sets::judge_full;
 
@@ -34,47 +35,28 @@ pub fn positions() -> [u8; 18]
 }
 
 // The blocks of the group of block b, one for each permutation.
-pub fn group_blocks(
-    p2s: &[i64],
-    s2pp: &[i64],
-    nsym_list: &[i64],
-    perms: &[i64],
-    n_satom: usize,
-    n_patom: usize,
-    num_trans: usize,
-    b: usize,
-) -> [usize; 2]
-    requires { let T : ShiftTables = shift_tables p2s.now s2pp.now nsym_list.now perms.now n_satom n_patom num_trans in TablesFit limit2 T × (b < times_power n_satom 1 n_patom) }
-    ensures { let T : ShiftTables = shift_tables p2s.now s2pp.now nsym_list.now perms.now n_satom n_patom num_trans in result ≡ group_blocks (shifts_of T) 1 perms2 b }
+pub fn group_blocks(tables: &ShiftTables, b: usize) -> [usize; 2]
+    requires { TablesFit limit2 (given tables.now) × (b < times_power tables.now.n_satom 1 tables.now.n_patom) }
+    ensures { result ≡ group_blocks (shifts_of (given tables.now)) 1 perms2 b }
 {
-    let j = SuperAtom(column_of(b, n_satom));
-    let p = PrimAtom(row_of(b, n_satom));
-    let i = p2s_at(p2s, p);
-    let ij = stored_block2(s2pp, nsym_list, perms, i, j, n_satom);
-    let ji = stored_block2(s2pp, nsym_list, perms, j, i, n_satom);
+    let j = SuperAtom(column_of(b, tables.n_satom));
+    let p = PrimAtom(row_of(b, tables.n_satom));
+    let i = tables.p2s_at(p);
+    let ij = stored_block2(tables, i, j);
+    let ji = stored_block2(tables, j, i);
     [ij, ji]
 }
 
 // Block after block from block `from` on, up to the first place at which some permutation reads another number.
-fn scan(
-    fc: &[f64],
-    p2s: &[i64],
-    s2pp: &[i64],
-    nsym_list: &[i64],
-    perms: &[i64],
-    n_satom: usize,
-    n_patom: usize,
-    num_trans: usize,
-    from: usize,
-) -> Result<Option<Difference>, Refusal>
-    requires { let T : ShiftTables = shift_tables p2s.now s2pp.now nsym_list.now perms.now n_satom n_patom num_trans in Ready limit2 1 (length fc.now) T × AlikeTo (shifts_of T) 1 perms2 fc.now from }
-    ensures { let T : ShiftTables = shift_tables p2s.now s2pp.now nsym_list.now perms.now n_satom n_patom num_trans in result ≡ audited (shifts_of T) 1 perms2 fc.now }
+fn scan(fc: &[f64], tables: &ShiftTables, from: usize) -> Result<Option<Difference>, Refusal>
+    requires { let T = given tables.now in Ready limit2 1 (length fc.now) T × AlikeTo (shifts_of T) 1 perms2 fc.now from }
+    ensures { result ≡ audited (shifts_of (given tables.now)) 1 perms2 fc.now }
 {
     let t = positions();
     let count = row_of(fc.len(), 9);
     let mut b = from;
     while b < count {
-        let bs = group_blocks(p2s, s2pp, nsym_list, perms, n_satom, n_patom, num_trans, b);
+        let bs = group_blocks(tables, b);
         let k = look(fc, &bs, &t, 9, b);
         if k < 9 {
             return Ok(Some(difference(fc, &bs, &t, 9, b, k)));
@@ -85,51 +67,19 @@ fn scan(
 }
 
 // The bits of a stretch of blocks are joined and asked for once; what then differs is looked for block after block.
-fn settle(
-    fc: &[f64],
-    p2s: &[i64],
-    s2pp: &[i64],
-    nsym_list: &[i64],
-    perms: &[i64],
-    n_satom: usize,
-    n_patom: usize,
-    num_trans: usize,
-) -> Result<Option<Difference>, Refusal>
-    requires { let T : ShiftTables = shift_tables p2s.now s2pp.now nsym_list.now perms.now n_satom n_patom num_trans in Ready limit2 1 (length fc.now) T }
-    ensures { let T : ShiftTables = shift_tables p2s.now s2pp.now nsym_list.now perms.now n_satom n_patom num_trans in result ≡ audited (shifts_of T) 1 perms2 fc.now }
+fn settle(fc: &[f64], tables: &ShiftTables) -> Result<Option<Difference>, Refusal>
+    requires { Ready limit2 1 (length fc.now) (given tables.now) }
+    ensures { result ≡ audited (shifts_of (given tables.now)) 1 perms2 fc.now }
 {
-    scan(
-        fc, p2s, s2pp, nsym_list, perms, n_satom, n_patom, num_trans, 0,
-    )
+    scan(fc, tables, 0)
 }
 
 // The audit of a compact set, which is read only.
-pub fn audit_compact_fc2(
-    fc: &[f64],
-    p2s: &[i64],
-    s2pp: &[i64],
-    nsym_list: &[i64],
-    perms: &[i64],
-    n_satom: usize,
-    n_patom: usize,
-    num_trans: usize,
-) -> Result<Option<Difference>, Refusal>
-    ensures { let T = shift_tables p2s.now s2pp.now nsym_list.now perms.now n_satom n_patom num_trans in
-        result ≡ audit_compact limit2 1 perms2 fc.now T }
+pub fn audit_compact_fc2(fc: &[f64], tables: &ShiftTables) -> Result<Option<Difference>, Refusal>
+    ensures { result ≡ audit_compact limit2 1 perms2 fc.now (given tables.now) }
 {
-    judge_set(
-        LIMIT2,
-        1,
-        fc.len(),
-        p2s,
-        s2pp,
-        nsym_list,
-        perms,
-        n_satom,
-        n_patom,
-        num_trans,
-    )?;
-    settle(fc, p2s, s2pp, nsym_list, perms, n_satom, n_patom, num_trans)
+    judge_set(LIMIT2, 1, fc.len(), tables)?;
+    settle(fc, tables)
 }
 
 // A full set is a compact set in which every atom is its own representative.
@@ -141,16 +91,16 @@ fn scan_full(fc: &[f64], n: usize) -> Result<Option<Difference>, Refusal>
     let s2pp = counted();
     let nsym_list = [0i64; 1024];
     let perms = counted();
-    settle(
-        fc,
-        &p2s[0..n],
-        &s2pp[0..n],
-        &nsym_list[0..n],
-        &perms[0..n],
-        n,
-        n,
-        1,
-    )
+    let tables = ShiftTables {
+        p2s: &p2s[0..n],
+        s2pp: &s2pp[0..n],
+        nsym_list: &nsym_list[0..n],
+        perms: &perms[0..n],
+        n_satom: n,
+        n_patom: n,
+        num_trans: 1,
+    };
+    settle(fc, &tables)
 }
 
 // The audit of a full set.

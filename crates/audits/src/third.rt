@@ -2,20 +2,21 @@
 ghost use Rattle.std.specs.Prelude.{◌≡◌, ◌+◌, ◌<◌, ◌≤◌, length};
 ghost use Rattle.lists.specs.Digits.{times_power};
 ghost use Rattle.tables.specs.Limits.{limit3};
-ghost use Rattle.tables.specs.Compact.{ShiftTables, shift_tables, shifts_of, TablesFit};
+ghost use Rattle.tables.specs.Compact.{shifts_of, TablesFit, given};
 ghost use Rattle.places.specs.Permutations.{perms3};
 ghost use Rattle.orbits.specs.Groups.{group_blocks};
 ghost use Rattle.audits.specs.Audit.{audited, audit_compact, audit_full};
 ghost use Rattle.audits.specs.Blocks.{position_table, AlikeTo};
 ghost use Rattle.audits.specs.Guard.{Ready, full_tables};
 
+use tables::shift_tables::ShiftTables;
 use crate::Difference;
 use crate::guard::counted;
 use crate::kernel::{difference, look};
 use places::{column_of, row_of, stored_block3};
 use shifts::judge_set;
 use tables::Refusal;
-use tables::atoms::{PrimAtom, SuperAtom, p2s_at};
+use tables::atoms::{PrimAtom, SuperAtom};
 use tables::limits::LIMIT3;
 use tables::sets::judge_full;
 
@@ -48,53 +49,34 @@ pub fn positions() -> [u8; 162]
 }
 
 // The blocks of the group of block b, one for each permutation.
-pub fn group_blocks(
-    p2s: &[i64],
-    s2pp: &[i64],
-    nsym_list: &[i64],
-    perms: &[i64],
-    n_satom: usize,
-    n_patom: usize,
-    num_trans: usize,
-    b: usize,
-) -> [usize; 6]
-    requires { let T : ShiftTables = shift_tables p2s.now s2pp.now nsym_list.now perms.now n_satom n_patom num_trans in TablesFit limit3 T × (b < times_power n_satom 2 n_patom) }
-    ensures { let T : ShiftTables = shift_tables p2s.now s2pp.now nsym_list.now perms.now n_satom n_patom num_trans in result ≡ group_blocks (shifts_of T) 2 perms3 b }
+pub fn group_blocks(tables: &ShiftTables, b: usize) -> [usize; 6]
+    requires { TablesFit limit3 (given tables.now) × (b < times_power tables.now.n_satom 2 tables.now.n_patom) }
+    ensures { result ≡ group_blocks (shifts_of (given tables.now)) 2 perms3 b }
 {
-    let k = SuperAtom(column_of(b, n_satom));
-    let pj = row_of(b, n_satom);
-    let j = SuperAtom(column_of(pj, n_satom));
-    let p = PrimAtom(row_of(pj, n_satom));
-    let i = p2s_at(p2s, p);
-    let ijk = stored_block3(s2pp, nsym_list, perms, i, j, k, n_satom);
-    let ikj = stored_block3(s2pp, nsym_list, perms, i, k, j, n_satom);
-    let jik = stored_block3(s2pp, nsym_list, perms, j, i, k, n_satom);
-    let jki = stored_block3(s2pp, nsym_list, perms, j, k, i, n_satom);
-    let kij = stored_block3(s2pp, nsym_list, perms, k, i, j, n_satom);
-    let kji = stored_block3(s2pp, nsym_list, perms, k, j, i, n_satom);
+    let k = SuperAtom(column_of(b, tables.n_satom));
+    let pj = row_of(b, tables.n_satom);
+    let j = SuperAtom(column_of(pj, tables.n_satom));
+    let p = PrimAtom(row_of(pj, tables.n_satom));
+    let i = tables.p2s_at(p);
+    let ijk = stored_block3(tables, i, j, k);
+    let ikj = stored_block3(tables, i, k, j);
+    let jik = stored_block3(tables, j, i, k);
+    let jki = stored_block3(tables, j, k, i);
+    let kij = stored_block3(tables, k, i, j);
+    let kji = stored_block3(tables, k, j, i);
     [ijk, ikj, jik, jki, kij, kji]
 }
 
 // Block after block from block `from` on, up to the first place at which some permutation reads another number.
-fn scan(
-    fc: &[f64],
-    p2s: &[i64],
-    s2pp: &[i64],
-    nsym_list: &[i64],
-    perms: &[i64],
-    n_satom: usize,
-    n_patom: usize,
-    num_trans: usize,
-    from: usize,
-) -> Result<Option<Difference>, Refusal>
-    requires { let T : ShiftTables = shift_tables p2s.now s2pp.now nsym_list.now perms.now n_satom n_patom num_trans in Ready limit3 2 (length fc.now) T × AlikeTo (shifts_of T) 2 perms3 fc.now from }
-    ensures { let T : ShiftTables = shift_tables p2s.now s2pp.now nsym_list.now perms.now n_satom n_patom num_trans in result ≡ audited (shifts_of T) 2 perms3 fc.now }
+fn scan(fc: &[f64], tables: &ShiftTables, from: usize) -> Result<Option<Difference>, Refusal>
+    requires { let T = given tables.now in Ready limit3 2 (length fc.now) T × AlikeTo (shifts_of T) 2 perms3 fc.now from }
+    ensures { result ≡ audited (shifts_of (given tables.now)) 2 perms3 fc.now }
 {
     let t = positions();
     let count = row_of(fc.len(), 27);
     let mut b = from;
     while b < count {
-        let bs = group_blocks(p2s, s2pp, nsym_list, perms, n_satom, n_patom, num_trans, b);
+        let bs = group_blocks(tables, b);
         let k = look(fc, &bs, &t, 27, b);
         if k < 27 {
             return Ok(Some(difference(fc, &bs, &t, 27, b, k)));
@@ -105,51 +87,19 @@ fn scan(
 }
 
 // Row after row, and then the row in which some bits differ block after block, for the first place.
-fn settle(
-    fc: &[f64],
-    p2s: &[i64],
-    s2pp: &[i64],
-    nsym_list: &[i64],
-    perms: &[i64],
-    n_satom: usize,
-    n_patom: usize,
-    num_trans: usize,
-) -> Result<Option<Difference>, Refusal>
-    requires { let T : ShiftTables = shift_tables p2s.now s2pp.now nsym_list.now perms.now n_satom n_patom num_trans in Ready limit3 2 (length fc.now) T }
-    ensures { let T : ShiftTables = shift_tables p2s.now s2pp.now nsym_list.now perms.now n_satom n_patom num_trans in result ≡ audited (shifts_of T) 2 perms3 fc.now }
+fn settle(fc: &[f64], tables: &ShiftTables) -> Result<Option<Difference>, Refusal>
+    requires { Ready limit3 2 (length fc.now) (given tables.now) }
+    ensures { result ≡ audited (shifts_of (given tables.now)) 2 perms3 fc.now }
 {
-    scan(
-        fc, p2s, s2pp, nsym_list, perms, n_satom, n_patom, num_trans, 0,
-    )
+    scan(fc, tables, 0)
 }
 
 // The audit of a compact set, which is read only.
-pub fn audit_compact_fc3(
-    fc: &[f64],
-    p2s: &[i64],
-    s2pp: &[i64],
-    nsym_list: &[i64],
-    perms: &[i64],
-    n_satom: usize,
-    n_patom: usize,
-    num_trans: usize,
-) -> Result<Option<Difference>, Refusal>
-    ensures { let T = shift_tables p2s.now s2pp.now nsym_list.now perms.now n_satom n_patom num_trans in
-        result ≡ audit_compact limit3 2 perms3 fc.now T }
+pub fn audit_compact_fc3(fc: &[f64], tables: &ShiftTables) -> Result<Option<Difference>, Refusal>
+    ensures { result ≡ audit_compact limit3 2 perms3 fc.now (given tables.now) }
 {
-    judge_set(
-        LIMIT3,
-        2,
-        fc.len(),
-        p2s,
-        s2pp,
-        nsym_list,
-        perms,
-        n_satom,
-        n_patom,
-        num_trans,
-    )?;
-    settle(fc, p2s, s2pp, nsym_list, perms, n_satom, n_patom, num_trans)
+    judge_set(LIMIT3, 2, fc.len(), tables)?;
+    settle(fc, tables)
 }
 
 // A full set is a compact set in which every atom is its own representative.
@@ -161,16 +111,16 @@ fn scan_full(fc: &[f64], n: usize) -> Result<Option<Difference>, Refusal>
     let s2pp = counted();
     let nsym_list = [0i64; 1024];
     let perms = counted();
-    settle(
-        fc,
-        &p2s[0..n],
-        &s2pp[0..n],
-        &nsym_list[0..n],
-        &perms[0..n],
-        n,
-        n,
-        1,
-    )
+    let tables = ShiftTables {
+        p2s: &p2s[0..n],
+        s2pp: &s2pp[0..n],
+        nsym_list: &nsym_list[0..n],
+        perms: &perms[0..n],
+        n_satom: n,
+        n_patom: n,
+        num_trans: 1,
+    };
+    settle(fc, &tables)
 }
 
 // The audit of a full set.

@@ -11,6 +11,8 @@ ghost use Rattle.fc4.specs.Mean24.{mean24};
 ghost use Rattle.acoustic.specs.Acoustic.{perm_trans_symmetrize_full, perm_trans_symmetrize_full_work, perm_trans_symmetrize_compact};
 ghost use Rattle.acoustic.specs.Numbered.{numbered_both};
 
+use tables::shift_tables::ShiftTables;
+
 // A full set of third order without drift and alike.
 #[unsafe(no_mangle)]
 pub extern "C" fn gf_perm_trans_symmetrize_fc3(
@@ -45,9 +47,16 @@ pub extern "C" fn gf_perm_trans_symmetrize_compact_fc3(
         (result, fc3.new, done.new, drift.new)
         ≡ numbered_both (perm_trans_symmetrize_compact limit3 2 mean6 perms3 fc3.old T done.old drift.old level) }
 {
-    let a = acoustic::third_compact::perm_trans_symmetrize_compact_fc3(
-        fc3, p2s, s2pp, nsym_list, perms, done, drift, n_satom, n_patom, num_trans, level,
-    );
+    let tables = ShiftTables {
+        p2s,
+        s2pp,
+        nsym_list,
+        perms,
+        n_satom,
+        n_patom,
+        num_trans,
+    };
+    let a = acoustic::third_compact::perm_trans_symmetrize_compact_fc3(fc3, &tables, done, drift, level);
     tables::number(a)
 }
 
@@ -86,8 +95,15 @@ pub extern "C" fn gf_perm_trans_symmetrize_compact_fc4(
         (result, fc4.new, done.new, drift.new)
         ≡ numbered_both (perm_trans_symmetrize_compact limit4 3 mean24 perms4 fc4.old T done.old drift.old level) }
 {
-    let a = acoustic::fourth_compact::perm_trans_symmetrize_compact_fc4(
-        fc4, p2s, s2pp, nsym_list, perms, done, drift, n_satom, n_patom, num_trans, level,
-    );
+    let tables = ShiftTables {
+        p2s,
+        s2pp,
+        nsym_list,
+        perms,
+        n_satom,
+        n_patom,
+        num_trans,
+    };
+    let a = acoustic::fourth_compact::perm_trans_symmetrize_compact_fc4(fc4, &tables, done, drift, level);
     tables::number(a)
 }

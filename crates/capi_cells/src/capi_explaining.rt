@@ -3,6 +3,7 @@ ghost use Rattle.std.specs.Prelude.{◌≡◌, length};
 ghost use Rattle.tables.specs.Compact.{shift_tables};
 ghost use Rattle.capi_cells.specs.Explained.{slots_of, explain_call};
 
+use tables::shift_tables::ShiftTables;
 use explain::Explanation;
 
 // Puts an explanation into the five slots.
@@ -36,7 +37,16 @@ pub extern "C" fn gf_explain_shift_tables(
     if place.len() != 5 {
         return 2;
     }
-    let e = explain::explain_shift_tables(p2s, s2pp, nsym_list, perms, n_satom, n_patom, num_trans);
+    let tables = ShiftTables {
+        p2s,
+        s2pp,
+        nsym_list,
+        perms,
+        n_satom,
+        n_patom,
+        num_trans,
+    };
+    let e = explain::explain_shift_tables(&tables);
     put(e, place);
     0
 }

@@ -13,6 +13,7 @@ ghost use Rattle.tables.specs.Limits.{limit2};
 ghost use Rattle.tables.specs.Compact.{shift_tables, judged_tables};
 ghost use Rattle.capi_cells.specs.Cells.{flags_of, cell_of, cell_fits, call_fits, pair_left, permutation};
 
+use tables::shift_tables::ShiftTables;
 use distances::Cell;
 use matching::cells::{Matching, Pair};
 use tables::limits::LIMIT2;
@@ -55,7 +56,16 @@ pub extern "C" fn gf_check_shift_tables(
     ensures { let T = shift_tables p2s.now s2pp.now nsym_list.now perms.now n_satom n_patom num_trans in
         result ≡ number_of (judged_tables limit2 [] T) }
 {
-    let a = shifts::check_shift_tables(p2s, s2pp, nsym_list, perms, n_satom, n_patom, num_trans);
+    let tables = ShiftTables {
+        p2s,
+        s2pp,
+        nsym_list,
+        perms,
+        n_satom,
+        n_patom,
+        num_trans,
+    };
+    let a = shifts::check_shift_tables(&tables);
     tables::number(a)
 }
 

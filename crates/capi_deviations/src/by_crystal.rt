@@ -7,6 +7,7 @@ ghost use Rattle.tables.specs.Compact.{shift_tables};
 ghost use Rattle.crystal.specs.Crystal.{crystal_report_compact, crystal_report_full};
 ghost use Rattle.capi_deviations.specs.Slots.{row_length, report_call};
 
+use tables::shift_tables::ShiftTables;
 use tables::Refusal;
 use crate::{put, slots_fit};
 use capi_reports::auditing::{wrong_slots, wrong_slots_full};
@@ -53,10 +54,16 @@ pub extern "C" fn gf_crystal_report_compact_fc2(
 {
     if slots_fit(value.len(), place.len()) {
         let n = row_length(fc.len());
-        let r = crystal::second::crystal_report_compact_fc2(
-            fc, p2s, s2pp, nsym_list, perms, r_carts, operations, n_satom, n_patom, num_trans,
-            num_rot,
-        );
+        let tables = ShiftTables {
+            p2s,
+            s2pp,
+            nsym_list,
+            perms,
+            n_satom,
+            n_patom,
+            num_trans,
+        };
+        let r = crystal::second::crystal_report_compact_fc2(fc, &tables, r_carts, operations, num_rot);
         return put(r, n, value, place);
     }
     wrong(wrong_slots(LIMIT2, n_satom, n_patom, num_trans), num_rot)
@@ -104,10 +111,16 @@ pub extern "C" fn gf_crystal_report_compact_fc3(
 {
     if slots_fit(value.len(), place.len()) {
         let n = row_length(fc.len());
-        let r = crystal::third::crystal_report_compact_fc3(
-            fc, p2s, s2pp, nsym_list, perms, r_carts, operations, n_satom, n_patom, num_trans,
-            num_rot,
-        );
+        let tables = ShiftTables {
+            p2s,
+            s2pp,
+            nsym_list,
+            perms,
+            n_satom,
+            n_patom,
+            num_trans,
+        };
+        let r = crystal::third::crystal_report_compact_fc3(fc, &tables, r_carts, operations, num_rot);
         return put(r, n, value, place);
     }
     wrong(wrong_slots(LIMIT3, n_satom, n_patom, num_trans), num_rot)
@@ -155,10 +168,16 @@ pub extern "C" fn gf_crystal_report_compact_fc4(
 {
     if slots_fit(value.len(), place.len()) {
         let n = row_length(fc.len());
-        let r = crystal::fourth::crystal_report_compact_fc4(
-            fc, p2s, s2pp, nsym_list, perms, r_carts, operations, n_satom, n_patom, num_trans,
-            num_rot,
-        );
+        let tables = ShiftTables {
+            p2s,
+            s2pp,
+            nsym_list,
+            perms,
+            n_satom,
+            n_patom,
+            num_trans,
+        };
+        let r = crystal::fourth::crystal_report_compact_fc4(fc, &tables, r_carts, operations, num_rot);
         return put(r, n, value, place);
     }
     wrong(wrong_slots(LIMIT4, n_satom, n_patom, num_trans), num_rot)

@@ -8,6 +8,7 @@ ghost use Rattle.tables.specs.Compact.{shift_tables};
 ghost use Rattle.legs.specs.Legs.{leg_report_compact, leg_report_full};
 ghost use Rattle.capi_deviations.specs.Slots.{report_call};
 
+use tables::shift_tables::ShiftTables;
 use crate::{put, slots_fit};
 use capi_reports::auditing::{wrong_slots, wrong_slots_full};
 use tables::limits::{LIMIT3, LIMIT4};
@@ -29,9 +30,16 @@ pub extern "C" fn gf_drift_report_compact_fc3(
     ensures { (result, value.new, place.new) ≡ report_call (any_above limit3 (n_satom ∷ (n_patom ∷ (num_trans ∷ [])))) 27 (leg_report_compact limit3 2 fc.now (shift_tables p2s.now s2pp.now nsym_list.now perms.now n_satom n_patom num_trans)) value.old place.old }
 {
     if slots_fit(value.len(), place.len()) {
-        let r = legs::third::drift_report_compact_fc3(
-            fc, p2s, s2pp, nsym_list, perms, n_satom, n_patom, num_trans,
-        );
+        let tables = ShiftTables {
+            p2s,
+            s2pp,
+            nsym_list,
+            perms,
+            n_satom,
+            n_patom,
+            num_trans,
+        };
+        let r = legs::third::drift_report_compact_fc3(fc, &tables);
         return put(r, 27, value, place);
     }
     wrong_slots(LIMIT3, n_satom, n_patom, num_trans)
@@ -54,9 +62,16 @@ pub extern "C" fn gf_drift_report_compact_fc4(
     ensures { (result, value.new, place.new) ≡ report_call (any_above limit4 (n_satom ∷ (n_patom ∷ (num_trans ∷ [])))) 81 (leg_report_compact limit4 3 fc.now (shift_tables p2s.now s2pp.now nsym_list.now perms.now n_satom n_patom num_trans)) value.old place.old }
 {
     if slots_fit(value.len(), place.len()) {
-        let r = legs::fourth::drift_report_compact_fc4(
-            fc, p2s, s2pp, nsym_list, perms, n_satom, n_patom, num_trans,
-        );
+        let tables = ShiftTables {
+            p2s,
+            s2pp,
+            nsym_list,
+            perms,
+            n_satom,
+            n_patom,
+            num_trans,
+        };
+        let r = legs::fourth::drift_report_compact_fc4(fc, &tables);
         return put(r, 81, value, place);
     }
     wrong_slots(LIMIT4, n_satom, n_patom, num_trans)

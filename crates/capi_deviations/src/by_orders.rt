@@ -8,6 +8,7 @@ ghost use Rattle.places.specs.Permutations.{perms2, perms3, perms4};
 ghost use Rattle.differences.specs.Difference.{difference_report_compact, difference_report_full};
 ghost use Rattle.capi_deviations.specs.Slots.{report_call};
 
+use tables::shift_tables::ShiftTables;
 use crate::{put, slots_fit};
 use capi_reports::auditing::{wrong_slots, wrong_slots_full};
 use tables::limits::{LIMIT2, LIMIT3, LIMIT4};
@@ -29,9 +30,16 @@ pub extern "C" fn gf_difference_report_compact_fc2(
     ensures { (result, value.new, place.new) ≡ report_call (any_above limit2 (n_satom ∷ (n_patom ∷ (num_trans ∷ [])))) 2 (difference_report_compact limit2 1 perms2 fc.now (shift_tables p2s.now s2pp.now nsym_list.now perms.now n_satom n_patom num_trans)) value.old place.old }
 {
     if slots_fit(value.len(), place.len()) {
-        let r = differences::second::difference_report_compact_fc2(
-            fc, p2s, s2pp, nsym_list, perms, n_satom, n_patom, num_trans,
-        );
+        let tables = ShiftTables {
+            p2s,
+            s2pp,
+            nsym_list,
+            perms,
+            n_satom,
+            n_patom,
+            num_trans,
+        };
+        let r = differences::second::difference_report_compact_fc2(fc, &tables);
         return put(r, 2, value, place);
     }
     wrong_slots(LIMIT2, n_satom, n_patom, num_trans)
@@ -71,9 +79,16 @@ pub extern "C" fn gf_difference_report_compact_fc3(
     ensures { (result, value.new, place.new) ≡ report_call (any_above limit3 (n_satom ∷ (n_patom ∷ (num_trans ∷ [])))) 6 (difference_report_compact limit3 2 perms3 fc.now (shift_tables p2s.now s2pp.now nsym_list.now perms.now n_satom n_patom num_trans)) value.old place.old }
 {
     if slots_fit(value.len(), place.len()) {
-        let r = differences::third::difference_report_compact_fc3(
-            fc, p2s, s2pp, nsym_list, perms, n_satom, n_patom, num_trans,
-        );
+        let tables = ShiftTables {
+            p2s,
+            s2pp,
+            nsym_list,
+            perms,
+            n_satom,
+            n_patom,
+            num_trans,
+        };
+        let r = differences::third::difference_report_compact_fc3(fc, &tables);
         return put(r, 6, value, place);
     }
     wrong_slots(LIMIT3, n_satom, n_patom, num_trans)
@@ -113,9 +128,16 @@ pub extern "C" fn gf_difference_report_compact_fc4(
     ensures { (result, value.new, place.new) ≡ report_call (any_above limit4 (n_satom ∷ (n_patom ∷ (num_trans ∷ [])))) 24 (difference_report_compact limit4 3 perms4 fc.now (shift_tables p2s.now s2pp.now nsym_list.now perms.now n_satom n_patom num_trans)) value.old place.old }
 {
     if slots_fit(value.len(), place.len()) {
-        let r = differences::fourth::difference_report_compact_fc4(
-            fc, p2s, s2pp, nsym_list, perms, n_satom, n_patom, num_trans,
-        );
+        let tables = ShiftTables {
+            p2s,
+            s2pp,
+            nsym_list,
+            perms,
+            n_satom,
+            n_patom,
+            num_trans,
+        };
+        let r = differences::fourth::difference_report_compact_fc4(fc, &tables);
         return put(r, 24, value, place);
     }
     wrong_slots(LIMIT4, n_satom, n_patom, num_trans)

@@ -12,6 +12,7 @@ ghost use Rattle.tables.specs.Numbered.{numbered, numbered_with};
 ghost use Rattle.capi_fc2.specs.Drift.{drift_slots_fit, drift_slots, drift_call};
 ghost use Rattle.distribute.specs.Fc2.{distribution, distribute_fc2};
 
+use tables::shift_tables::ShiftTables;
 use tables::Refusal;
 use drift::DriftReport;
 use tables::limits::LIMIT2;
@@ -42,9 +43,16 @@ pub extern "C" fn gf_perm_trans_symmetrize_compact_fc(
     ensures { let T = shift_tables p2s.now s2pp.now nsym_list.now perms.now n_satom n_patom num_trans in
         (result, fc.new, done.new) ≡ numbered_with (perm_trans_symmetrize_compact_fc fc.old T done.old level) }
 {
-    let a = fc2_compact::compact::perm_trans_symmetrize_compact_fc(
-        fc, p2s, s2pp, nsym_list, perms, done, n_satom, n_patom, num_trans, level,
-    );
+    let tables = ShiftTables {
+        p2s,
+        s2pp,
+        nsym_list,
+        perms,
+        n_satom,
+        n_patom,
+        num_trans,
+    };
+    let a = fc2_compact::compact::perm_trans_symmetrize_compact_fc(fc, &tables, done, level);
     tables::number(a)
 }
 
@@ -65,9 +73,16 @@ pub extern "C" fn gf_set_index_permutation_symmetry_compact_fc(
     ensures { let T = shift_tables p2s.now s2pp.now nsym_list.now perms.now n_satom n_patom num_trans in
         (result, fc.new, done.new) ≡ numbered_with (set_index_permutation_symmetry_compact_fc fc.old T done.old transpose) }
 {
-    let a = fc2_compact::compact::set_index_permutation_symmetry_compact_fc(
-        fc, p2s, s2pp, nsym_list, perms, done, n_satom, n_patom, num_trans, transpose,
-    );
+    let tables = ShiftTables {
+        p2s,
+        s2pp,
+        nsym_list,
+        perms,
+        n_satom,
+        n_patom,
+        num_trans,
+    };
+    let a = fc2_compact::compact::set_index_permutation_symmetry_compact_fc(fc, &tables, done, transpose);
     tables::number(a)
 }
 
@@ -87,9 +102,16 @@ pub extern "C" fn gf_true_transpose_compact_fc2(
     ensures { let T = shift_tables p2s.now s2pp.now nsym_list.now perms.now n_satom n_patom num_trans in
         (result, fc.new, done.new) ≡ numbered_with (true_transpose_compact_fc2 fc.old T done.old) }
 {
-    let a = fc2_compact::compact::true_transpose_compact_fc2(
-        fc, p2s, s2pp, nsym_list, perms, done, n_satom, n_patom, num_trans,
-    );
+    let tables = ShiftTables {
+        p2s,
+        s2pp,
+        nsym_list,
+        perms,
+        n_satom,
+        n_patom,
+        num_trans,
+    };
+    let a = fc2_compact::compact::true_transpose_compact_fc2(fc, &tables, done);
     tables::number(a)
 }
 

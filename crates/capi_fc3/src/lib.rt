@@ -10,6 +10,8 @@ ghost use Rattle.tables.specs.Numbered.{numbered, numbered_with};
 ghost use Rattle.distribute.specs.Fc3.{distribute_fc3};
 ghost use Rattle.deltas.specs.RotateDelta.{deltas_of, rotate_delta_fc2s};
 
+use tables::shift_tables::ShiftTables;
+
 // Symmetrizes a full set of third order.
 #[unsafe(no_mangle)]
 pub extern "C" fn gf_set_permutation_symmetry_fc3(fc3: &mut [f64], num_atom: usize) -> u8
@@ -35,9 +37,16 @@ pub extern "C" fn gf_set_permutation_symmetry_compact_fc3(
     ensures { let T = shift_tables p2s.now s2pp.now nsym_list.now perms.now n_satom n_patom num_trans in
         (result, fc3.new, done.new) ≡ numbered_with (set_permutation_symmetry_compact_fc3 fc3.old T done.old) }
 {
-    let a = fc3::compact::set_permutation_symmetry_compact_fc3(
-        fc3, p2s, s2pp, nsym_list, perms, done, n_satom, n_patom, num_trans,
-    );
+    let tables = ShiftTables {
+        p2s,
+        s2pp,
+        nsym_list,
+        perms,
+        n_satom,
+        n_patom,
+        num_trans,
+    };
+    let a = fc3::compact::set_permutation_symmetry_compact_fc3(fc3, &tables, done);
     tables::number(a)
 }
 
@@ -58,9 +67,16 @@ pub extern "C" fn gf_transpose_compact_fc3(
     ensures { let T = shift_tables p2s.now s2pp.now nsym_list.now perms.now n_satom n_patom num_trans in
         (result, fc3.new, done.new) ≡ numbered_with (transpose_compact_fc3 fc3.old T done.old t_type) }
 {
-    let a = transposes_fc3::transpose_compact_fc3(
-        fc3, p2s, s2pp, nsym_list, perms, done, n_satom, n_patom, num_trans, t_type,
-    );
+    let tables = ShiftTables {
+        p2s,
+        s2pp,
+        nsym_list,
+        perms,
+        n_satom,
+        n_patom,
+        num_trans,
+    };
+    let a = transposes_fc3::transpose_compact_fc3(fc3, &tables, done, t_type);
     tables::number(a)
 }
 
@@ -81,9 +97,16 @@ pub extern "C" fn gf_true_transpose_compact_fc3(
     ensures { let T = shift_tables p2s.now s2pp.now nsym_list.now perms.now n_satom n_patom num_trans in
         (result, fc3.new, done.new) ≡ numbered_with (true_transpose_compact_fc3 fc3.old T done.old t_type) }
 {
-    let a = transposes_fc3::true_transpose_compact_fc3(
-        fc3, p2s, s2pp, nsym_list, perms, done, n_satom, n_patom, num_trans, t_type,
-    );
+    let tables = ShiftTables {
+        p2s,
+        s2pp,
+        nsym_list,
+        perms,
+        n_satom,
+        n_patom,
+        num_trans,
+    };
+    let a = transposes_fc3::true_transpose_compact_fc3(fc3, &tables, done, t_type);
     tables::number(a)
 }
 

@@ -11,6 +11,8 @@ ghost use Rattle.tables.specs.Numbered.{numbered_with, numbered};
 ghost use Rattle.distribute.specs.Fc4.{distribute_fc4};
 ghost use Rattle.deltas.specs.RotateDelta.{deltas_of, rotate_delta_fc3s};
 
+use tables::shift_tables::ShiftTables;
+
 // Symmetrizes a full set of fourth order.
 #[unsafe(no_mangle)]
 pub extern "C" fn gf_set_permutation_symmetry_fc4(
@@ -40,9 +42,16 @@ pub extern "C" fn gf_set_permutation_symmetry_compact_fc4(
     ensures { let T = shift_tables p2s.now s2pp.now nsym_list.now perms.now n_satom n_patom num_trans in
         (result, fc4.new, done.new) ≡ numbered_with (set_permutation_symmetry_compact_fc4 fc4.old T done.old) }
 {
-    let a = fc4::compact::set_permutation_symmetry_compact_fc4(
-        fc4, p2s, s2pp, nsym_list, perms, done, n_satom, n_patom, num_trans,
-    );
+    let tables = ShiftTables {
+        p2s,
+        s2pp,
+        nsym_list,
+        perms,
+        n_satom,
+        n_patom,
+        num_trans,
+    };
+    let a = fc4::compact::set_permutation_symmetry_compact_fc4(fc4, &tables, done);
     tables::number(a)
 }
 
@@ -63,9 +72,16 @@ pub extern "C" fn gf_transpose_compact_fc4(
     ensures { let T = shift_tables p2s.now s2pp.now nsym_list.now perms.now n_satom n_patom num_trans in
         (result, fc4.new, done.new) ≡ numbered_with (transpose_compact_fc4 fc4.old T done.old t_type) }
 {
-    let a = transposes_fc4::transpose_compact_fc4(
-        fc4, p2s, s2pp, nsym_list, perms, done, n_satom, n_patom, num_trans, t_type,
-    );
+    let tables = ShiftTables {
+        p2s,
+        s2pp,
+        nsym_list,
+        perms,
+        n_satom,
+        n_patom,
+        num_trans,
+    };
+    let a = transposes_fc4::transpose_compact_fc4(fc4, &tables, done, t_type);
     tables::number(a)
 }
 
@@ -86,9 +102,16 @@ pub extern "C" fn gf_true_transpose_compact_fc4(
     ensures { let T = shift_tables p2s.now s2pp.now nsym_list.now perms.now n_satom n_patom num_trans in
         (result, fc4.new, done.new) ≡ numbered_with (true_transpose_compact_fc4 fc4.old T done.old t_type) }
 {
-    let a = transposes_fc4::true_transpose_compact_fc4(
-        fc4, p2s, s2pp, nsym_list, perms, done, n_satom, n_patom, num_trans, t_type,
-    );
+    let tables = ShiftTables {
+        p2s,
+        s2pp,
+        nsym_list,
+        perms,
+        n_satom,
+        n_patom,
+        num_trans,
+    };
+    let a = transposes_fc4::true_transpose_compact_fc4(fc4, &tables, done, t_type);
     tables::number(a)
 }
 
@@ -110,9 +133,16 @@ pub extern "C" fn gf_swap_pairs_compact_fc4(
     ensures { let T = shift_tables p2s.now s2pp.now nsym_list.now perms.now n_satom n_patom num_trans in
         (result, fc4.new, done.new) ≡ numbered_with (swap_pairs_compact_fc4 fc4.old T done.old leg_a leg_b) }
 {
-    let a = transposes_fc4::swaps::swap_pairs_compact_fc4(
-        fc4, p2s, s2pp, nsym_list, perms, done, n_satom, n_patom, num_trans, leg_a, leg_b,
-    );
+    let tables = ShiftTables {
+        p2s,
+        s2pp,
+        nsym_list,
+        perms,
+        n_satom,
+        n_patom,
+        num_trans,
+    };
+    let a = transposes_fc4::swaps::swap_pairs_compact_fc4(fc4, &tables, done, leg_a, leg_b);
     tables::number(a)
 }
 

@@ -7,6 +7,7 @@ ghost use Rattle.places.specs.Permutations.{perms2, perms3, perms4};
 ghost use Rattle.audits.specs.Audit.{same_set, audit_compact, audit_full};
 ghost use Rattle.capi_reports.specs.Told.{audit_slots as auditSlotsOf, slots_fit, audit_call};
 
+use tables::shift_tables::ShiftTables;
 use tables::Refusal;
 use audits::Difference;
 use tables::limits::{LIMIT2, LIMIT3, LIMIT4};
@@ -91,9 +92,16 @@ pub extern "C" fn gf_audit_compact_fc2(
     ensures { (result, place.new, numbers.new) ≡ audit_call (any_above limit2 (n_satom ∷ (n_patom ∷ (num_trans ∷ [])))) (audit_compact limit2 1 perms2 fc.now (shift_tables p2s.now s2pp.now nsym_list.now perms.now n_satom n_patom num_trans)) place.old numbers.old }
 {
     if slots_fit(place.len(), numbers.len()) {
-        let r = audits::second::audit_compact_fc2(
-            fc, p2s, s2pp, nsym_list, perms, n_satom, n_patom, num_trans,
-        );
+        let tables = ShiftTables {
+            p2s,
+            s2pp,
+            nsym_list,
+            perms,
+            n_satom,
+            n_patom,
+            num_trans,
+        };
+        let r = audits::second::audit_compact_fc2(fc, &tables);
         return told(r, place, numbers);
     }
     wrong_slots(LIMIT2, n_satom, n_patom, num_trans)
@@ -133,9 +141,16 @@ pub extern "C" fn gf_audit_compact_fc3(
     ensures { (result, place.new, numbers.new) ≡ audit_call (any_above limit3 (n_satom ∷ (n_patom ∷ (num_trans ∷ [])))) (audit_compact limit3 2 perms3 fc.now (shift_tables p2s.now s2pp.now nsym_list.now perms.now n_satom n_patom num_trans)) place.old numbers.old }
 {
     if slots_fit(place.len(), numbers.len()) {
-        let r = audits::third::audit_compact_fc3(
-            fc, p2s, s2pp, nsym_list, perms, n_satom, n_patom, num_trans,
-        );
+        let tables = ShiftTables {
+            p2s,
+            s2pp,
+            nsym_list,
+            perms,
+            n_satom,
+            n_patom,
+            num_trans,
+        };
+        let r = audits::third::audit_compact_fc3(fc, &tables);
         return told(r, place, numbers);
     }
     wrong_slots(LIMIT3, n_satom, n_patom, num_trans)
@@ -175,9 +190,16 @@ pub extern "C" fn gf_audit_compact_fc4(
     ensures { (result, place.new, numbers.new) ≡ audit_call (any_above limit4 (n_satom ∷ (n_patom ∷ (num_trans ∷ [])))) (audit_compact limit4 3 perms4 fc.now (shift_tables p2s.now s2pp.now nsym_list.now perms.now n_satom n_patom num_trans)) place.old numbers.old }
 {
     if slots_fit(place.len(), numbers.len()) {
-        let r = audits::fourth::audit_compact_fc4(
-            fc, p2s, s2pp, nsym_list, perms, n_satom, n_patom, num_trans,
-        );
+        let tables = ShiftTables {
+            p2s,
+            s2pp,
+            nsym_list,
+            perms,
+            n_satom,
+            n_patom,
+            num_trans,
+        };
+        let r = audits::fourth::audit_compact_fc4(fc, &tables);
         return told(r, place, numbers);
     }
     wrong_slots(LIMIT4, n_satom, n_patom, num_trans)

@@ -3,6 +3,7 @@ ghost use Rattle.std.specs.Prelude.{◌≡◌, length};
 ghost use Rattle.tables.specs.Compact.{shift_tables};
 ghost use Rattle.capi_reports.specs.Drifts.{compact_drift_call, leg_reported, leg_slots_fit, leg_drift_call};
 
+use tables::shift_tables::ShiftTables;
 use tables::Refusal;
 use crate::auditing::{wrong_slots, wrong_slots_full};
 use capi_fc2::{report, slots_fit};
@@ -27,9 +28,16 @@ pub extern "C" fn gf_drift_report_compact_fc2(
     ensures { (result, value.new, place.new) ≡ compact_drift_call fc.now (shift_tables p2s.now s2pp.now nsym_list.now perms.now n_satom n_patom num_trans) value.old place.old }
 {
     if slots_fit(value.len(), place.len()) {
-        let a = drift::compact::drift_report_compact_fc2(
-            fc, p2s, s2pp, nsym_list, perms, n_satom, n_patom, num_trans,
-        );
+        let tables = ShiftTables {
+            p2s,
+            s2pp,
+            nsym_list,
+            perms,
+            n_satom,
+            n_patom,
+            num_trans,
+        };
+        let a = drift::compact::drift_report_compact_fc2(fc, &tables);
         return report(a, value, place);
     }
     wrong_slots(LIMIT2, n_satom, n_patom, num_trans)

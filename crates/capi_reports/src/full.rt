@@ -4,6 +4,8 @@ ghost use Rattle.tables.specs.Compact.{shift_tables};
 ghost use Rattle.read_out.specs.ReadOut.{compact_to_full_fc2, compact_to_full_fc3, compact_to_full_fc4};
 ghost use Rattle.tables.specs.Numbered.{numbered};
 
+use tables::shift_tables::ShiftTables;
+
 // Reads a compact set of second order out to the full one.
 #[unsafe(no_mangle)]
 pub extern "C" fn gf_compact_to_full_fc2(
@@ -19,9 +21,16 @@ pub extern "C" fn gf_compact_to_full_fc2(
 ) -> u8
     ensures { (result, full.new) ≡ numbered (compact_to_full_fc2 full.old fc2.now (shift_tables p2s.now s2pp.now nsym_list.now perms.now n_satom n_patom num_trans)) }
 {
-    let a = read_out::fc2::compact_to_full_fc2(
-        full, fc2, p2s, s2pp, nsym_list, perms, n_satom, n_patom, num_trans,
-    );
+    let tables = ShiftTables {
+        p2s,
+        s2pp,
+        nsym_list,
+        perms,
+        n_satom,
+        n_patom,
+        num_trans,
+    };
+    let a = read_out::fc2::compact_to_full_fc2(full, fc2, &tables);
     tables::number(a)
 }
 
@@ -40,9 +49,16 @@ pub extern "C" fn gf_compact_to_full_fc3(
 ) -> u8
     ensures { (result, full.new) ≡ numbered (compact_to_full_fc3 full.old fc3.now (shift_tables p2s.now s2pp.now nsym_list.now perms.now n_satom n_patom num_trans)) }
 {
-    let a = read_out::fc3::compact_to_full_fc3(
-        full, fc3, p2s, s2pp, nsym_list, perms, n_satom, n_patom, num_trans,
-    );
+    let tables = ShiftTables {
+        p2s,
+        s2pp,
+        nsym_list,
+        perms,
+        n_satom,
+        n_patom,
+        num_trans,
+    };
+    let a = read_out::fc3::compact_to_full_fc3(full, fc3, &tables);
     tables::number(a)
 }
 
@@ -61,8 +77,15 @@ pub extern "C" fn gf_compact_to_full_fc4(
 ) -> u8
     ensures { (result, full.new) ≡ numbered (compact_to_full_fc4 full.old fc4.now (shift_tables p2s.now s2pp.now nsym_list.now perms.now n_satom n_patom num_trans)) }
 {
-    let a = read_out::fc4::compact_to_full_fc4(
-        full, fc4, p2s, s2pp, nsym_list, perms, n_satom, n_patom, num_trans,
-    );
+    let tables = ShiftTables {
+        p2s,
+        s2pp,
+        nsym_list,
+        perms,
+        n_satom,
+        n_patom,
+        num_trans,
+    };
+    let a = read_out::fc4::compact_to_full_fc4(full, fc4, &tables);
     tables::number(a)
 }

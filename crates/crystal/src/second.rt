@@ -4,13 +4,14 @@ ghost use Rattle.lists.specs.Digits.{times_power};
 ghost use Rattle.blocks.specs.Block.{block};
 ghost use Rattle.tables.specs.Limits.{limit2};
 ghost use Rattle.tables.specs.Conditions.{IndexTable};
-ghost use Rattle.tables.specs.Compact.{ShiftTables, shift_tables, shifts_of, TablesFit};
+ghost use Rattle.tables.specs.Compact.{shifts_of, TablesFit, given};
 ghost use Rattle.rotations.specs.Rotation.{coefficients, rotated};
 ghost use Rattle.audits.specs.Guard.{Ready, full_tables};
 ghost use Rattle.reports.specs.Loops.{look_differences};
 ghost use Rattle.crystal.specs.Crystal.{crystal_report_compact, crystal_report_full};
 ghost use Rattle.crystal.specs.Laws.{Sends, Operating, image_block, operation_seen, all_seen};
 
+use tables::shift_tables::ShiftTables;
 use crate::judge;
 use audits::guard::counted;
 use places::{column_of, index_of, row_of, stored_block2};
@@ -19,32 +20,21 @@ use reports::{Report, conclude};
 use rotations::{coefficients2, rotated9};
 use shifts::judge_set;
 use tables::Refusal;
-use tables::atoms::{PrimAtom, SuperAtom, p2s_at, perms_at};
+use tables::atoms::{PrimAtom, SuperAtom, perms_at};
 use tables::limits::LIMIT2;
 use tables::sets::judge_full;
 
 // The block of the read-out at the images of the atoms of block b under operation r.
-fn image_block(
-    p2s: &[i64],
-    s2pp: &[i64],
-    nsym_list: &[i64],
-    perms: &[i64],
-    operations: &[i64],
-    n_satom: usize,
-    n_patom: usize,
-    num_trans: usize,
-    r: usize,
-    b: usize,
-) -> usize
-    requires { let T : ShiftTables = shift_tables p2s.now s2pp.now nsym_list.now perms.now n_satom n_patom num_trans in TablesFit limit2 T × Sends n_satom operations.now r × (b < times_power n_satom 1 n_patom) }
-    ensures { let T : ShiftTables = shift_tables p2s.now s2pp.now nsym_list.now perms.now n_satom n_patom num_trans in result ≡ image_block (shifts_of T) 1 operations.now r b }
+fn image_block(tables: &ShiftTables, operations: &[i64], r: usize, b: usize) -> usize
+    requires { TablesFit limit2 (given tables.now) × Sends tables.now.n_satom operations.now r × (b < times_power tables.now.n_satom 1 tables.now.n_patom) }
+    ensures { result ≡ image_block (shifts_of (given tables.now)) 1 operations.now r b }
 {
-    let j = SuperAtom(column_of(b, n_satom));
-    let p = PrimAtom(row_of(b, n_satom));
-    let i = p2s_at(p2s, p);
-    let x = perms_at(operations, n_satom, r, i);
-    let y = perms_at(operations, n_satom, r, j);
-    stored_block2(s2pp, nsym_list, perms, x, y, n_satom)
+    let j = SuperAtom(column_of(b, tables.n_satom));
+    let p = PrimAtom(row_of(b, tables.n_satom));
+    let i = tables.p2s_at(p);
+    let x = perms_at(operations, tables.n_satom, r, i);
+    let y = perms_at(operations, tables.n_satom, r, j);
+    stored_block2(tables, x, y)
 }
 
 // Looks at block `to` minus block `from` rotated by the matrix whose coefficients c has.
@@ -59,29 +49,14 @@ fn look_block(fc: &[f64], c: &[f64; 81], to: usize, from: usize, first: usize, s
 }
 
 // Looks at every block under operation r, whose coefficients c has.
-fn look_operation(
-    fc: &[f64],
-    c: &[f64; 81],
-    p2s: &[i64],
-    s2pp: &[i64],
-    nsym_list: &[i64],
-    perms: &[i64],
-    operations: &[i64],
-    n_satom: usize,
-    n_patom: usize,
-    num_trans: usize,
-    r: usize,
-    seen0: Seen,
-) -> Seen
-    requires { let T : ShiftTables = shift_tables p2s.now s2pp.now nsym_list.now perms.now n_satom n_patom num_trans in Ready limit2 1 (length fc.now) T × Sends n_satom operations.now r × (r < 1024) }
-    ensures { let T : ShiftTables = shift_tables p2s.now s2pp.now nsym_list.now perms.now n_satom n_patom num_trans in ((carts : List Float) → c.now ≡ coefficients (block 9 r carts) 2 9 → result ≡ operation_seen (shifts_of T) 1 carts operations.now fc.now 9 (times_power n_satom 1 n_patom) r seen0) }
+fn look_operation(fc: &[f64], c: &[f64; 81], tables: &ShiftTables, operations: &[i64], r: usize, seen0: Seen) -> Seen
+    requires { Ready limit2 1 (length fc.now) (given tables.now) × Sends tables.now.n_satom operations.now r × (r < 1024) }
+    ensures { ((carts : List Float) → c.now ≡ coefficients (block 9 r carts) 2 9 → result ≡ operation_seen (shifts_of (given tables.now)) 1 carts operations.now fc.now 9 (times_power tables.now.n_satom 1 tables.now.n_patom) r seen0) }
 {
     let count = row_of(fc.len(), 9);
     let mut seen = seen0;
     for b in 0..count {
-        let to = image_block(
-            p2s, s2pp, nsym_list, perms, operations, n_satom, n_patom, num_trans, r, b,
-        );
+        let to = image_block(tables, operations, r, b);
         let first = index_of(r, fc.len(), index_of(b, 9, 0));
         let more = look_block(fc, c, to, b, first, seen);
         seen = more;
@@ -90,66 +65,26 @@ fn look_operation(
 }
 
 // Operation after operation.
-fn scan(
-    fc: &[f64],
-    p2s: &[i64],
-    s2pp: &[i64],
-    nsym_list: &[i64],
-    perms: &[i64],
-    r_carts: &[f64],
-    operations: &[i64],
-    n_satom: usize,
-    n_patom: usize,
-    num_trans: usize,
-    num_rot: usize,
-) -> Seen
-    requires { let T : ShiftTables = shift_tables p2s.now s2pp.now nsym_list.now perms.now n_satom n_patom num_trans in Ready limit2 1 (length fc.now) T × Operating n_satom num_rot (length r_carts.now) operations.now }
-    ensures { let T : ShiftTables = shift_tables p2s.now s2pp.now nsym_list.now perms.now n_satom n_patom num_trans in result ≡ all_seen (shifts_of T) 1 r_carts.now operations.now fc.now num_rot }
+fn scan(fc: &[f64], tables: &ShiftTables, r_carts: &[f64], operations: &[i64], num_rot: usize) -> Seen
+    requires { Ready limit2 1 (length fc.now) (given tables.now) × Operating tables.now.n_satom num_rot (length r_carts.now) operations.now }
+    ensures { result ≡ all_seen (shifts_of (given tables.now)) 1 r_carts.now operations.now fc.now num_rot }
 {
     let mut seen = start();
     for r in 0..num_rot {
         let c = coefficients2(blocks::read9(r_carts, r));
-        let more = look_operation(
-            fc, &c, p2s, s2pp, nsym_list, perms, operations, n_satom, n_patom, num_trans, r, seen,
-        );
+        let more = look_operation(fc, &c, tables, operations, r, seen);
         seen = more;
     }
     seen
 }
 
 // The report of a compact set, which is read only.
-pub fn crystal_report_compact_fc2(
-    fc: &[f64],
-    p2s: &[i64],
-    s2pp: &[i64],
-    nsym_list: &[i64],
-    perms: &[i64],
-    r_carts: &[f64],
-    operations: &[i64],
-    n_satom: usize,
-    n_patom: usize,
-    num_trans: usize,
-    num_rot: usize,
-) -> Result<Report, Refusal>
-    ensures { let T = shift_tables p2s.now s2pp.now nsym_list.now perms.now n_satom n_patom num_trans in
-        result ≡ crystal_report_compact limit2 1 fc.now r_carts.now operations.now T num_rot }
+pub fn crystal_report_compact_fc2(fc: &[f64], tables: &ShiftTables, r_carts: &[f64], operations: &[i64], num_rot: usize) -> Result<Report, Refusal>
+    ensures { result ≡ crystal_report_compact limit2 1 fc.now r_carts.now operations.now (given tables.now) num_rot }
 {
-    let s = judge_set(
-        LIMIT2,
-        1,
-        fc.len(),
-        p2s,
-        s2pp,
-        nsym_list,
-        perms,
-        n_satom,
-        n_patom,
-        num_trans,
-    );
-    judge(s, n_satom, num_rot, r_carts.len(), operations)?;
-    let seen = scan(
-        fc, p2s, s2pp, nsym_list, perms, r_carts, operations, n_satom, n_patom, num_trans, num_rot,
-    );
+    let s = judge_set(LIMIT2, 1, fc.len(), tables);
+    judge(s, tables.n_satom, num_rot, r_carts.len(), operations)?;
+    let seen = scan(fc, tables, r_carts, operations, num_rot);
     Ok(conclude(seen))
 }
 
@@ -162,19 +97,16 @@ fn scan_full(fc: &[f64], r_carts: &[f64], operations: &[i64], n: usize, num_rot:
     let s2pp = counted();
     let nsym_list = [0i64; 1024];
     let perms = counted();
-    scan(
-        fc,
-        &p2s[0..n],
-        &s2pp[0..n],
-        &nsym_list[0..n],
-        &perms[0..n],
-        r_carts,
-        operations,
-        n,
-        n,
-        1,
-        num_rot,
-    )
+    let tables = ShiftTables {
+        p2s: &p2s[0..n],
+        s2pp: &s2pp[0..n],
+        nsym_list: &nsym_list[0..n],
+        perms: &perms[0..n],
+        n_satom: n,
+        n_patom: n,
+        num_trans: 1,
+    };
+    scan(fc, &tables, r_carts, operations, num_rot)
 }
 
 // The report of a full set.

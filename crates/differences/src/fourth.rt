@@ -1,12 +1,13 @@
 // The difference reports of fourth order: all 24 permutations of any four legs.
 ghost use Rattle.std.specs.Prelude.{◌≡◌, ◌≤◌, length};
 ghost use Rattle.tables.specs.Limits.{limit4};
-ghost use Rattle.tables.specs.Compact.{ShiftTables, shift_tables, shifts_of};
+ghost use Rattle.tables.specs.Compact.{shifts_of, given};
 ghost use Rattle.places.specs.Permutations.{perms4};
 ghost use Rattle.audits.specs.Guard.{Ready, full_tables};
 ghost use Rattle.differences.specs.Difference.{difference_report_compact, difference_report_full};
 ghost use Rattle.differences.specs.Laws.{all_seen};
 
+use tables::shift_tables::ShiftTables;
 use crate::look_block;
 use audits::guard::counted;
 use fc4::group::group_blocks;
@@ -20,24 +21,15 @@ use tables::limits::LIMIT4;
 use tables::sets::judge_full;
 
 // Block after block.
-fn scan(
-    fc: &[f64],
-    p2s: &[i64],
-    s2pp: &[i64],
-    nsym_list: &[i64],
-    perms: &[i64],
-    n_satom: usize,
-    n_patom: usize,
-    num_trans: usize,
-) -> Seen
-    requires { let T : ShiftTables = shift_tables p2s.now s2pp.now nsym_list.now perms.now n_satom n_patom num_trans in Ready limit4 3 (length fc.now) T }
-    ensures { let T : ShiftTables = shift_tables p2s.now s2pp.now nsym_list.now perms.now n_satom n_patom num_trans in result ≡ all_seen (shifts_of T) 3 perms4 fc.now }
+fn scan(fc: &[f64], tables: &ShiftTables) -> Seen
+    requires { Ready limit4 3 (length fc.now) (given tables.now) }
+    ensures { result ≡ all_seen (shifts_of (given tables.now)) 3 perms4 fc.now }
 {
     let t = addresses();
     let count = row_of(fc.len(), 81);
     let mut seen = start();
     for b in 0..count {
-        let bs = group_blocks(p2s, s2pp, nsym_list, perms, n_satom, n_patom, num_trans, b);
+        let bs = group_blocks(tables, b);
         let more = look_block(fc, &bs, &t, 81, b, seen);
         seen = more;
     }
@@ -45,32 +37,11 @@ fn scan(
 }
 
 // The report of a compact set, which is read only.
-pub fn difference_report_compact_fc4(
-    fc: &[f64],
-    p2s: &[i64],
-    s2pp: &[i64],
-    nsym_list: &[i64],
-    perms: &[i64],
-    n_satom: usize,
-    n_patom: usize,
-    num_trans: usize,
-) -> Result<Report, Refusal>
-    ensures { let T = shift_tables p2s.now s2pp.now nsym_list.now perms.now n_satom n_patom num_trans in
-        result ≡ difference_report_compact limit4 3 perms4 fc.now T }
+pub fn difference_report_compact_fc4(fc: &[f64], tables: &ShiftTables) -> Result<Report, Refusal>
+    ensures { result ≡ difference_report_compact limit4 3 perms4 fc.now (given tables.now) }
 {
-    judge_set(
-        LIMIT4,
-        3,
-        fc.len(),
-        p2s,
-        s2pp,
-        nsym_list,
-        perms,
-        n_satom,
-        n_patom,
-        num_trans,
-    )?;
-    let seen = scan(fc, p2s, s2pp, nsym_list, perms, n_satom, n_patom, num_trans);
+    judge_set(LIMIT4, 3, fc.len(), tables)?;
+    let seen = scan(fc, tables);
     Ok(conclude(seen))
 }
 
@@ -83,16 +54,16 @@ fn scan_full(fc: &[f64], n: usize) -> Seen
     let s2pp = counted();
     let nsym_list = [0i64; 1024];
     let perms = counted();
-    scan(
-        fc,
-        &p2s[0..n],
-        &s2pp[0..n],
-        &nsym_list[0..n],
-        &perms[0..n],
-        n,
-        n,
-        1,
-    )
+    let tables = ShiftTables {
+        p2s: &p2s[0..n],
+        s2pp: &s2pp[0..n],
+        nsym_list: &nsym_list[0..n],
+        perms: &perms[0..n],
+        n_satom: n,
+        n_patom: n,
+        num_trans: 1,
+    };
+    scan(fc, &tables)
 }
 
 // The report of a full set.

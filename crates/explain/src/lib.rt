@@ -9,9 +9,10 @@ ghost use Rattle.std.specs.Prelude.{◌≡◌, false, [], ◌∷◌, ◌≤◌};
 ghost use Rattle.tables.specs.Conditions.{below};
 ghost use Rattle.tables.specs.Limits.{limit2};
 ghost use Rattle.tables.specs.Shifts.{ruled};
-ghost use Rattle.tables.specs.Compact.{ShiftTables, shift_tables, shifts_of, table_lengths, TablesFit};
+ghost use Rattle.tables.specs.Compact.{shifts_of, table_lengths, TablesFit, given};
 ghost use Rattle.explain.specs.Explain.{first_above, first_wrong, first_beyond, because as becauseOf, bad_entry, broken_rule, explain_shift_tables};
 
+use tables::shift_tables::ShiftTables;
 use shifts::check_shift_tables;
 use tables::Refusal;
 use tables::index::all_below;
@@ -33,44 +34,36 @@ pub struct Explanation {
 }
 
 // 1: the first count that is above the limit.
-fn first_above(n_satom: usize, n_patom: usize, num_trans: usize) -> usize
-    ensures { result ≡ first_above limit2 (n_satom ∷ (n_patom ∷ (num_trans ∷ []))) }
+fn first_above(tables: &ShiftTables) -> usize
+    ensures { result ≡ first_above limit2 (tables.now.n_satom ∷ (tables.now.n_patom ∷ (tables.now.num_trans ∷ []))) }
 {
-    if n_satom > LIMIT2 {
+    if tables.n_satom > LIMIT2 {
         return 0;
     }
-    if n_patom > LIMIT2 {
+    if tables.n_patom > LIMIT2 {
         return 1;
     }
-    if num_trans > LIMIT2 {
+    if tables.num_trans > LIMIT2 {
         return 2;
     }
     3
 }
 
 // 2: the first table of another length than the stated one.
-fn first_wrong(
-    p2s: &[i64],
-    s2pp: &[i64],
-    nsym_list: &[i64],
-    perms: &[i64],
-    n_satom: usize,
-    n_patom: usize,
-    num_trans: usize,
-) -> usize
-    requires { (n_satom ≤ 1024) × (num_trans ≤ 1024) }
-    ensures { let T : ShiftTables = shift_tables p2s.now s2pp.now nsym_list.now perms.now n_satom n_patom num_trans in result ≡ first_wrong (table_lengths T) }
+fn first_wrong(tables: &ShiftTables) -> usize
+    requires { (tables.now.n_satom ≤ 1024) × (tables.now.num_trans ≤ 1024) }
+    ensures { result ≡ first_wrong (table_lengths (given tables.now)) }
 {
-    if perms.len() != num_trans * n_satom {
+    if tables.perms.len() != tables.num_trans * tables.n_satom {
         return 0;
     }
-    if p2s.len() != n_patom {
+    if tables.p2s.len() != tables.n_patom {
         return 1;
     }
-    if s2pp.len() != n_satom {
+    if tables.s2pp.len() != tables.n_satom {
         return 2;
     }
-    if nsym_list.len() != n_satom {
+    if tables.nsym_list.len() != tables.n_satom {
         return 3;
     }
     4
@@ -111,93 +104,64 @@ fn because(r: Refusal, which: usize, first: usize, second: usize, third: usize) 
 }
 
 // 3: the first table with an entry that is out of range, and the entry.
-fn bad_entry(
-    p2s: &[i64],
-    s2pp: &[i64],
-    nsym_list: &[i64],
-    perms: &[i64],
-    n_satom: usize,
-    n_patom: usize,
-    num_trans: usize,
-) -> Explanation
-    ensures { let T : ShiftTables = shift_tables p2s.now s2pp.now nsym_list.now perms.now n_satom n_patom num_trans in result ≡ bad_entry T }
+fn bad_entry(tables: &ShiftTables) -> Explanation
+    ensures { result ≡ bad_entry (given tables.now) }
 {
-    if !all_below(perms, n_satom) {
-        let k = first_beyond(perms, n_satom);
+    if !all_below(tables.perms, tables.n_satom) {
+        let k = first_beyond(tables);
         return because(Refusal::IndexOutOfRange, 0, k, 0, 0);
     }
-    if !all_below(p2s, n_satom) {
-        let k = first_beyond(p2s, n_satom);
+    if !all_below(tables.p2s, tables.n_satom) {
+        let k = first_beyond(tables.p2s, tables.n_satom);
         return because(Refusal::IndexOutOfRange, 1, k, 0, 0);
     }
-    if !all_below(s2pp, n_patom) {
-        let k = first_beyond(s2pp, n_patom);
+    if !all_below(tables.s2pp, tables.n_patom) {
+        let k = first_beyond(tables.s2pp, tables.n_patom);
         return because(Refusal::IndexOutOfRange, 2, k, 0, 0);
     }
-    if !all_below(nsym_list, num_trans) {
-        let k = first_beyond(nsym_list, num_trans);
+    if !all_below(tables.nsym_list, tables.num_trans) {
+        let k = first_beyond(tables.nsym_list, tables.num_trans);
         return because(Refusal::IndexOutOfRange, 3, k, 0, 0);
     }
     because(Refusal::IndexOutOfRange, 4, 0, 0, 0)
 }
 
 // 6: the first rule that is broken, and the least numbers that break it.
-fn broken_rule(
-    p2s: &[i64],
-    s2pp: &[i64],
-    nsym_list: &[i64],
-    perms: &[i64],
-    n_satom: usize,
-    n_patom: usize,
-    num_trans: usize,
-) -> Explanation
-    requires { let T : ShiftTables = shift_tables p2s.now s2pp.now nsym_list.now perms.now n_satom n_patom num_trans in TablesFit 1024 T × (ruled (shifts_of T) ≡ false) }
-    ensures { let T : ShiftTables = shift_tables p2s.now s2pp.now nsym_list.now perms.now n_satom n_patom num_trans in result ≡ broken_rule (shifts_of T) }
+fn broken_rule(tables: &ShiftTables) -> Explanation
+    requires { let T = given tables.now in TablesFit 1024 T × (ruled (shifts_of T) ≡ false) }
+    ensures { result ≡ broken_rule (shifts_of (given tables.now)) }
 {
-    let r = search::first_broken(p2s, s2pp, nsym_list, perms, n_satom, n_patom, num_trans);
-    let i = search::first_of(r, p2s, s2pp, nsym_list, perms, n_satom, n_patom, num_trans);
-    let j = search::second_of(
-        r, p2s, s2pp, nsym_list, perms, n_satom, n_patom, num_trans, i,
-    );
-    let k = search::third_of(
-        r, p2s, s2pp, nsym_list, perms, n_satom, n_patom, num_trans, i, j,
-    );
+    let r = search::first_broken(tables);
+    let i = search::first_of(r, tables);
+    let j = search::second_of(r, tables, i);
+    let k = search::third_of(r, tables, i, j);
     because(Refusal::BadShiftTables, r, i, j, k)
 }
 
 // What check_shift_tables answers, and what a refusal is about.
-pub fn explain_shift_tables(
-    p2s: &[i64],
-    s2pp: &[i64],
-    nsym_list: &[i64],
-    perms: &[i64],
-    n_satom: usize,
-    n_patom: usize,
-    num_trans: usize,
-) -> Explanation
-    ensures { let T = shift_tables p2s.now s2pp.now nsym_list.now perms.now n_satom n_patom num_trans in
-        result ≡ explain_shift_tables T }
+pub fn explain_shift_tables(tables: &ShiftTables) -> Explanation
+    ensures { result ≡ explain_shift_tables (given tables.now) }
 {
-    let a = check_shift_tables(p2s, s2pp, nsym_list, perms, n_satom, n_patom, num_trans);
+    let a = check_shift_tables(tables);
     let n = tables::number(a);
     if n == 1 {
         return because(
             Refusal::CountAboveLimit,
-            first_above(n_satom, n_patom, num_trans),
+            first_above(tables),
             0,
             0,
             0,
         );
     }
     if n == 2 {
-        let i = first_wrong(p2s, s2pp, nsym_list, perms, n_satom, n_patom, num_trans);
+        let i = first_wrong(tables);
         return because(Refusal::WrongLength, i, 0, 0, 0);
     }
     if n == 3 {
-        return bad_entry(p2s, s2pp, nsym_list, perms, n_satom, n_patom, num_trans);
+        return bad_entry(tables);
     }
     if n == 6 {
-        return broken_rule(p2s, s2pp, nsym_list, perms, n_satom, n_patom, num_trans);
+        return broken_rule(tables);
     }
     Explanation {
         answer: Ok(()),

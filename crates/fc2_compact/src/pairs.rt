@@ -5,11 +5,12 @@ ghost use Rattle.fc2_compact.specs.Visits.{swap_at, transpose_visit, average_vis
 ghost use Rattle.fc2_compact.specs.Code.{Ready, ReadyAt};
 ghost use Rattle.fc2_compact.specs.Passes.{transposed, averaged_compact};
 ghost use Rattle.orbits.specs.TrueTransposes.{swapped};
-ghost use Rattle.tables.specs.Compact.{ShiftTables, shift_tables, shifts_of};
+ghost use Rattle.tables.specs.Compact.{shifts_of, given};
 ghost use Rattle.lists.specs.Tab.{times};
 
+use tables::shift_tables::ShiftTables;
 use blocks::transposed9;
-use tables::atoms::{PrimAtom, SuperAtom, p2s_at, s2pp_at};
+use tables::atoms::{PrimAtom, SuperAtom};
 
 // Blocks b and c change places, each transposed.
 fn swap_blocks(fc: &mut [f64], b: usize, c: usize)
@@ -25,28 +26,15 @@ fn swap_blocks(fc: &mut [f64], b: usize, c: usize)
 // The visit of block (p, j) in the transpose: it and its counterpart, the read-out block of atoms j and i, change places, transposed, if it is the
 // one with the smaller number. Where half shifts stay, a block that is its own counterpart is transposed only if it is that of i with itself.
 // Where j's primitive atom comes before p, so does the counterpart, whatever the rows say.
-fn transpose_visit(
-    fc: &mut [f64],
-    p2s: &[i64],
-    s2pp: &[i64],
-    nsym_list: &[i64],
-    perms: &[i64],
-    n_satom: usize,
-    n_patom: usize,
-    num_trans: usize,
-    half_shifts_stay: bool,
-    p: PrimAtom,
-    i: SuperAtom,
-    j: SuperAtom,
-)
-    requires { let T : ShiftTables = shift_tables p2s.now s2pp.now nsym_list.now perms.now n_satom n_patom num_trans in ReadyAt T (length fc.old) p.0 i.0 j.0 }
-    ensures { let T : ShiftTables = shift_tables p2s.now s2pp.now nsym_list.now perms.now n_satom n_patom num_trans in fc.new ≡ transpose_visit half_shifts_stay (shifts_of T) p.0 j.0 fc.old }
+fn transpose_visit(fc: &mut [f64], tables: &ShiftTables, half_shifts_stay: bool, p: PrimAtom, i: SuperAtom, j: SuperAtom)
+    requires { ReadyAt (given tables.now) (length fc.old) p.0 i.0 j.0 }
+    ensures { fc.new ≡ transpose_visit half_shifts_stay (shifts_of (given tables.now)) p.0 j.0 fc.old }
 {
-    if s2pp_at(s2pp, j).0 < p.0 {
+    if tables.s2pp_at(j).0 < p.0 {
         return;
     }
-    let b = places::block2(p, j, n_satom);
-    let c = places::stored_block2(s2pp, nsym_list, perms, j, i, n_satom);
+    let b = places::block2(p, j, tables.n_satom);
+    let c = places::stored_block2(tables, j, i);
     if c < b {
         return;
     }
@@ -63,27 +51,15 @@ fn transpose_visit(
 }
 
 // The visit of block (p, j) in the averaging: it and its counterpart become their mean, if it is the one with the smaller number.
-fn average_visit(
-    fc: &mut [f64],
-    p2s: &[i64],
-    s2pp: &[i64],
-    nsym_list: &[i64],
-    perms: &[i64],
-    n_satom: usize,
-    n_patom: usize,
-    num_trans: usize,
-    p: PrimAtom,
-    i: SuperAtom,
-    j: SuperAtom,
-)
-    requires { let T : ShiftTables = shift_tables p2s.now s2pp.now nsym_list.now perms.now n_satom n_patom num_trans in ReadyAt T (length fc.old) p.0 i.0 j.0 }
-    ensures { let T : ShiftTables = shift_tables p2s.now s2pp.now nsym_list.now perms.now n_satom n_patom num_trans in fc.new ≡ average_visit (shifts_of T) p.0 j.0 fc.old }
+fn average_visit(fc: &mut [f64], tables: &ShiftTables, p: PrimAtom, i: SuperAtom, j: SuperAtom)
+    requires { ReadyAt (given tables.now) (length fc.old) p.0 i.0 j.0 }
+    ensures { fc.new ≡ average_visit (shifts_of (given tables.now)) p.0 j.0 fc.old }
 {
-    if s2pp_at(s2pp, j).0 < p.0 {
+    if tables.s2pp_at(j).0 < p.0 {
         return;
     }
-    let b = places::block2(p, j, n_satom);
-    let c = places::stored_block2(s2pp, nsym_list, perms, j, i, n_satom);
+    let b = places::block2(p, j, tables.n_satom);
+    let c = places::stored_block2(tables, j, i);
     if c < b {
         return;
     }
@@ -91,121 +67,43 @@ fn average_visit(
 }
 
 // The visits of the blocks of primitive atom p in the transpose.
-fn transpose_row(
-    fc: &mut [f64],
-    p2s: &[i64],
-    s2pp: &[i64],
-    nsym_list: &[i64],
-    perms: &[i64],
-    n_satom: usize,
-    n_patom: usize,
-    num_trans: usize,
-    half_shifts_stay: bool,
-    p: usize,
-)
-    requires { let T : ShiftTables = shift_tables p2s.now s2pp.now nsym_list.now perms.now n_satom n_patom num_trans in Ready T (length fc.old) × (p < n_patom) }
-    ensures { let T : ShiftTables = shift_tables p2s.now s2pp.now nsym_list.now perms.now n_satom n_patom num_trans in fc.new ≡ times n_satom (transpose_visit half_shifts_stay (shifts_of T) p) fc.old }
+fn transpose_row(fc: &mut [f64], tables: &ShiftTables, half_shifts_stay: bool, p: usize)
+    requires { Ready (given tables.now) (length fc.old) × (p < tables.now.n_patom) }
+    ensures { fc.new ≡ times tables.now.n_satom (transpose_visit half_shifts_stay (shifts_of (given tables.now)) p) fc.old }
 {
-    let i = p2s_at(p2s, PrimAtom(p));
+    let i = tables.p2s_at(PrimAtom(p));
     for j in 0..n_satom {
-        transpose_visit(
-            fc,
-            p2s,
-            s2pp,
-            nsym_list,
-            perms,
-            n_satom,
-            n_patom,
-            num_trans,
-            half_shifts_stay,
-            PrimAtom(p),
-            i,
-            SuperAtom(j),
-        );
+        transpose_visit(fc, tables, half_shifts_stay, PrimAtom(p), i, SuperAtom(j));
     }
 }
 
 // The whole set transposed, half-shift blocks too unless they stay.
-pub fn transpose_pass(
-    fc: &mut [f64],
-    p2s: &[i64],
-    s2pp: &[i64],
-    nsym_list: &[i64],
-    perms: &[i64],
-    n_satom: usize,
-    n_patom: usize,
-    num_trans: usize,
-    half_shifts_stay: bool,
-)
-    requires { let T : ShiftTables = shift_tables p2s.now s2pp.now nsym_list.now perms.now n_satom n_patom num_trans in Ready T (length fc.old) }
-    ensures { let T : ShiftTables = shift_tables p2s.now s2pp.now nsym_list.now perms.now n_satom n_patom num_trans in fc.new ≡ cond half_shifts_stay (transposed (shifts_of T) fc.old) (swapped (shifts_of T) 1 (0, 1) fc.old) }
+pub fn transpose_pass(fc: &mut [f64], tables: &ShiftTables, half_shifts_stay: bool)
+    requires { Ready (given tables.now) (length fc.old) }
+    ensures { let T = given tables.now in fc.new ≡ cond half_shifts_stay (transposed (shifts_of T) fc.old) (swapped (shifts_of T) 1 (0, 1) fc.old) }
 {
     for p in 0..n_patom {
-        transpose_row(
-            fc,
-            p2s,
-            s2pp,
-            nsym_list,
-            perms,
-            n_satom,
-            n_patom,
-            num_trans,
-            half_shifts_stay,
-            p,
-        );
+        transpose_row(fc, tables, half_shifts_stay, p);
     }
 }
 
 // The visits of the blocks of primitive atom p in the averaging.
-fn average_row(
-    fc: &mut [f64],
-    p2s: &[i64],
-    s2pp: &[i64],
-    nsym_list: &[i64],
-    perms: &[i64],
-    n_satom: usize,
-    n_patom: usize,
-    num_trans: usize,
-    p: usize,
-)
-    requires { let T : ShiftTables = shift_tables p2s.now s2pp.now nsym_list.now perms.now n_satom n_patom num_trans in Ready T (length fc.old) × (p < n_patom) }
-    ensures { let T : ShiftTables = shift_tables p2s.now s2pp.now nsym_list.now perms.now n_satom n_patom num_trans in fc.new ≡ times n_satom (average_visit (shifts_of T) p) fc.old }
+fn average_row(fc: &mut [f64], tables: &ShiftTables, p: usize)
+    requires { Ready (given tables.now) (length fc.old) × (p < tables.now.n_patom) }
+    ensures { fc.new ≡ times tables.now.n_satom (average_visit (shifts_of (given tables.now)) p) fc.old }
 {
-    let i = p2s_at(p2s, PrimAtom(p));
+    let i = tables.p2s_at(PrimAtom(p));
     for j in 0..n_satom {
-        average_visit(
-            fc,
-            p2s,
-            s2pp,
-            nsym_list,
-            perms,
-            n_satom,
-            n_patom,
-            num_trans,
-            PrimAtom(p),
-            i,
-            SuperAtom(j),
-        );
+        average_visit(fc, tables, PrimAtom(p), i, SuperAtom(j));
     }
 }
 
 // The whole set averaged.
-pub fn average_pass(
-    fc: &mut [f64],
-    p2s: &[i64],
-    s2pp: &[i64],
-    nsym_list: &[i64],
-    perms: &[i64],
-    n_satom: usize,
-    n_patom: usize,
-    num_trans: usize,
-)
-    requires { let T : ShiftTables = shift_tables p2s.now s2pp.now nsym_list.now perms.now n_satom n_patom num_trans in Ready T (length fc.old) }
-    ensures { let T : ShiftTables = shift_tables p2s.now s2pp.now nsym_list.now perms.now n_satom n_patom num_trans in fc.new ≡ averaged_compact (shifts_of T) fc.old }
+pub fn average_pass(fc: &mut [f64], tables: &ShiftTables)
+    requires { Ready (given tables.now) (length fc.old) }
+    ensures { fc.new ≡ averaged_compact (shifts_of (given tables.now)) fc.old }
 {
     for p in 0..n_patom {
-        average_row(
-            fc, p2s, s2pp, nsym_list, perms, n_satom, n_patom, num_trans, p,
-        );
+        average_row(fc, tables, p);
     }
 }

@@ -2,7 +2,7 @@
 ghost use Rattle.std.specs.Prelude.{◌≡◌, ◌<◌, ◌≤◌, length};
 ghost use Rattle.lists.specs.Digits.{horner, times_power};
 ghost use Rattle.tables.specs.Limits.{limit4};
-ghost use Rattle.tables.specs.Compact.{ShiftTables, shift_tables, shifts_of, TablesFit};
+ghost use Rattle.tables.specs.Compact.{shifts_of, TablesFit, given};
 ghost use Rattle.places.specs.Permutations.{perms4};
 ghost use Rattle.places.specs.WholeLaws.{full_shifts};
 ghost use Rattle.places.specs.ReadOuts.{Tables, stored_in};
@@ -13,30 +13,22 @@ ghost use Rattle.fc4.specs.Mean.{Blocks24};
 ghost use Rattle.fc4.specs.Blocks.{six_from, joined_of};
 ghost use Rattle.fc4.specs.Loops.{Marks24, taken_blocks};
 
+use tables::shift_tables::ShiftTables;
 use crate::groups::work_group;
 use places::{column_of, full4, row_of, stored_block4};
-use tables::atoms::{PrimAtom, SuperAtom, p2s_at};
+use tables::atoms::{PrimAtom, SuperAtom};
 
 // The blocks of the permutations that begin with atom w: the other atoms as xyz, xzy, yxz, yzx, zxy, zyx.
-fn six_from(
-    s2pp: &[i64],
-    nsym_list: &[i64],
-    perms: &[i64],
-    w: SuperAtom,
-    x: SuperAtom,
-    y: SuperAtom,
-    z: SuperAtom,
-    n_satom: usize,
-) -> [usize; 6]
-    requires { Tables n_satom s2pp.now nsym_list.now perms.now × (w.0 < n_satom) × (x.0 < n_satom) × (y.0 < n_satom) × (z.0 < n_satom) }
-    ensures { result ≡ six_from (stored_in n_satom s2pp.now nsym_list.now perms.now) w.0 x.0 y.0 z.0 }
+fn six_from(tables: &ShiftTables, w: SuperAtom, x: SuperAtom, y: SuperAtom, z: SuperAtom) -> [usize; 6]
+    requires { Tables tables.now.n_satom tables.now.s2pp.now tables.now.nsym_list.now tables.now.perms.now × (w.0 < tables.now.n_satom) × (x.0 < tables.now.n_satom) × (y.0 < tables.now.n_satom) × (z.0 < tables.now.n_satom) }
+    ensures { result ≡ six_from (stored_in tables.now.n_satom tables.now.s2pp.now tables.now.nsym_list.now tables.now.perms.now) w.0 x.0 y.0 z.0 }
 {
-    let xyz = stored_block4(s2pp, nsym_list, perms, w, x, y, z, n_satom);
-    let xzy = stored_block4(s2pp, nsym_list, perms, w, x, z, y, n_satom);
-    let yxz = stored_block4(s2pp, nsym_list, perms, w, y, x, z, n_satom);
-    let yzx = stored_block4(s2pp, nsym_list, perms, w, y, z, x, n_satom);
-    let zxy = stored_block4(s2pp, nsym_list, perms, w, z, x, y, n_satom);
-    let zyx = stored_block4(s2pp, nsym_list, perms, w, z, y, x, n_satom);
+    let xyz = stored_block4(tables, w, x, y, z);
+    let xzy = stored_block4(tables, w, x, z, y);
+    let yxz = stored_block4(tables, w, y, x, z);
+    let yzx = stored_block4(tables, w, y, z, x);
+    let zxy = stored_block4(tables, w, z, x, y);
+    let zyx = stored_block4(tables, w, z, y, x);
     [xyz, xzy, yxz, yzx, zxy, zyx]
 }
 
@@ -65,30 +57,21 @@ fn joined(a: [usize; 6], b: [usize; 6], c: [usize; 6], d: [usize; 6]) -> [usize;
 }
 
 // The blocks of the group of block b of a compact set, one for each of the 24 permutations.
-pub fn group_blocks(
-    p2s: &[i64],
-    s2pp: &[i64],
-    nsym_list: &[i64],
-    perms: &[i64],
-    n_satom: usize,
-    n_patom: usize,
-    num_trans: usize,
-    b: usize,
-) -> [usize; 24]
-    requires { let T : ShiftTables = shift_tables p2s.now s2pp.now nsym_list.now perms.now n_satom n_patom num_trans in TablesFit limit4 T × (b < times_power n_satom 3 n_patom) }
-    ensures { let T : ShiftTables = shift_tables p2s.now s2pp.now nsym_list.now perms.now n_satom n_patom num_trans in result ≡ group_blocks (shifts_of T) 3 perms4 b }
+pub fn group_blocks(tables: &ShiftTables, b: usize) -> [usize; 24]
+    requires { TablesFit limit4 (given tables.now) × (b < times_power tables.now.n_satom 3 tables.now.n_patom) }
+    ensures { result ≡ group_blocks (shifts_of (given tables.now)) 3 perms4 b }
 {
-    let l = SuperAtom(column_of(b, n_satom));
-    let pjk = row_of(b, n_satom);
-    let k = SuperAtom(column_of(pjk, n_satom));
-    let pj = row_of(pjk, n_satom);
-    let j = SuperAtom(column_of(pj, n_satom));
-    let p = PrimAtom(row_of(pj, n_satom));
-    let i = p2s_at(p2s, p);
-    let from_i = six_from(s2pp, nsym_list, perms, i, j, k, l, n_satom);
-    let from_j = six_from(s2pp, nsym_list, perms, j, i, k, l, n_satom);
-    let from_k = six_from(s2pp, nsym_list, perms, k, i, j, l, n_satom);
-    let from_l = six_from(s2pp, nsym_list, perms, l, i, j, k, n_satom);
+    let l = SuperAtom(column_of(b, tables.n_satom));
+    let pjk = row_of(b, tables.n_satom);
+    let k = SuperAtom(column_of(pjk, tables.n_satom));
+    let pj = row_of(pjk, tables.n_satom);
+    let j = SuperAtom(column_of(pj, tables.n_satom));
+    let p = PrimAtom(row_of(pj, tables.n_satom));
+    let i = tables.p2s_at(p);
+    let from_i = six_from(tables, i, j, k, l);
+    let from_j = six_from(tables, j, i, k, l);
+    let from_k = six_from(tables, k, i, j, l);
+    let from_l = six_from(tables, l, i, j, k);
     joined(from_i, from_j, from_k, from_l)
 }
 

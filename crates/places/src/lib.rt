@@ -6,7 +6,8 @@ ghost use Rattle.std.specs.Prelude.{◌≡◌, [], ◌∷◌, ◌+◌, ◌*◌, 
 ghost use Rattle.lists.specs.Digits.{horner};
 ghost use Rattle.places.specs.ReadOuts.{Tables, stored_in};
 
-use tables::atoms::{PrimAtom, SuperAtom, nsym_at, perms_at, s2pp_at};
+use tables::shift_tables::ShiftTables;
+use tables::atoms::{PrimAtom, SuperAtom};
 
 // One leg more: of the blocks that block b of the legs before it is divided into, one for each of n atoms, the one of atom a. A place in
 // a table of rows of n entries is the same sum, and so is a position inside a block, with directions for atoms. The number of every block
@@ -98,63 +99,39 @@ pub fn dir3(a: usize, b: usize, c: usize) -> usize
 }
 
 // Where the block of atoms i and j is stored: at s2pp[i] and where row nsym_list[i] sends j.
-pub fn stored_block2(
-    s2pp: &[i64],
-    nsym_list: &[i64],
-    perms: &[i64],
-    i: SuperAtom,
-    j: SuperAtom,
-    n_satom: usize,
-) -> usize
-    requires { Tables n_satom s2pp.now nsym_list.now perms.now × (i.0 < n_satom) × (j.0 < n_satom) }
-    ensures { result ≡ stored_in n_satom s2pp.now nsym_list.now perms.now i.0 (j.0 ∷ []) }
+pub fn stored_block2(tables: &ShiftTables, i: SuperAtom, j: SuperAtom) -> usize
+    requires { Tables tables.now.n_satom tables.now.s2pp.now tables.now.nsym_list.now tables.now.perms.now × (i.0 < tables.now.n_satom) × (j.0 < tables.now.n_satom) }
+    ensures { result ≡ stored_in tables.now.n_satom tables.now.s2pp.now tables.now.nsym_list.now tables.now.perms.now i.0 (j.0 ∷ []) }
 {
-    let t = nsym_at(nsym_list, i);
-    block2(s2pp_at(s2pp, i), perms_at(perms, n_satom, t, j), n_satom)
+    let t = tables.nsym_at(i);
+    block2(tables.s2pp_at(i), tables.perms_at(t, j), tables.n_satom)
 }
 
 // The same for atoms i, j and k, of which the row sends the last two.
-pub fn stored_block3(
-    s2pp: &[i64],
-    nsym_list: &[i64],
-    perms: &[i64],
-    i: SuperAtom,
-    j: SuperAtom,
-    k: SuperAtom,
-    n_satom: usize,
-) -> usize
-    requires { Tables n_satom s2pp.now nsym_list.now perms.now × (i.0 < n_satom) × (j.0 < n_satom) × (k.0 < n_satom) }
-    ensures { result ≡ stored_in n_satom s2pp.now nsym_list.now perms.now i.0 (j.0 ∷ k.0 ∷ []) }
+pub fn stored_block3(tables: &ShiftTables, i: SuperAtom, j: SuperAtom, k: SuperAtom) -> usize
+    requires { Tables tables.now.n_satom tables.now.s2pp.now tables.now.nsym_list.now tables.now.perms.now × (i.0 < tables.now.n_satom) × (j.0 < tables.now.n_satom) × (k.0 < tables.now.n_satom) }
+    ensures { result ≡ stored_in tables.now.n_satom tables.now.s2pp.now tables.now.nsym_list.now tables.now.perms.now i.0 (j.0 ∷ k.0 ∷ []) }
 {
-    let t = nsym_at(nsym_list, i);
+    let t = tables.nsym_at(i);
     block3(
-        s2pp_at(s2pp, i),
-        perms_at(perms, n_satom, t, j),
-        perms_at(perms, n_satom, t, k),
-        n_satom,
+        tables.s2pp_at(i),
+        tables.perms_at(t, j),
+        tables.perms_at(t, k),
+        tables.n_satom,
     )
 }
 
 // The same for atoms i, j, k and l.
-pub fn stored_block4(
-    s2pp: &[i64],
-    nsym_list: &[i64],
-    perms: &[i64],
-    i: SuperAtom,
-    j: SuperAtom,
-    k: SuperAtom,
-    l: SuperAtom,
-    n_satom: usize,
-) -> usize
-    requires { Tables n_satom s2pp.now nsym_list.now perms.now × (i.0 < n_satom) × (j.0 < n_satom) × (k.0 < n_satom) × (l.0 < n_satom) }
-    ensures { result ≡ stored_in n_satom s2pp.now nsym_list.now perms.now i.0 (j.0 ∷ k.0 ∷ l.0 ∷ []) }
+pub fn stored_block4(tables: &ShiftTables, i: SuperAtom, j: SuperAtom, k: SuperAtom, l: SuperAtom) -> usize
+    requires { Tables tables.now.n_satom tables.now.s2pp.now tables.now.nsym_list.now tables.now.perms.now × (i.0 < tables.now.n_satom) × (j.0 < tables.now.n_satom) × (k.0 < tables.now.n_satom) × (l.0 < tables.now.n_satom) }
+    ensures { result ≡ stored_in tables.now.n_satom tables.now.s2pp.now tables.now.nsym_list.now tables.now.perms.now i.0 (j.0 ∷ k.0 ∷ l.0 ∷ []) }
 {
-    let t = nsym_at(nsym_list, i);
+    let t = tables.nsym_at(i);
     block4(
-        s2pp_at(s2pp, i),
-        perms_at(perms, n_satom, t, j),
-        perms_at(perms, n_satom, t, k),
-        perms_at(perms, n_satom, t, l),
-        n_satom,
+        tables.s2pp_at(i),
+        tables.perms_at(t, j),
+        tables.perms_at(t, k),
+        tables.perms_at(t, l),
+        tables.n_satom,
     )
 }

@@ -7,35 +7,22 @@ pub mod fc3;
 pub mod fc4;
 
 ghost use Rattle.std.specs.Prelude.{◌≡◌, ◌≤◌};
-ghost use Rattle.tables.specs.Compact.{ShiftTables, shift_tables};
+ghost use Rattle.tables.specs.Compact.{given};
 ghost use Rattle.read_out.specs.ReadOut.{judged_read_out};
 
+use tables::shift_tables::ShiftTables;
 use tables::Refusal;
 
 // The guard of a compact set judges all but the full slice. A wrong length of that is refusal 2, unless a count is above its limit.
-pub fn judge(
-    limit: usize,
-    m: usize,
-    full_len: usize,
-    set_len: usize,
-    p2s: &[i64],
-    s2pp: &[i64],
-    nsym_list: &[i64],
-    perms: &[i64],
-    n_satom: usize,
-    n_patom: usize,
-    num_trans: usize,
-) -> Result<(), Refusal>
+pub fn judge(limit: usize, m: usize, full_len: usize, set_len: usize, tables: &ShiftTables) -> Result<(), Refusal>
     requires { (limit ≤ 1024) × (m ≤ 3) }
-    ensures { let T : ShiftTables = shift_tables p2s.now s2pp.now nsym_list.now perms.now n_satom n_patom num_trans in result ≡ judged_read_out limit m full_len set_len T }
+    ensures { result ≡ judged_read_out limit m full_len set_len (given tables.now) }
 {
-    let a = shifts::judge_set(
-        limit, m, set_len, p2s, s2pp, nsym_list, perms, n_satom, n_patom, num_trans,
-    );
+    let a = shifts::judge_set(limit, m, set_len, tables);
     if tables::number(a) == 1 {
         return a;
     }
-    if full_len == tables::sets::set_length(n_satom, n_satom, m) {
+    if full_len == tables::sets::set_length(tables.n_satom, tables.n_satom, m) {
         return a;
     }
     Err(Refusal::WrongLength)

@@ -4,8 +4,9 @@
 ghost use Rattle.std.specs.Prelude.{◌≡◌, false, [], ◌∷◌, ◌≤◌};
 ghost use Rattle.tables.specs.Conditions.{any_above, any_wrong};
 ghost use Rattle.tables.specs.Limits.{limit2};
-ghost use Rattle.tables.specs.Compact.{ShiftTables, shift_tables, table_lengths, tables_out_of_range, judged_entries, judged_tables, judged_set, judged_compact};
+ghost use Rattle.tables.specs.Compact.{table_lengths, tables_out_of_range, judged_entries, judged_tables, judged_set, judged_compact, given};
 
+use tables::shift_tables::ShiftTables;
 use tables::Refusal;
 use tables::index::all_below;
 use tables::limits::LIMIT2;
@@ -15,85 +16,61 @@ pub mod rows;
 mod rules;
 
 // 1: whether a count is above the limit.
-fn any_above(limit: usize, n_satom: usize, n_patom: usize, num_trans: usize) -> bool
-    ensures { result ≡ any_above limit (n_satom ∷ (n_patom ∷ (num_trans ∷ []))) }
+fn any_above(limit: usize, tables: &ShiftTables) -> bool
+    ensures { result ≡ any_above limit (tables.now.n_satom ∷ (tables.now.n_patom ∷ (tables.now.num_trans ∷ []))) }
 {
-    if n_satom > limit {
+    if tables.n_satom > limit {
         return true;
     }
-    if n_patom > limit {
+    if tables.n_patom > limit {
         return true;
     }
-    limit < num_trans
+    limit < tables.num_trans
 }
 
 // 2: whether a shift table is not as long as stated.
-fn any_wrong(
-    p2s: &[i64],
-    s2pp: &[i64],
-    nsym_list: &[i64],
-    perms: &[i64],
-    n_satom: usize,
-    n_patom: usize,
-    num_trans: usize,
-) -> bool
-    requires { (n_satom ≤ 1024) × (num_trans ≤ 1024) }
-    ensures { let T : ShiftTables = shift_tables p2s.now s2pp.now nsym_list.now perms.now n_satom n_patom num_trans in result ≡ any_wrong (table_lengths T) }
+fn any_wrong(tables: &ShiftTables) -> bool
+    requires { (tables.now.n_satom ≤ 1024) × (tables.now.num_trans ≤ 1024) }
+    ensures { result ≡ any_wrong (table_lengths (given tables.now)) }
 {
-    if perms.len() != num_trans * n_satom {
+    if tables.perms.len() != tables.num_trans * tables.n_satom {
         return true;
     }
-    if p2s.len() != n_patom {
+    if tables.p2s.len() != tables.n_patom {
         return true;
     }
-    if s2pp.len() != n_satom {
+    if tables.s2pp.len() != tables.n_satom {
         return true;
     }
-    nsym_list.len() != n_satom
+    tables.nsym_list.len() != tables.n_satom
 }
 
 // 3: whether a shift table holds an entry that is no index.
-fn any_out(
-    p2s: &[i64],
-    s2pp: &[i64],
-    nsym_list: &[i64],
-    perms: &[i64],
-    n_satom: usize,
-    n_patom: usize,
-    num_trans: usize,
-) -> bool
-    ensures { let T : ShiftTables = shift_tables p2s.now s2pp.now nsym_list.now perms.now n_satom n_patom num_trans in result ≡ tables_out_of_range T }
+fn any_out(tables: &ShiftTables) -> bool
+    ensures { result ≡ tables_out_of_range (given tables.now) }
 {
-    if !all_below(perms, n_satom) {
+    if !all_below(tables.perms, tables.n_satom) {
         return true;
     }
-    if !all_below(p2s, n_satom) {
+    if !all_below(tables.p2s, tables.n_satom) {
         return true;
     }
-    if !all_below(s2pp, n_patom) {
+    if !all_below(tables.s2pp, tables.n_patom) {
         return true;
     }
-    !all_below(nsym_list, num_trans)
+    !all_below(tables.nsym_list, tables.num_trans)
 }
 
 // 3 and 6, of tables that passed 1 and 2.
-fn judge_entries(
-    p2s: &[i64],
-    s2pp: &[i64],
-    nsym_list: &[i64],
-    perms: &[i64],
-    n_satom: usize,
-    n_patom: usize,
-    num_trans: usize,
-) -> Result<(), Refusal>
-    requires in_range { (n_satom ≤ 1024) × (n_patom ≤ 1024) × (num_trans ≤ 1024) }
-    requires in_range_2 { let T : ShiftTables = shift_tables p2s.now s2pp.now nsym_list.now perms.now n_satom n_patom num_trans in any_wrong (table_lengths T) ≡ false }
-    ensures { let T : ShiftTables = shift_tables p2s.now s2pp.now nsym_list.now perms.now n_satom n_patom num_trans in result ≡ judged_entries T }
+fn judge_entries(tables: &ShiftTables) -> Result<(), Refusal>
+    requires in_range { (tables.now.n_satom ≤ 1024) × (tables.now.n_patom ≤ 1024) × (tables.now.num_trans ≤ 1024) }
+    requires in_range_2 { any_wrong (table_lengths (given tables.now)) ≡ false }
+    ensures { result ≡ judged_entries (given tables.now) }
 {
-    if any_out(p2s, s2pp, nsym_list, perms, n_satom, n_patom, num_trans) {
+    if any_out(tables) {
         return Err(Refusal::IndexOutOfRange);
     }
-    if rules::keeps_rules(p2s, s2pp, nsym_list, perms, n_satom, n_patom, num_trans) {
+    if rules::keeps_rules(tables) {
         return Ok(());
     }
     Err(Refusal::BadShiftTables)
@@ -101,80 +78,45 @@ fn judge_entries(
 
 // Whether shift tables keep every rule of "Shift tables", for counts within the limit of second order, zero too:
 // refusal 1, 2, 3 or 6, or Done.
-pub fn check_shift_tables(
-    p2s: &[i64],
-    s2pp: &[i64],
-    nsym_list: &[i64],
-    perms: &[i64],
-    n_satom: usize,
-    n_patom: usize,
-    num_trans: usize,
-) -> Result<(), Refusal>
-    ensures { let T = shift_tables p2s.now s2pp.now nsym_list.now perms.now n_satom n_patom num_trans in
-        result ≡ judged_tables limit2 [] T }
+pub fn check_shift_tables(tables: &ShiftTables) -> Result<(), Refusal>
+    ensures { result ≡ judged_tables limit2 [] (given tables.now) }
 {
-    if any_above(LIMIT2, n_satom, n_patom, num_trans) {
+    if any_above(LIMIT2, tables) {
         return Err(Refusal::CountAboveLimit);
     }
-    if any_wrong(p2s, s2pp, nsym_list, perms, n_satom, n_patom, num_trans) {
+    if any_wrong(tables) {
         return Err(Refusal::WrongLength);
     }
-    judge_entries(p2s, s2pp, nsym_list, perms, n_satom, n_patom, num_trans)
+    judge_entries(tables)
 }
 
 // The guard of a call that brings a compact set of rank m + 1 and no other slice.
-pub fn judge_set(
-    limit: usize,
-    m: usize,
-    set_len: usize,
-    p2s: &[i64],
-    s2pp: &[i64],
-    nsym_list: &[i64],
-    perms: &[i64],
-    n_satom: usize,
-    n_patom: usize,
-    num_trans: usize,
-) -> Result<(), Refusal>
+pub fn judge_set(limit: usize, m: usize, set_len: usize, tables: &ShiftTables) -> Result<(), Refusal>
     requires { (limit ≤ 1024) × (m ≤ 3) }
-    ensures { let T : ShiftTables = shift_tables p2s.now s2pp.now nsym_list.now perms.now n_satom n_patom num_trans in result ≡ judged_set limit m set_len [] T }
+    ensures { result ≡ judged_set limit m set_len [] (given tables.now) }
 {
-    if any_above(limit, n_satom, n_patom, num_trans) {
+    if any_above(limit, tables) {
         return Err(Refusal::CountAboveLimit);
     }
-    if set_len != set_length(n_patom, n_satom, m) {
+    if set_len != set_length(tables.n_patom, tables.n_satom, m) {
         return Err(Refusal::WrongLength);
     }
-    if any_wrong(p2s, s2pp, nsym_list, perms, n_satom, n_patom, num_trans) {
+    if any_wrong(tables) {
         return Err(Refusal::WrongLength);
     }
-    judge_entries(p2s, s2pp, nsym_list, perms, n_satom, n_patom, num_trans)
+    judge_entries(tables)
 }
 
 // The same with a work slice of n_patom × n_satom^k entries. A wrong length of it is refusal 2, unless a count is above its limit.
-pub fn judge_compact(
-    limit: usize,
-    m: usize,
-    set_len: usize,
-    k: usize,
-    work_len: usize,
-    p2s: &[i64],
-    s2pp: &[i64],
-    nsym_list: &[i64],
-    perms: &[i64],
-    n_satom: usize,
-    n_patom: usize,
-    num_trans: usize,
-) -> Result<(), Refusal>
+pub fn judge_compact(limit: usize, m: usize, set_len: usize, k: usize, work_len: usize, tables: &ShiftTables) -> Result<(), Refusal>
     requires { (limit ≤ 1024) × (m ≤ 3) × (k ≤ 3) }
-    ensures { let T : ShiftTables = shift_tables p2s.now s2pp.now nsym_list.now perms.now n_satom n_patom num_trans in result ≡ judged_compact limit m set_len k work_len T }
+    ensures { result ≡ judged_compact limit m set_len k work_len (given tables.now) }
 {
-    let a = judge_set(
-        limit, m, set_len, p2s, s2pp, nsym_list, perms, n_satom, n_patom, num_trans,
-    );
+    let a = judge_set(limit, m, set_len, tables);
     if tables::number(a) == 1 {
         return a;
     }
-    if work_len == set_blocks(n_patom, n_satom, k) {
+    if work_len == set_blocks(tables.n_patom, tables.n_satom, k) {
         return a;
     }
     Err(Refusal::WrongLength)

@@ -5,6 +5,7 @@ use Rattle.std.proofs.Math.Path.{sym}
 use Rattle.std.proofs.Math.ListN.{get_or-map}
 use Rattle.lists.specs.Digits.{times_power, in_row}
 use Rattle.tables.specs.Answers.{Answer}
+use Rattle.tables.specs.declared.shift_tables.ShiftTables.{ShiftTables as GivenTables}
 use Rattle.tables.specs.declared.Refusal.TheVariants.{CountAboveLimit, WrongLength, IndexOutOfRange, BadShiftTables}
 use Rattle.tables.specs.Answers.{refuse_if}
 use Rattle.tables.specs.Conditions.{any_above, any_wrong, out_of_range, nat, index_at, IndexTable, or_false, not-wrong, read}
@@ -32,6 +33,10 @@ shift_tables p2s s2pp nsym_list perms n_satom n_patom num_trans = record {
   s2pp = s2pp;
   nsym_list = nsym_list;
 }
+
+-- the same from the program's own value
+abbrev pub given : GivenTables → ShiftTables
+given t = shift_tables t.p2s.now t.s2pp.now t.nsym_list.now t.perms.now t.n_satom t.n_patom t.num_trans
 
 -- the same with their entries read as numbers
 abbrev pub shifts_of : ShiftTables → Shifts

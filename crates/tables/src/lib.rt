@@ -9,6 +9,7 @@ pub mod atoms;
 pub mod index;
 pub mod limits;
 pub mod sets;
+pub mod shift_tables;
 
 // Document 01's six refusals and those that document 02 adds, by their numbers.
 #[derive(Clone, Copy)]

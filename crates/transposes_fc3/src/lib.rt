@@ -6,547 +6,190 @@
 pub mod exchanging;
 
 ghost use Rattle.std.specs.Prelude.{◌≡◌, false, cond, ◌+◌, ◌<◌, ◌≤◌, length};
-ghost use Rattle.tables.specs.Compact.{ShiftTables, shift_tables, shifts_of};
+ghost use Rattle.tables.specs.Compact.{shifts_of, given};
 ghost use Rattle.transposes_fc3.specs.Fc3.{transposed_by, transpose_compact_fc3};
 ghost use Rattle.orbits.specs.HalfShift.{Trading, PairAt};
 ghost use Rattle.orbits.specs.TrueTransposes.{swapped, legs3, true_transpose_compact_fc3};
 ghost use Rattle.transposes_fc3.specs.Fc3Loops.{Atoms, at3, exchange_at, row_t, slab_t, all_t};
 
+use tables::shift_tables::ShiftTables;
 use crate::exchanging::{exchange0, exchange1, exchange2};
 use lists::clear_bytes;
 use orbits::half_shifts::stays;
 use places::{block3, stored_block3};
 use shifts::judge_compact;
 use tables::Refusal;
-use tables::atoms::{PrimAtom, SuperAtom, p2s_at};
+use tables::atoms::{PrimAtom, SuperAtom};
 use tables::limits::LIMIT3;
 
 // One visit of type 0: block (p, j, k) and its counterpart change places at the lower one of them: i is p's representative.
-fn visit0(
-    fc3: &mut [f64],
-    p2s: &[i64],
-    s2pp: &[i64],
-    nsym_list: &[i64],
-    perms: &[i64],
-    n_satom: usize,
-    n_patom: usize,
-    num_trans: usize,
-    p: PrimAtom,
-    i: SuperAtom,
-    j: SuperAtom,
-    k: SuperAtom,
-)
-    requires { let T : ShiftTables = shift_tables p2s.now s2pp.now nsym_list.now perms.now n_satom n_patom num_trans in PairAt 2 (length fc3.old) T p.0 i.0 j.0 × (k.0 < n_satom) }
-    ensures { let T : ShiftTables = shift_tables p2s.now s2pp.now nsym_list.now perms.now n_satom n_patom num_trans in fc3.new ≡ exchange_at false T 0 (at3 T p.0 j.0 k.0) fc3.old }
+fn visit0(fc3: &mut [f64], tables: &ShiftTables, p: PrimAtom, i: SuperAtom, j: SuperAtom, k: SuperAtom)
+    requires { PairAt 2 (length fc3.old) (given tables.now) p.0 i.0 j.0 × (k.0 < tables.now.n_satom) }
+    ensures { let T = given tables.now in fc3.new ≡ exchange_at false T 0 (at3 T p.0 j.0 k.0) fc3.old }
 {
-    let n = block3(p, j, k, n_satom);
-    let o = stored_block3(s2pp, nsym_list, perms, j, i, k, n_satom);
+    let n = block3(p, j, k, tables.n_satom);
+    let o = stored_block3(tables, j, i, k);
     if n <= o {
         exchange0(fc3, n, o);
     }
 }
 
 // One visit of type 1: block (p, j, k) and its counterpart change places, unless they stay or were met at the lower one.
-fn visit1(
-    fc3: &mut [f64],
-    p2s: &[i64],
-    s2pp: &[i64],
-    nsym_list: &[i64],
-    perms: &[i64],
-    n_satom: usize,
-    n_patom: usize,
-    num_trans: usize,
-    half_shifts_stay: bool,
-    p: PrimAtom,
-    j: SuperAtom,
-    k: SuperAtom,
-)
-    requires trading { let T : ShiftTables = shift_tables p2s.now s2pp.now nsym_list.now perms.now n_satom n_patom num_trans in Trading 2 (length fc3.old) T }
-    requires atoms { let T : ShiftTables = shift_tables p2s.now s2pp.now nsym_list.now perms.now n_satom n_patom num_trans in Atoms T p.0 j.0 k.0 }
-    ensures { let T : ShiftTables = shift_tables p2s.now s2pp.now nsym_list.now perms.now n_satom n_patom num_trans in fc3.new ≡ exchange_at half_shifts_stay T 1 (at3 T p.0 j.0 k.0) fc3.old }
+fn visit1(fc3: &mut [f64], tables: &ShiftTables, half_shifts_stay: bool, p: PrimAtom, j: SuperAtom, k: SuperAtom)
+    requires trading { Trading 2 (length fc3.old) (given tables.now) }
+    requires atoms { Atoms (given tables.now) p.0 j.0 k.0 }
+    ensures { let T = given tables.now in fc3.new ≡ exchange_at half_shifts_stay T 1 (at3 T p.0 j.0 k.0) fc3.old }
 {
-    let n = block3(p, j, k, n_satom);
-    let i = p2s_at(p2s, p);
-    let o = stored_block3(s2pp, nsym_list, perms, k, j, i, n_satom);
+    let n = block3(p, j, k, tables.n_satom);
+    let i = tables.p2s_at(p);
+    let o = stored_block3(tables, k, j, i);
     if o < n {
         return;
     }
-    if stays(
-        p2s,
-        s2pp,
-        nsym_list,
-        perms,
-        n_satom,
-        n_patom,
-        num_trans,
-        half_shifts_stay,
-        p,
-        k,
-    ) {
+    if stays(tables, half_shifts_stay, p, k) {
         return;
     }
     exchange1(fc3, n, o);
 }
 
 // Type 2: blocks (p, j, k) and (p, k, j) change places. The first one is not the higher one where j ≤ k.
-fn visit2(
-    fc3: &mut [f64],
-    p2s: &[i64],
-    s2pp: &[i64],
-    nsym_list: &[i64],
-    perms: &[i64],
-    n_satom: usize,
-    n_patom: usize,
-    num_trans: usize,
-    p: PrimAtom,
-    j: SuperAtom,
-    k: SuperAtom,
-)
-    requires trading { let T : ShiftTables = shift_tables p2s.now s2pp.now nsym_list.now perms.now n_satom n_patom num_trans in Trading 2 (length fc3.old) T }
-    requires atoms { let T : ShiftTables = shift_tables p2s.now s2pp.now nsym_list.now perms.now n_satom n_patom num_trans in Atoms T p.0 j.0 k.0 × (j.0 ≤ k.0) }
-    ensures { let T : ShiftTables = shift_tables p2s.now s2pp.now nsym_list.now perms.now n_satom n_patom num_trans in fc3.new ≡ exchange_at false T 2 (at3 T p.0 j.0 k.0) fc3.old }
+fn visit2(fc3: &mut [f64], tables: &ShiftTables, p: PrimAtom, j: SuperAtom, k: SuperAtom)
+    requires trading { Trading 2 (length fc3.old) (given tables.now) }
+    requires atoms { Atoms (given tables.now) p.0 j.0 k.0 × (j.0 ≤ k.0) }
+    ensures { let T = given tables.now in fc3.new ≡ exchange_at false T 2 (at3 T p.0 j.0 k.0) fc3.old }
 {
-    let n = block3(p, j, k, n_satom);
-    let o = block3(p, k, j, n_satom);
+    let n = block3(p, j, k, tables.n_satom);
+    let o = block3(p, k, j, tables.n_satom);
     exchange2(fc3, n, o);
 }
 
 // Type 0: the blocks of a pair (p, j) that moves.
-fn line0(
-    fc3: &mut [f64],
-    p2s: &[i64],
-    s2pp: &[i64],
-    nsym_list: &[i64],
-    perms: &[i64],
-    n_satom: usize,
-    n_patom: usize,
-    num_trans: usize,
-    p: PrimAtom,
-    i: SuperAtom,
-    j: SuperAtom,
-)
-    requires { let T : ShiftTables = shift_tables p2s.now s2pp.now nsym_list.now perms.now n_satom n_patom num_trans in PairAt 2 (length fc3.old) T p.0 i.0 j.0 }
-    ensures { let T : ShiftTables = shift_tables p2s.now s2pp.now nsym_list.now perms.now n_satom n_patom num_trans in fc3.new ≡ row_t false T 0 p.0 j.0 fc3.old }
+fn line0(fc3: &mut [f64], tables: &ShiftTables, p: PrimAtom, i: SuperAtom, j: SuperAtom)
+    requires { PairAt 2 (length fc3.old) (given tables.now) p.0 i.0 j.0 }
+    ensures { fc3.new ≡ row_t false (given tables.now) 0 p.0 j.0 fc3.old }
 {
     for k in 0..n_satom {
-        visit0(
-            fc3,
-            p2s,
-            s2pp,
-            nsym_list,
-            perms,
-            n_satom,
-            n_patom,
-            num_trans,
-            p,
-            i,
-            j,
-            SuperAtom(k),
-        );
+        visit0(fc3, tables, p, i, j, SuperAtom(k));
     }
 }
 
 // Type 0: the blocks (p, j, 0), (p, j, 1), .. move or stay together.
-fn row0(
-    fc3: &mut [f64],
-    p2s: &[i64],
-    s2pp: &[i64],
-    nsym_list: &[i64],
-    perms: &[i64],
-    n_satom: usize,
-    n_patom: usize,
-    num_trans: usize,
-    half_shifts_stay: bool,
-    p: PrimAtom,
-    j: SuperAtom,
-)
-    requires trading { let T : ShiftTables = shift_tables p2s.now s2pp.now nsym_list.now perms.now n_satom n_patom num_trans in Trading 2 (length fc3.old) T }
-    requires in_range { (p.0 < n_patom) × (j.0 < n_satom) }
-    ensures { let T : ShiftTables = shift_tables p2s.now s2pp.now nsym_list.now perms.now n_satom n_patom num_trans in fc3.new ≡ row_t half_shifts_stay T 0 p.0 j.0 fc3.old }
+fn row0(fc3: &mut [f64], tables: &ShiftTables, half_shifts_stay: bool, p: PrimAtom, j: SuperAtom)
+    requires trading { Trading 2 (length fc3.old) (given tables.now) }
+    requires in_range { (p.0 < tables.now.n_patom) × (j.0 < tables.now.n_satom) }
+    ensures { fc3.new ≡ row_t half_shifts_stay (given tables.now) 0 p.0 j.0 fc3.old }
 {
-    if stays(
-        p2s,
-        s2pp,
-        nsym_list,
-        perms,
-        n_satom,
-        n_patom,
-        num_trans,
-        half_shifts_stay,
-        p,
-        j,
-    ) {
+    if stays(tables, half_shifts_stay, p, j) {
         return;
     }
-    let i = p2s_at(p2s, p);
-    line0(
-        fc3, p2s, s2pp, nsym_list, perms, n_satom, n_patom, num_trans, p, i, j,
-    );
+    let i = tables.p2s_at(p);
+    line0(fc3, tables, p, i, j);
 }
 
 // Type 1: the blocks (p, j, 0), (p, j, 1), ..
-fn row1(
-    fc3: &mut [f64],
-    p2s: &[i64],
-    s2pp: &[i64],
-    nsym_list: &[i64],
-    perms: &[i64],
-    n_satom: usize,
-    n_patom: usize,
-    num_trans: usize,
-    half_shifts_stay: bool,
-    p: PrimAtom,
-    j: SuperAtom,
-)
-    requires trading { let T : ShiftTables = shift_tables p2s.now s2pp.now nsym_list.now perms.now n_satom n_patom num_trans in Trading 2 (length fc3.old) T }
-    requires in_range { (p.0 < n_patom) × (j.0 < n_satom) }
-    ensures { let T : ShiftTables = shift_tables p2s.now s2pp.now nsym_list.now perms.now n_satom n_patom num_trans in fc3.new ≡ row_t half_shifts_stay T 1 p.0 j.0 fc3.old }
+fn row1(fc3: &mut [f64], tables: &ShiftTables, half_shifts_stay: bool, p: PrimAtom, j: SuperAtom)
+    requires trading { Trading 2 (length fc3.old) (given tables.now) }
+    requires in_range { (p.0 < tables.now.n_patom) × (j.0 < tables.now.n_satom) }
+    ensures { fc3.new ≡ row_t half_shifts_stay (given tables.now) 1 p.0 j.0 fc3.old }
 {
     for k in 0..n_satom {
-        visit1(
-            fc3,
-            p2s,
-            s2pp,
-            nsym_list,
-            perms,
-            n_satom,
-            n_patom,
-            num_trans,
-            half_shifts_stay,
-            p,
-            j,
-            SuperAtom(k),
-        );
+        visit1(fc3, tables, half_shifts_stay, p, j, SuperAtom(k));
     }
 }
 
 // Type 2: the blocks (p, j, j), (p, j, j + 1), .. change places with theirs; those before were met there.
-fn row2(
-    fc3: &mut [f64],
-    p2s: &[i64],
-    s2pp: &[i64],
-    nsym_list: &[i64],
-    perms: &[i64],
-    n_satom: usize,
-    n_patom: usize,
-    num_trans: usize,
-    p: PrimAtom,
-    j: SuperAtom,
-)
-    requires trading { let T : ShiftTables = shift_tables p2s.now s2pp.now nsym_list.now perms.now n_satom n_patom num_trans in Trading 2 (length fc3.old) T }
-    requires in_range { (p.0 < n_patom) × (j.0 < n_satom) }
-    ensures { let T : ShiftTables = shift_tables p2s.now s2pp.now nsym_list.now perms.now n_satom n_patom num_trans in fc3.new ≡ row_t false T 2 p.0 j.0 fc3.old }
+fn row2(fc3: &mut [f64], tables: &ShiftTables, p: PrimAtom, j: SuperAtom)
+    requires trading { Trading 2 (length fc3.old) (given tables.now) }
+    requires in_range { (p.0 < tables.now.n_patom) × (j.0 < tables.now.n_satom) }
+    ensures { fc3.new ≡ row_t false (given tables.now) 2 p.0 j.0 fc3.old }
 {
     for k in j.0..n_satom {
-        visit2(
-            fc3,
-            p2s,
-            s2pp,
-            nsym_list,
-            perms,
-            n_satom,
-            n_patom,
-            num_trans,
-            p,
-            j,
-            SuperAtom(k),
-        );
+        visit2(fc3, tables, p, j, SuperAtom(k));
     }
 }
 
 // Types 1 and 2, which exchange with the last leg.
-fn row_last(
-    fc3: &mut [f64],
-    p2s: &[i64],
-    s2pp: &[i64],
-    nsym_list: &[i64],
-    perms: &[i64],
-    n_satom: usize,
-    n_patom: usize,
-    num_trans: usize,
-    half_shifts_stay: bool,
-    t: usize,
-    p: PrimAtom,
-    j: SuperAtom,
-)
-    requires trading { let T : ShiftTables = shift_tables p2s.now s2pp.now nsym_list.now perms.now n_satom n_patom num_trans in Trading 2 (length fc3.old) T }
-    requires in_range { (p.0 < n_patom) × (j.0 < n_satom) × (t < 3) × (t ≡ 0 → ⊥) }
-    ensures { let T : ShiftTables = shift_tables p2s.now s2pp.now nsym_list.now perms.now n_satom n_patom num_trans in fc3.new ≡ row_t half_shifts_stay T t p.0 j.0 fc3.old }
+fn row_last(fc3: &mut [f64], tables: &ShiftTables, half_shifts_stay: bool, t: usize, p: PrimAtom, j: SuperAtom)
+    requires trading { Trading 2 (length fc3.old) (given tables.now) }
+    requires in_range { (p.0 < tables.now.n_patom) × (j.0 < tables.now.n_satom) × (t < 3) × (t ≡ 0 → ⊥) }
+    ensures { fc3.new ≡ row_t half_shifts_stay (given tables.now) t p.0 j.0 fc3.old }
 {
     if t == 1 {
-        row1(
-            fc3,
-            p2s,
-            s2pp,
-            nsym_list,
-            perms,
-            n_satom,
-            n_patom,
-            num_trans,
-            half_shifts_stay,
-            p,
-            j,
-        );
+        row1(fc3, tables, half_shifts_stay, p, j);
         return;
     }
-    row2(
-        fc3, p2s, s2pp, nsym_list, perms, n_satom, n_patom, num_trans, p, j,
-    );
+    row2(fc3, tables, p, j);
 }
 
 // The blocks (p, j, 0), (p, j, 1), .. by type, each type with a loop of its own: the type is then a constant where the blocks move.
-fn row(
-    fc3: &mut [f64],
-    p2s: &[i64],
-    s2pp: &[i64],
-    nsym_list: &[i64],
-    perms: &[i64],
-    n_satom: usize,
-    n_patom: usize,
-    num_trans: usize,
-    half_shifts_stay: bool,
-    t: usize,
-    p: PrimAtom,
-    j: SuperAtom,
-)
-    requires trading { let T : ShiftTables = shift_tables p2s.now s2pp.now nsym_list.now perms.now n_satom n_patom num_trans in Trading 2 (length fc3.old) T }
-    requires in_range { (p.0 < n_patom) × (j.0 < n_satom) × (t < 3) }
-    ensures { let T : ShiftTables = shift_tables p2s.now s2pp.now nsym_list.now perms.now n_satom n_patom num_trans in fc3.new ≡ row_t half_shifts_stay T t p.0 j.0 fc3.old }
+fn row(fc3: &mut [f64], tables: &ShiftTables, half_shifts_stay: bool, t: usize, p: PrimAtom, j: SuperAtom)
+    requires trading { Trading 2 (length fc3.old) (given tables.now) }
+    requires in_range { (p.0 < tables.now.n_patom) × (j.0 < tables.now.n_satom) × (t < 3) }
+    ensures { fc3.new ≡ row_t half_shifts_stay (given tables.now) t p.0 j.0 fc3.old }
 {
     if t == 0 {
-        row0(
-            fc3,
-            p2s,
-            s2pp,
-            nsym_list,
-            perms,
-            n_satom,
-            n_patom,
-            num_trans,
-            half_shifts_stay,
-            p,
-            j,
-        );
+        row0(fc3, tables, half_shifts_stay, p, j);
         return;
     }
-    row_last(
-        fc3,
-        p2s,
-        s2pp,
-        nsym_list,
-        perms,
-        n_satom,
-        n_patom,
-        num_trans,
-        half_shifts_stay,
-        t,
-        p,
-        j,
-    );
+    row_last(fc3, tables, half_shifts_stay, t, p, j);
 }
 
 // The blocks of slab p.
-fn slab(
-    fc3: &mut [f64],
-    p2s: &[i64],
-    s2pp: &[i64],
-    nsym_list: &[i64],
-    perms: &[i64],
-    n_satom: usize,
-    n_patom: usize,
-    num_trans: usize,
-    half_shifts_stay: bool,
-    t: usize,
-    p: PrimAtom,
-)
-    requires trading { let T : ShiftTables = shift_tables p2s.now s2pp.now nsym_list.now perms.now n_satom n_patom num_trans in Trading 2 (length fc3.old) T }
-    requires in_range { (p.0 < n_patom) × (t < 3) }
-    ensures { let T : ShiftTables = shift_tables p2s.now s2pp.now nsym_list.now perms.now n_satom n_patom num_trans in fc3.new ≡ slab_t half_shifts_stay T t p.0 fc3.old }
+fn slab(fc3: &mut [f64], tables: &ShiftTables, half_shifts_stay: bool, t: usize, p: PrimAtom)
+    requires trading { Trading 2 (length fc3.old) (given tables.now) }
+    requires in_range { (p.0 < tables.now.n_patom) × (t < 3) }
+    ensures { fc3.new ≡ slab_t half_shifts_stay (given tables.now) t p.0 fc3.old }
 {
     for j in 0..n_satom {
-        row(
-            fc3,
-            p2s,
-            s2pp,
-            nsym_list,
-            perms,
-            n_satom,
-            n_patom,
-            num_trans,
-            half_shifts_stay,
-            t,
-            p,
-            SuperAtom(j),
-        );
+        row(fc3, tables, half_shifts_stay, t, p, SuperAtom(j));
     }
 }
 
 // All blocks.
-fn slabs(
-    fc3: &mut [f64],
-    p2s: &[i64],
-    s2pp: &[i64],
-    nsym_list: &[i64],
-    perms: &[i64],
-    n_satom: usize,
-    n_patom: usize,
-    num_trans: usize,
-    half_shifts_stay: bool,
-    t: usize,
-)
-    requires trading { let T : ShiftTables = shift_tables p2s.now s2pp.now nsym_list.now perms.now n_satom n_patom num_trans in Trading 2 (length fc3.old) T }
+fn slabs(fc3: &mut [f64], tables: &ShiftTables, half_shifts_stay: bool, t: usize)
+    requires trading { Trading 2 (length fc3.old) (given tables.now) }
     requires in_range { t < 3 }
-    ensures { let T : ShiftTables = shift_tables p2s.now s2pp.now nsym_list.now perms.now n_satom n_patom num_trans in fc3.new ≡ all_t half_shifts_stay T t fc3.old }
+    ensures { fc3.new ≡ all_t half_shifts_stay (given tables.now) t fc3.old }
 {
     for p in 0..n_patom {
-        slab(
-            fc3,
-            p2s,
-            s2pp,
-            nsym_list,
-            perms,
-            n_satom,
-            n_patom,
-            num_trans,
-            half_shifts_stay,
-            t,
-            PrimAtom(p),
-        );
+        slab(fc3, tables, half_shifts_stay, t, PrimAtom(p));
     }
 }
 
 // The set by type: 0, 1 and 2 have a meaning, any other changes nothing.
-fn transpose(
-    fc3: &mut [f64],
-    p2s: &[i64],
-    s2pp: &[i64],
-    nsym_list: &[i64],
-    perms: &[i64],
-    n_satom: usize,
-    n_patom: usize,
-    num_trans: usize,
-    half_shifts_stay: bool,
-    t_type: i64,
-)
-    requires { let T : ShiftTables = shift_tables p2s.now s2pp.now nsym_list.now perms.now n_satom n_patom num_trans in Trading 2 (length fc3.old) T }
-    ensures { let T : ShiftTables = shift_tables p2s.now s2pp.now nsym_list.now perms.now n_satom n_patom num_trans in fc3.new ≡ cond half_shifts_stay (transposed_by (shifts_of T) t_type fc3.old) (swapped (shifts_of T) 2 (legs3 t_type) fc3.old) }
+fn transpose(fc3: &mut [f64], tables: &ShiftTables, half_shifts_stay: bool, t_type: i64)
+    requires { Trading 2 (length fc3.old) (given tables.now) }
+    ensures { let T = given tables.now in fc3.new ≡ cond half_shifts_stay (transposed_by (shifts_of T) t_type fc3.old) (swapped (shifts_of T) 2 (legs3 t_type) fc3.old) }
 {
     if t_type == 0 {
-        slabs(
-            fc3,
-            p2s,
-            s2pp,
-            nsym_list,
-            perms,
-            n_satom,
-            n_patom,
-            num_trans,
-            half_shifts_stay,
-            0,
-        );
+        slabs(fc3, tables, half_shifts_stay, 0);
         return;
     }
     if t_type == 1 {
-        slabs(
-            fc3,
-            p2s,
-            s2pp,
-            nsym_list,
-            perms,
-            n_satom,
-            n_patom,
-            num_trans,
-            half_shifts_stay,
-            1,
-        );
+        slabs(fc3, tables, half_shifts_stay, 1);
         return;
     }
     if t_type == 2 {
-        slabs(
-            fc3,
-            p2s,
-            s2pp,
-            nsym_list,
-            perms,
-            n_satom,
-            n_patom,
-            num_trans,
-            half_shifts_stay,
-            2,
-        );
+        slabs(fc3, tables, half_shifts_stay, 2);
     }
 }
 
 // Pairs of legs change places: type 0 legs 0 and 1, type 1 legs 0 and 2, type 2 legs 1 and 2. The work bytes come in with anything and are left with zeros.
-pub fn transpose_compact_fc3(
-    fc3: &mut [f64],
-    p2s: &[i64],
-    s2pp: &[i64],
-    nsym_list: &[i64],
-    perms: &[i64],
-    done: &mut [u8],
-    n_satom: usize,
-    n_patom: usize,
-    num_trans: usize,
-    t_type: i64,
-) -> Result<(), Refusal>
-    ensures { let T = shift_tables p2s.now s2pp.now nsym_list.now perms.now n_satom n_patom num_trans in
-        (result, fc3.new, done.new) ≡ transpose_compact_fc3 fc3.old T done.old t_type }
+pub fn transpose_compact_fc3(fc3: &mut [f64], tables: &ShiftTables, done: &mut [u8], t_type: i64) -> Result<(), Refusal>
+    ensures { (result, fc3.new, done.new) ≡ transpose_compact_fc3 fc3.old (given tables.now) done.old t_type }
 {
-    judge_compact(
-        LIMIT3,
-        2,
-        fc3.len(),
-        1,
-        done.len(),
-        p2s,
-        s2pp,
-        nsym_list,
-        perms,
-        n_satom,
-        n_patom,
-        num_trans,
-    )?;
-    transpose(
-        fc3, p2s, s2pp, nsym_list, perms, n_satom, n_patom, num_trans, true, t_type,
-    );
+    judge_compact(LIMIT3, 2, fc3.len(), 1, done.len(), tables)?;
+    transpose(fc3, tables, true, t_type);
     clear_bytes(done);
     Ok(())
 }
 
 // The same for every block, those of half shifts too.
-pub fn true_transpose_compact_fc3(
-    fc3: &mut [f64],
-    p2s: &[i64],
-    s2pp: &[i64],
-    nsym_list: &[i64],
-    perms: &[i64],
-    done: &mut [u8],
-    n_satom: usize,
-    n_patom: usize,
-    num_trans: usize,
-    t_type: i64,
-) -> Result<(), Refusal>
-    ensures { let T = shift_tables p2s.now s2pp.now nsym_list.now perms.now n_satom n_patom num_trans in
-        (result, fc3.new, done.new) ≡ true_transpose_compact_fc3 fc3.old T done.old t_type }
+pub fn true_transpose_compact_fc3(fc3: &mut [f64], tables: &ShiftTables, done: &mut [u8], t_type: i64) -> Result<(), Refusal>
+    ensures { (result, fc3.new, done.new) ≡ true_transpose_compact_fc3 fc3.old (given tables.now) done.old t_type }
 {
-    judge_compact(
-        LIMIT3,
-        2,
-        fc3.len(),
-        1,
-        done.len(),
-        p2s,
-        s2pp,
-        nsym_list,
-        perms,
-        n_satom,
-        n_patom,
-        num_trans,
-    )?;
-    transpose(
-        fc3, p2s, s2pp, nsym_list, perms, n_satom, n_patom, num_trans, false, t_type,
-    );
+    judge_compact(LIMIT3, 2, fc3.len(), 1, done.len(), tables)?;
+    transpose(fc3, tables, false, t_type);
     clear_bytes(done);
     Ok(())
 }

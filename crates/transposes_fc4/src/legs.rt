@@ -4,7 +4,7 @@
 // transpose of legs 0 and 1 leaves them.
 ghost use Rattle.std.specs.Prelude.{◌≡◌, false, ◌+◌, ◌*◌, ◌<◌, [], ◌∷◌, length, get_or};
 ghost use Rattle.lists.specs.Elements.{Below};
-ghost use Rattle.tables.specs.Compact.{ShiftTables, shift_tables};
+ghost use Rattle.tables.specs.Compact.{given};
 ghost use Rattle.places.specs.Permutations.{Permutation};
 ghost use Rattle.places.specs.ReadOuts.{Tables};
 ghost use Rattle.orbits.specs.Exchanging.{partner as partnerOf, exchanging};
@@ -13,11 +13,12 @@ ghost use Rattle.positions.specs.Positions.{address_table};
 ghost use Rattle.transposes_fc4.specs.Rows.{first_pairs, pair_rows, pair_row, taken_to};
 ghost use Rattle.transposes_fc4.specs.Loops.{Swap, at4, read_out_in, trade_at, line4, plane4, pairs4};
 
+use tables::shift_tables::ShiftTables;
 use crate::exchanging::exchange;
 use orbits::half_shifts::stays;
 use places::{block4, column_of, index_of, row_of, stored_block4};
 use positions::{addresses, entry};
-use tables::atoms::{PrimAtom, SuperAtom, p2s_at};
+use tables::atoms::{PrimAtom, SuperAtom};
 
 // Positions of the 27 pairs of numbers of a block that change places where its first two directions do, and of their partners 27 places on: (0, 1, c, d),
 // (0, 2, c, d) and (1, 2, c, d), and (1, 0, c, d), (2, 0, c, d) and (2, 1, c, d).
@@ -108,252 +109,82 @@ fn atom_at(w: &[usize; 4], o: &[usize; 4], k: usize) -> SuperAtom
 }
 
 // The counterpart of block (p, j, k, l): the read-out block of its atoms in the order o. i is p's representative.
-pub fn counterpart_of(
-    s2pp: &[i64],
-    nsym_list: &[i64],
-    perms: &[i64],
-    n_satom: usize,
-    o: &[usize; 4],
-    i: SuperAtom,
-    j: SuperAtom,
-    k: SuperAtom,
-    l: SuperAtom,
-) -> usize
-    requires { Tables n_satom s2pp.now nsym_list.now perms.now × Permutation 3 o.now × Below n_satom (i.0 ∷ (j.0 ∷ (k.0 ∷ (l.0 ∷ [])))) }
+pub fn counterpart_of(tables: &ShiftTables, o: &[usize; 4], i: SuperAtom, j: SuperAtom, k: SuperAtom, l: SuperAtom) -> usize
+    requires { Tables tables.now.n_satom tables.now.s2pp.now tables.now.nsym_list.now tables.now.perms.now × Permutation 3 o.now × Below tables.now.n_satom (i.0 ∷ (j.0 ∷ (k.0 ∷ (l.0 ∷ [])))) }
     ensures { result
-        ≡ read_out_in n_satom s2pp.now nsym_list.now perms.now o.now
+        ≡ read_out_in tables.now.n_satom tables.now.s2pp.now tables.now.nsym_list.now tables.now.perms.now o.now
         (i.0 ∷ (j.0 ∷ (k.0 ∷ (l.0 ∷ [])))) }
 {
     let w = [i.0, j.0, k.0, l.0];
-    stored_block4(
-        s2pp,
-        nsym_list,
-        perms,
-        atom_at(&w, o, 0),
-        atom_at(&w, o, 1),
-        atom_at(&w, o, 2),
-        atom_at(&w, o, 3),
-        n_satom,
-    )
+    stored_block4(tables, atom_at(&w, o, 0), atom_at(&w, o, 1), atom_at(&w, o, 2), atom_at(&w, o, 3))
 }
 
 // Block (p, j, k, l) and its counterpart: i is p's representative.
-fn trade(
-    fc4: &mut [f64],
-    p2s: &[i64],
-    s2pp: &[i64],
-    nsym_list: &[i64],
-    perms: &[i64],
-    n_satom: usize,
-    n_patom: usize,
-    num_trans: usize,
-    o: &[usize; 4],
-    m: &[u8; 54],
-    p: PrimAtom,
-    i: SuperAtom,
-    j: SuperAtom,
-    k: SuperAtom,
-    l: SuperAtom,
-)
-    requires pair_at { let T : ShiftTables = shift_tables p2s.now s2pp.now nsym_list.now perms.now n_satom n_patom num_trans in PairAt 3 (length fc4.old) T p.0 i.0 j.0 × Swap o.now m.now }
-    requires in_range { (k.0 < n_satom) × (l.0 < n_satom) }
-    ensures { let T : ShiftTables = shift_tables p2s.now s2pp.now nsym_list.now perms.now n_satom n_patom num_trans in fc4.new ≡ trade_at false o.now T (at4 T p.0 j.0 k.0 l.0) fc4.old }
+fn trade(fc4: &mut [f64], tables: &ShiftTables, o: &[usize; 4], m: &[u8; 54], p: PrimAtom, i: SuperAtom, j: SuperAtom, k: SuperAtom, l: SuperAtom)
+    requires pair_at { PairAt 3 (length fc4.old) (given tables.now) p.0 i.0 j.0 × Swap o.now m.now }
+    requires in_range { (k.0 < tables.now.n_satom) × (l.0 < tables.now.n_satom) }
+    ensures { let T = given tables.now in fc4.new ≡ trade_at false o.now T (at4 T p.0 j.0 k.0 l.0) fc4.old }
 {
-    let b = block4(p, j, k, l, n_satom);
-    let c = counterpart_of(s2pp, nsym_list, perms, n_satom, o, i, j, k, l);
+    let b = block4(p, j, k, l, tables.n_satom);
+    let c = counterpart_of(tables, o, i, j, k, l);
     if b <= c {
         exchange(fc4, o[0] == 1, m, b, c);
     }
 }
 
 // The blocks (p, j, k, 0), (p, j, k, 1), ..
-fn line(
-    fc4: &mut [f64],
-    p2s: &[i64],
-    s2pp: &[i64],
-    nsym_list: &[i64],
-    perms: &[i64],
-    n_satom: usize,
-    n_patom: usize,
-    num_trans: usize,
-    o: &[usize; 4],
-    m: &[u8; 54],
-    p: PrimAtom,
-    i: SuperAtom,
-    j: SuperAtom,
-    k: SuperAtom,
-)
-    requires pair_at { let T : ShiftTables = shift_tables p2s.now s2pp.now nsym_list.now perms.now n_satom n_patom num_trans in PairAt 3 (length fc4.old) T p.0 i.0 j.0 × Swap o.now m.now }
-    requires in_range { k.0 < n_satom }
-    ensures { let T : ShiftTables = shift_tables p2s.now s2pp.now nsym_list.now perms.now n_satom n_patom num_trans in fc4.new ≡ line4 false o.now T (p.0 * n_satom + j.0) k.0 fc4.old }
+fn line(fc4: &mut [f64], tables: &ShiftTables, o: &[usize; 4], m: &[u8; 54], p: PrimAtom, i: SuperAtom, j: SuperAtom, k: SuperAtom)
+    requires pair_at { PairAt 3 (length fc4.old) (given tables.now) p.0 i.0 j.0 × Swap o.now m.now }
+    requires in_range { k.0 < tables.now.n_satom }
+    ensures { fc4.new ≡ line4 false o.now (given tables.now) (p.0 * tables.now.n_satom + j.0) k.0 fc4.old }
 {
     for l in 0..n_satom {
-        trade(
-            fc4,
-            p2s,
-            s2pp,
-            nsym_list,
-            perms,
-            n_satom,
-            n_patom,
-            num_trans,
-            o,
-            m,
-            p,
-            i,
-            j,
-            k,
-            SuperAtom(l),
-        );
+        trade(fc4, tables, o, m, p, i, j, k, SuperAtom(l));
     }
 }
 
 // The blocks of pair (p, j).
-fn plane(
-    fc4: &mut [f64],
-    p2s: &[i64],
-    s2pp: &[i64],
-    nsym_list: &[i64],
-    perms: &[i64],
-    n_satom: usize,
-    n_patom: usize,
-    num_trans: usize,
-    o: &[usize; 4],
-    m: &[u8; 54],
-    p: PrimAtom,
-    i: SuperAtom,
-    j: SuperAtom,
-)
-    requires { let T : ShiftTables = shift_tables p2s.now s2pp.now nsym_list.now perms.now n_satom n_patom num_trans in PairAt 3 (length fc4.old) T p.0 i.0 j.0 × Swap o.now m.now }
-    ensures { let T : ShiftTables = shift_tables p2s.now s2pp.now nsym_list.now perms.now n_satom n_patom num_trans in fc4.new ≡ plane4 false o.now T (p.0 * n_satom + j.0) fc4.old }
+fn plane(fc4: &mut [f64], tables: &ShiftTables, o: &[usize; 4], m: &[u8; 54], p: PrimAtom, i: SuperAtom, j: SuperAtom)
+    requires { PairAt 3 (length fc4.old) (given tables.now) p.0 i.0 j.0 × Swap o.now m.now }
+    ensures { fc4.new ≡ plane4 false o.now (given tables.now) (p.0 * tables.now.n_satom + j.0) fc4.old }
 {
     for k in 0..n_satom {
-        line(
-            fc4,
-            p2s,
-            s2pp,
-            nsym_list,
-            perms,
-            n_satom,
-            n_patom,
-            num_trans,
-            o,
-            m,
-            p,
-            i,
-            j,
-            SuperAtom(k),
-        );
+        line(fc4, tables, o, m, p, i, j, SuperAtom(k));
     }
 }
 
 // Pair q: its atoms are a block's of second order.
-fn pair(
-    fc4: &mut [f64],
-    p2s: &[i64],
-    s2pp: &[i64],
-    nsym_list: &[i64],
-    perms: &[i64],
-    n_satom: usize,
-    n_patom: usize,
-    num_trans: usize,
-    half_shifts_stay: bool,
-    o: &[usize; 4],
-    m: &[u8; 54],
-    q: usize,
-)
-    requires { let T : ShiftTables = shift_tables p2s.now s2pp.now nsym_list.now perms.now n_satom n_patom num_trans in Trading 3 (length fc4.old) T × (q < n_patom * n_satom) × Swap o.now m.now }
-    ensures { let T : ShiftTables = shift_tables p2s.now s2pp.now nsym_list.now perms.now n_satom n_patom num_trans in fc4.new ≡ plane4 half_shifts_stay o.now T q fc4.old }
+fn pair(fc4: &mut [f64], tables: &ShiftTables, half_shifts_stay: bool, o: &[usize; 4], m: &[u8; 54], q: usize)
+    requires { Trading 3 (length fc4.old) (given tables.now) × (q < tables.now.n_patom * tables.now.n_satom) × Swap o.now m.now }
+    ensures { fc4.new ≡ plane4 half_shifts_stay o.now (given tables.now) q fc4.old }
 {
-    let first = row_of(q, n_satom);
-    let second = column_of(q, n_satom);
+    let first = row_of(q, tables.n_satom);
+    let second = column_of(q, tables.n_satom);
     let p = PrimAtom(first);
     let j = SuperAtom(second);
-    if stays(
-        p2s,
-        s2pp,
-        nsym_list,
-        perms,
-        n_satom,
-        n_patom,
-        num_trans,
-        half_shifts_stay,
-        p,
-        j,
-    ) {
+    if stays(tables, half_shifts_stay, p, j) {
         return;
     }
-    let i = p2s_at(p2s, p);
-    plane(
-        fc4, p2s, s2pp, nsym_list, perms, n_satom, n_patom, num_trans, o, m, p, i, j,
-    );
+    let i = tables.p2s_at(p);
+    plane(fc4, tables, o, m, p, i, j);
 }
 
 // All pairs.
-fn pairs(
-    fc4: &mut [f64],
-    p2s: &[i64],
-    s2pp: &[i64],
-    nsym_list: &[i64],
-    perms: &[i64],
-    n_satom: usize,
-    n_patom: usize,
-    num_trans: usize,
-    half_shifts_stay: bool,
-    o: &[usize; 4],
-    m: &[u8; 54],
-)
-    requires { let T : ShiftTables = shift_tables p2s.now s2pp.now nsym_list.now perms.now n_satom n_patom num_trans in Trading 3 (length fc4.old) T × Swap o.now m.now }
-    ensures { let T : ShiftTables = shift_tables p2s.now s2pp.now nsym_list.now perms.now n_satom n_patom num_trans in fc4.new ≡ pairs4 half_shifts_stay o.now T fc4.old }
+fn pairs(fc4: &mut [f64], tables: &ShiftTables, half_shifts_stay: bool, o: &[usize; 4], m: &[u8; 54])
+    requires { Trading 3 (length fc4.old) (given tables.now) × Swap o.now m.now }
+    ensures { fc4.new ≡ pairs4 half_shifts_stay o.now (given tables.now) fc4.old }
 {
-    for q in 0..n_patom * n_satom {
-        pair(
-            fc4,
-            p2s,
-            s2pp,
-            nsym_list,
-            perms,
-            n_satom,
-            n_patom,
-            num_trans,
-            half_shifts_stay,
-            o,
-            m,
-            q,
-        );
+    for q in 0..n_patom * tables.n_satom {
+        pair(fc4, tables, half_shifts_stay, o, m, q);
     }
 }
 
 // Legs a and b of every number, two different ones, change places, but for blocks that stay.
-pub fn exchange_legs(
-    fc4: &mut [f64],
-    p2s: &[i64],
-    s2pp: &[i64],
-    nsym_list: &[i64],
-    perms: &[i64],
-    n_satom: usize,
-    n_patom: usize,
-    num_trans: usize,
-    half_shifts_stay: bool,
-    leg_a: usize,
-    leg_b: usize,
-)
-    requires { let T : ShiftTables = shift_tables p2s.now s2pp.now nsym_list.now perms.now n_satom n_patom num_trans in Trading 3 (length fc4.old) T × (leg_a < 4) × (leg_b < 4) × (leg_a ≡ leg_b → ⊥) }
-    ensures { let T : ShiftTables = shift_tables p2s.now s2pp.now nsym_list.now perms.now n_satom n_patom num_trans in fc4.new ≡ pairs4 half_shifts_stay (exchanging 3 leg_a leg_b) T fc4.old }
+pub fn exchange_legs(fc4: &mut [f64], tables: &ShiftTables, half_shifts_stay: bool, leg_a: usize, leg_b: usize)
+    requires { Trading 3 (length fc4.old) (given tables.now) × (leg_a < 4) × (leg_b < 4) × (leg_a ≡ leg_b → ⊥) }
+    ensures { fc4.new ≡ pairs4 half_shifts_stay (exchanging 3 leg_a leg_b) (given tables.now) fc4.old }
 {
     let o = order_of(leg_a, leg_b);
     let m = pairs_of(leg_a, leg_b);
-    pairs(
-        fc4,
-        p2s,
-        s2pp,
-        nsym_list,
-        perms,
-        n_satom,
-        n_patom,
-        num_trans,
-        half_shifts_stay,
-        &o,
-        &m,
-    );
+    pairs(fc4, tables, half_shifts_stay, &o, &m);
 }

@@ -1,12 +1,13 @@
 // Every swap of two pairs (atom, direction) of a compact set of fourth order, the two legs named (document 02, A.2).
 ghost use Rattle.std.specs.Prelude.{◌≡◌, [], ◌∷◌, ◌<◌, length};
 ghost use Rattle.tables.specs.Conditions.{any_above};
-ghost use Rattle.tables.specs.Compact.{ShiftTables, shift_tables, shifts_of};
+ghost use Rattle.tables.specs.Compact.{shifts_of, given};
 ghost use Rattle.orbits.specs.HalfShift.{Trading};
 ghost use Rattle.orbits.specs.TrueTransposes.{swapped};
 ghost use Rattle.transposes_fc4.specs.Swaps.{swap_pairs_compact_fc4};
 ghost use Rattle.transposes_fc4.specs.Guard.{with_bad_leg, with_legs};
 
+use tables::shift_tables::ShiftTables;
 use crate::legs::exchange_legs;
 use lists::clear_bytes;
 use shifts::judge_compact;
@@ -51,65 +52,24 @@ fn judge_legs(t: Result<(), Refusal>, leg_a: usize, leg_b: usize) -> Result<(), 
 }
 
 // Two legs of every number change places; equal legs change nothing.
-fn swap(
-    fc4: &mut [f64],
-    p2s: &[i64],
-    s2pp: &[i64],
-    nsym_list: &[i64],
-    perms: &[i64],
-    n_satom: usize,
-    n_patom: usize,
-    num_trans: usize,
-    leg_a: usize,
-    leg_b: usize,
-)
-    requires { let T : ShiftTables = shift_tables p2s.now s2pp.now nsym_list.now perms.now n_satom n_patom num_trans in Trading 3 (length fc4.old) T × (leg_a < 4) × (leg_b < 4) }
-    ensures { let T : ShiftTables = shift_tables p2s.now s2pp.now nsym_list.now perms.now n_satom n_patom num_trans in fc4.new ≡ swapped (shifts_of T) 3 (leg_a, leg_b) fc4.old }
+fn swap(fc4: &mut [f64], tables: &ShiftTables, leg_a: usize, leg_b: usize)
+    requires { Trading 3 (length fc4.old) (given tables.now) × (leg_a < 4) × (leg_b < 4) }
+    ensures { fc4.new ≡ swapped (shifts_of (given tables.now)) 3 (leg_a, leg_b) fc4.old }
 {
     if leg_a == leg_b {
         return;
     }
-    exchange_legs(
-        fc4, p2s, s2pp, nsym_list, perms, n_satom, n_patom, num_trans, false, leg_a, leg_b,
-    );
+    exchange_legs(fc4, tables, false, leg_a, leg_b);
 }
 
 // Two of the four pairs (atom, direction) of every number change places, half shifts or not. With equal legs nothing moves. The work slice is not
 // needed here; it is left with zeros.
-pub fn swap_pairs_compact_fc4(
-    fc4: &mut [f64],
-    p2s: &[i64],
-    s2pp: &[i64],
-    nsym_list: &[i64],
-    perms: &[i64],
-    done: &mut [u8],
-    n_satom: usize,
-    n_patom: usize,
-    num_trans: usize,
-    leg_a: usize,
-    leg_b: usize,
-) -> Result<(), Refusal>
-    ensures { let T = shift_tables p2s.now s2pp.now nsym_list.now perms.now n_satom n_patom num_trans in
-        (result, fc4.new, done.new) ≡ swap_pairs_compact_fc4 fc4.old T done.old leg_a leg_b }
+pub fn swap_pairs_compact_fc4(fc4: &mut [f64], tables: &ShiftTables, done: &mut [u8], leg_a: usize, leg_b: usize) -> Result<(), Refusal>
+    ensures { (result, fc4.new, done.new) ≡ swap_pairs_compact_fc4 fc4.old (given tables.now) done.old leg_a leg_b }
 {
-    let t = judge_compact(
-        LIMIT4,
-        3,
-        fc4.len(),
-        1,
-        done.len(),
-        p2s,
-        s2pp,
-        nsym_list,
-        perms,
-        n_satom,
-        n_patom,
-        num_trans,
-    );
+    let t = judge_compact(LIMIT4, 3, fc4.len(), 1, done.len(), tables);
     judge_legs(t, leg_a, leg_b)?;
-    swap(
-        fc4, p2s, s2pp, nsym_list, perms, n_satom, n_patom, num_trans, leg_a, leg_b,
-    );
+    swap(fc4, tables, leg_a, leg_b);
     clear_bytes(done);
     Ok(())
 }

@@ -1,5 +1,5 @@
 use mathlib.Core.Path.{ap, ◌∙◌}
-use Rattle.tables.specs.Compact.{ShiftTables, shift_tables}
+use Rattle.tables.specs.Compact.{ShiftTables, given}
 use Rattle.explain.specs.Explain.{because as becauseOf}
 use Rattle.tables.specs.declared.Refusal.TheVariants.{CountAboveLimit, WrongLength}
 use Rattle.explain.specs.Guarded.{told_0, told_1, told_2, told_3, told_6}
@@ -8,7 +8,7 @@ use Rattle.explain.proofs.explain_shift_tables.Goals as goal
 pub returns-then-n-eq1 : goal.returns-then-n-eq1
 returns-then-n-eq1 c =
     let a = c.args in
-    let T : ShiftTables = shift_tables a.p2s.now a.s2pp.now a.nsym_list.now a.perms.now a.n_satom a.n_patom a.num_trans in
+    let T : ShiftTables = given a.tables.now in
     let ex = c.check_shift_tables-a.ensures in
     let ek = c.number-n.ensures in
     c.because.ensures ∙ ap (λ i. becauseOf CountAboveLimit i 0 0 0) c.first_above.ensures ∙ told_1 T ex ek c.if-n-eq1.true
@@ -16,7 +16,7 @@ returns-then-n-eq1 c =
 pub first_wrong-i-requires : goal.first_wrong-i-requires
 first_wrong-i-requires c =
     let a = c.args in
-    let T : ShiftTables = shift_tables a.p2s.now a.s2pp.now a.nsym_list.now a.perms.now a.n_satom a.n_patom a.num_trans in
+    let T : ShiftTables = given a.tables.now in
     let ex = c.check_shift_tables-a.ensures in
     let ek = c.number-n.ensures in
     let t = told_2 T ex ek c.if-n-eq2.true in
@@ -25,7 +25,7 @@ first_wrong-i-requires c =
 pub returns-then-n-eq2 : goal.returns-then-n-eq2
 returns-then-n-eq2 c =
     let a = c.args in
-    let T : ShiftTables = shift_tables a.p2s.now a.s2pp.now a.nsym_list.now a.perms.now a.n_satom a.n_patom a.num_trans in
+    let T : ShiftTables = given a.tables.now in
     let ex = c.check_shift_tables-a.ensures in
     let ek = c.number-n.ensures in
     c.because-then-n-eq2.ensures ∙ ap (λ i. becauseOf WrongLength i 0 0 0) c.first_wrong-i.ensures ∙ (told_2 T ex ek c.if-n-eq2.true).2
@@ -33,7 +33,7 @@ returns-then-n-eq2 c =
 pub returns-then-n-eq3 : goal.returns-then-n-eq3
 returns-then-n-eq3 c =
     let a = c.args in
-    let T : ShiftTables = shift_tables a.p2s.now a.s2pp.now a.nsym_list.now a.perms.now a.n_satom a.n_patom a.num_trans in
+    let T : ShiftTables = given a.tables.now in
     let ex = c.check_shift_tables-a.ensures in
     let ek = c.number-n.ensures in
     c.bad_entry.ensures ∙ told_3 T ex ek c.if-n-eq3.true
@@ -41,7 +41,7 @@ returns-then-n-eq3 c =
 pub broken_rule-requires : goal.broken_rule-requires
 broken_rule-requires c =
     let a = c.args in
-    let T : ShiftTables = shift_tables a.p2s.now a.s2pp.now a.nsym_list.now a.perms.now a.n_satom a.n_patom a.num_trans in
+    let T : ShiftTables = given a.tables.now in
     let ex = c.check_shift_tables-a.ensures in
     let ek = c.number-n.ensures in
     let t = told_6 T ex ek c.if-n-eq6.true in
@@ -50,7 +50,7 @@ broken_rule-requires c =
 pub returns-then-n-eq6 : goal.returns-then-n-eq6
 returns-then-n-eq6 c =
     let a = c.args in
-    let T : ShiftTables = shift_tables a.p2s.now a.s2pp.now a.nsym_list.now a.perms.now a.n_satom a.n_patom a.num_trans in
+    let T : ShiftTables = given a.tables.now in
     let ex = c.check_shift_tables-a.ensures in
     let ek = c.number-n.ensures in
     c.broken_rule.ensures ∙ (told_6 T ex ek c.if-n-eq6.true).2
@@ -58,7 +58,7 @@ returns-then-n-eq6 c =
 pub returns : goal.returns
 returns c =
     let a = c.args in
-    let T : ShiftTables = shift_tables a.p2s.now a.s2pp.now a.nsym_list.now a.perms.now a.n_satom a.n_patom a.num_trans in
+    let T : ShiftTables = given a.tables.now in
     let ex = c.check_shift_tables-a.ensures in
     let ek = c.number-n.ensures in
     told_0 T ex ek c.if-n-eq1.false c.if-n-eq2.false c.if-n-eq3.false c.if-n-eq6.false

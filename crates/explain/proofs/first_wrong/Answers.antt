@@ -5,7 +5,7 @@ use Rattle.shifts.proofs.Together.{product_small}
 use Rattle.explain.proofs.first_wrong.Goals as goal
 
 pub overflow_mul-num_trans : goal.overflow_mul-num_trans
-overflow_mul-num_trans c = omega (arith, product_small c.args.num_trans c.args.n_satom c.requires.1 c.requires.0)
+overflow_mul-num_trans c = omega (arith, product_small c.args.tables.now.num_trans c.args.tables.now.n_satom c.requires.1 c.requires.0)
 
 pub returns-then-perms-num_trans : goal.returns-then-perms-num_trans
 unfolding lowest

@@ -30,4 +30,4 @@ block3-requires c =
 pub returns : goal.returns
 returns c =
     let a = c.args in
-    rw (stored-read a.n_satom a.s2pp.now a.nsym_list.now a.perms.now a.i.0 (a.j.0 ∷ a.k.0 ∷ [])) cc
+    rw (stored-read a.tables.now.n_satom a.tables.now.s2pp.now a.tables.now.nsym_list.now a.tables.now.perms.now a.i.0 (a.j.0 ∷ a.k.0 ∷ [])) cc

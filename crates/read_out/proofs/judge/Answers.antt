@@ -1,7 +1,7 @@
 use mathlib.Core.Path.{sym, ◌∙◌}
 use native.Mathlib.Nat.{le_trans}
 use Rattle.tables.specs.Lengths.{set_length}
-use Rattle.tables.specs.Compact.{ShiftTables, shift_tables}
+use Rattle.tables.specs.Compact.{ShiftTables, given}
 use Rattle.tables.proofs.OneMoreLaws.{above_too, few-atoms, right_too, wrong-more}
 use Rattle.read_out.specs.ReadOut.{judged_read_out}
 use Rattle.read_out.proofs.judge.Goals as goal
@@ -13,15 +13,15 @@ pub returns-then-number-eq1 : goal.returns-then-number-eq1
 unfolding judged_read_out
 returns-then-number-eq1 c =
     let a = c.args in
-    let T : ShiftTables = shift_tables a.p2s.now a.s2pp.now a.nsym_list.now a.perms.now a.n_satom a.n_patom a.num_trans in
+    let T : ShiftTables = given a.tables.now in
     let j = c.judge_set-a in
-    above_too a.limit a.m a.set_len a.full_len (set_length a.n_satom a.n_satom a.m) T j.result j.ensures (sym c.number.ensures ∙ c.if-number-eq1.true)
+    above_too a.limit a.m a.set_len a.full_len (set_length a.tables.now.n_satom a.tables.now.n_satom a.m) T j.result j.ensures (sym c.number.ensures ∙ c.if-number-eq1.true)
 
 pub set_length-requires : goal.set_length-requires
 set_length-requires c =
     let a = c.args in
     let p = c.requires in
-    let T : ShiftTables = shift_tables a.p2s.now a.s2pp.now a.nsym_list.now a.perms.now a.n_satom a.n_patom a.num_trans in
+    let T : ShiftTables = given a.tables.now in
     let j = c.judge_set-a in
     let few = le_trans (few-atoms a.limit a.m a.set_len 0 0 T j.result j.ensures (λ e. c.if-number-eq1.false (c.number.ensures ∙ e))).0 p.0 in
     (few, few, p.1)
@@ -30,14 +30,14 @@ pub returns-then-full_len-set_length : goal.returns-then-full_len-set_length
 unfolding judged_read_out
 returns-then-full_len-set_length c =
     let a = c.args in
-    let T : ShiftTables = shift_tables a.p2s.now a.s2pp.now a.nsym_list.now a.perms.now a.n_satom a.n_patom a.num_trans in
+    let T : ShiftTables = given a.tables.now in
     let j = c.judge_set-a in
-    right_too a.limit a.m a.set_len a.full_len (set_length a.n_satom a.n_satom a.m) T j.result j.ensures (c.if-full_len-set_length.true ∙ c.set_length.ensures)
+    right_too a.limit a.m a.set_len a.full_len (set_length a.tables.now.n_satom a.tables.now.n_satom a.m) T j.result j.ensures (c.if-full_len-set_length.true ∙ c.set_length.ensures)
 
 pub returns : goal.returns
 unfolding judged_read_out
 returns c =
     let a = c.args in
-    let T : ShiftTables = shift_tables a.p2s.now a.s2pp.now a.nsym_list.now a.perms.now a.n_satom a.n_patom a.num_trans in
+    let T : ShiftTables = given a.tables.now in
     let j = c.judge_set-a in
-    wrong-more a.limit a.m a.set_len a.full_len (set_length a.n_satom a.n_satom a.m) T j.result j.ensures (λ e. c.if-number-eq1.false (c.number.ensures ∙ e)) (λ e. c.if-full_len-set_length.false (e ∙ sym c.set_length.ensures))
+    wrong-more a.limit a.m a.set_len a.full_len (set_length a.tables.now.n_satom a.tables.now.n_satom a.m) T j.result j.ensures (λ e. c.if-number-eq1.false (c.number.ensures ∙ e)) (λ e. c.if-full_len-set_length.false (e ∙ sym c.set_length.ensures))

@@ -1,7 +1,7 @@
 use mathlib.Core.Path.{sym, ◌∙◌}
 use native.Mathlib.Nat.{le_trans}
 use Rattle.tables.specs.Lengths.{set_blocks}
-use Rattle.tables.specs.Compact.{ShiftTables, shift_tables, judged_compact}
+use Rattle.tables.specs.Compact.{ShiftTables, judged_compact, given}
 use Rattle.tables.proofs.OneMoreLaws.{above_too, few-atoms, right_too, wrong-more}
 use Rattle.shifts.proofs.judge_compact.Goals as goal
 
@@ -12,15 +12,15 @@ pub returns-then-number-eq1 : goal.returns-then-number-eq1
 unfolding judged_compact
 returns-then-number-eq1 c =
     let a = c.args in
-    let T : ShiftTables = shift_tables a.p2s.now a.s2pp.now a.nsym_list.now a.perms.now a.n_satom a.n_patom a.num_trans in
+    let T : ShiftTables = given a.tables.now in
     let j = c.judge_set-a in
-    above_too a.limit a.m a.set_len a.work_len (set_blocks a.n_patom a.n_satom a.k) T j.result j.ensures (sym c.number.ensures ∙ c.if-number-eq1.true)
+    above_too a.limit a.m a.set_len a.work_len (set_blocks a.tables.now.n_patom a.tables.now.n_satom a.k) T j.result j.ensures (sym c.number.ensures ∙ c.if-number-eq1.true)
 
 pub set_blocks-requires : goal.set_blocks-requires
 set_blocks-requires c =
     let a = c.args in
     let p = c.requires in
-    let T : ShiftTables = shift_tables a.p2s.now a.s2pp.now a.nsym_list.now a.perms.now a.n_satom a.n_patom a.num_trans in
+    let T : ShiftTables = given a.tables.now in
     let j = c.judge_set-a in
     let few = few-atoms a.limit a.m a.set_len 0 0 T j.result j.ensures (λ e. c.if-number-eq1.false (c.number.ensures ∙ e)) in
     (le_trans few.1 p.0, le_trans few.0 p.0, p.2)
@@ -29,14 +29,14 @@ pub returns-then-work_len-set_blocks : goal.returns-then-work_len-set_blocks
 unfolding judged_compact
 returns-then-work_len-set_blocks c =
     let a = c.args in
-    let T : ShiftTables = shift_tables a.p2s.now a.s2pp.now a.nsym_list.now a.perms.now a.n_satom a.n_patom a.num_trans in
+    let T : ShiftTables = given a.tables.now in
     let j = c.judge_set-a in
-    right_too a.limit a.m a.set_len a.work_len (set_blocks a.n_patom a.n_satom a.k) T j.result j.ensures (c.if-work_len-set_blocks.true ∙ c.set_blocks.ensures)
+    right_too a.limit a.m a.set_len a.work_len (set_blocks a.tables.now.n_patom a.tables.now.n_satom a.k) T j.result j.ensures (c.if-work_len-set_blocks.true ∙ c.set_blocks.ensures)
 
 pub returns : goal.returns
 unfolding judged_compact
 returns c =
     let a = c.args in
-    let T : ShiftTables = shift_tables a.p2s.now a.s2pp.now a.nsym_list.now a.perms.now a.n_satom a.n_patom a.num_trans in
+    let T : ShiftTables = given a.tables.now in
     let j = c.judge_set-a in
-    wrong-more a.limit a.m a.set_len a.work_len (set_blocks a.n_patom a.n_satom a.k) T j.result j.ensures (λ e. c.if-number-eq1.false (c.number.ensures ∙ e)) (λ e. c.if-work_len-set_blocks.false (e ∙ sym c.set_blocks.ensures))
+    wrong-more a.limit a.m a.set_len a.work_len (set_blocks a.tables.now.n_patom a.tables.now.n_satom a.k) T j.result j.ensures (λ e. c.if-number-eq1.false (c.number.ensures ∙ e)) (λ e. c.if-work_len-set_blocks.false (e ∙ sym c.set_blocks.ensures))

@@ -1,5 +1,5 @@
 use mathlib.Core.Path.{◌≡◌, sym, ap, ◌∙◌}
-use Rattle.tables.specs.Compact.{shift_tables}
+use Rattle.tables.specs.Compact.{given}
 use Rattle.transposes_fc3.specs.Fc3Loops.{row_t}
 use Rattle.transposes_fc3.proofs.row.Goals as goal
 
@@ -9,7 +9,7 @@ row0-requires c = record { trading = c.requires.trading; in_range = (c.requires.
 pub returns-then-t-eq0 : goal.returns-then-t-eq0
 returns-then-t-eq0 c =
     let a = c.args in
-    let T = shift_tables a.p2s.now a.s2pp.now a.nsym_list.now a.perms.now a.n_satom a.n_patom a.num_trans in
+    let T = given a.tables.now in
     let e : a.t ≡ 0 = c.if-t-eq0.true in
     c.row0.ensures ∙ ap (λ t. row_t a.half_shifts_stay T t a.p.0 a.j.0 a.fc3.now) (sym e)
 

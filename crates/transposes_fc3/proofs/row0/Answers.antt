@@ -1,5 +1,5 @@
 use mathlib.Core.Path.{sym, ◌∙◌}
-use Rattle.tables.specs.Compact.{shift_tables}
+use Rattle.tables.specs.Compact.{given}
 use Rattle.orbits.specs.HalfShift.{rep-read}
 use Rattle.transposes_fc3.specs.Fc3Loops.{row_stays, row-moves}
 use Rattle.transposes_fc3.proofs.row0.Goals as goal
@@ -11,7 +11,7 @@ stays-requires c =
 pub returns-then-stays : goal.returns-then-stays
 returns-then-stays c =
     let a = c.args in
-    let T = shift_tables a.p2s.now a.s2pp.now a.nsym_list.now a.perms.now a.n_satom a.n_patom a.num_trans in
+    let T = given a.tables.now in
     row_stays a.half_shifts_stay T c.requires.trading.sound a.p.0 a.j.0 c.requires.in_range.0 c.requires.in_range.1 (sym c.stays.ensures ∙ c.if-stays.true) a.fc3.now
 
 pub p2s_at-i-requires : goal.p2s_at-i-requires
@@ -25,5 +25,5 @@ line0-requires c =
 pub returns : goal.returns
 returns c =
     let a = c.args in
-    let T = shift_tables a.p2s.now a.s2pp.now a.nsym_list.now a.perms.now a.n_satom a.n_patom a.num_trans in
+    let T = given a.tables.now in
     c.line0.ensures ∙ row-moves a.half_shifts_stay T c.requires.trading.sound a.p.0 a.j.0 c.requires.in_range.0 c.requires.in_range.1 (sym c.stays.ensures ∙ c.if-stays.false) a.fc3.now

@@ -21,5 +21,5 @@ pub returns : goal.returns
 unfolding row_t
 returns c =
     let l = c.loop-k in
-    let e : l.k ≡ c.args.n_satom = omega arith in
+    let e : l.k ≡ c.args.tables.now.n_satom = omega arith in
     l.invariant ∙ rw e

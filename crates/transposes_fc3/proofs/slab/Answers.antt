@@ -20,5 +20,5 @@ pub returns : goal.returns
 unfolding slab_t
 returns c =
     let l = c.loop-j in
-    let e : l.j ≡ c.args.n_satom = omega arith in
+    let e : l.j ≡ c.args.tables.now.n_satom = omega arith in
     l.invariant ∙ rw e

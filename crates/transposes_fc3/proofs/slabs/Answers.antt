@@ -20,5 +20,5 @@ pub returns : goal.returns
 unfolding all_t
 returns c =
     let l = c.loop-p in
-    let e : l.p ≡ c.args.n_patom = omega arith in
+    let e : l.p ≡ c.args.tables.now.n_patom = omega arith in
     l.invariant ∙ rw e

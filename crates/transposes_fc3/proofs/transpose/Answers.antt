@@ -4,28 +4,28 @@ use lib.Dec.{lit<}
 use lib.IntN.{pos}
 use mir.ValLaws.{to_z-of_z}
 use mir.Syntax.{w64}
-use Rattle.tables.specs.Compact.{shift_tables}
+use Rattle.tables.specs.Compact.{given}
 use Rattle.transposes_fc3.specs.Fc3Loops.{by_meaning, no_meaning}
 use Rattle.transposes_fc3.proofs.transpose.Goals as goal
 
 pub returns-then-t_type-eq0 : goal.returns-then-t_type-eq0
 returns-then-t_type-eq0 c =
     let a = c.args in
-    let T = shift_tables a.p2s.now a.s2pp.now a.nsym_list.now a.perms.now a.n_satom a.n_patom a.num_trans in
+    let T = given a.tables.now in
     let m : a.t_type ≡ pos 0 = sym (to_z-of_z w64 a.t_type c.ranges.t_type) ∙ ap (to_z w64) c.if-t_type-eq0.true in
     by_meaning a.half_shifts_stay T a.fc3.now c.requires 0 a.t_type (lit< tt) m c.slabs.ensures
 
 pub returns-then-t_type-eq1 : goal.returns-then-t_type-eq1
 returns-then-t_type-eq1 c =
     let a = c.args in
-    let T = shift_tables a.p2s.now a.s2pp.now a.nsym_list.now a.perms.now a.n_satom a.n_patom a.num_trans in
+    let T = given a.tables.now in
     let m : a.t_type ≡ pos 1 = sym (to_z-of_z w64 a.t_type c.ranges.t_type) ∙ ap (to_z w64) c.if-t_type-eq1.true in
     by_meaning a.half_shifts_stay T a.fc3.now c.requires 1 a.t_type (lit< tt) m c.slabs-then-t_type-eq1.ensures
 
 pub returns-then-t_type-eq2 : goal.returns-then-t_type-eq2
 returns-then-t_type-eq2 c =
     let a = c.args in
-    let T = shift_tables a.p2s.now a.s2pp.now a.nsym_list.now a.perms.now a.n_satom a.n_patom a.num_trans in
+    let T = given a.tables.now in
     let m : a.t_type ≡ pos 2 = sym (to_z-of_z w64 a.t_type c.ranges.t_type) ∙ ap (to_z w64) c.if-t_type-eq2.true in
     by_meaning a.half_shifts_stay T a.fc3.now c.requires 2 a.t_type (lit< tt) m c.slabs-then-t_type-eq2.ensures
 

@@ -2,7 +2,7 @@ use Prim.Native.Nat.{◌≤◌}
 use mathlib.Core.Bool.{false}
 use mathlib.Core.Path.{refl, ◌∙◌}
 use lib.Dec.{lit<}
-use Rattle.tables.specs.Compact.{shift_tables}
+use Rattle.tables.specs.Compact.{given}
 use Rattle.orbits.specs.HalfShift.{prim_small}
 use Rattle.transposes_fc3.specs.Fc3Loops.{at3, plain3, none_stays, other_2, rising, found_in, found-now}
 use Rattle.transposes_fc3.proofs.visit2.Goals as goal
@@ -22,7 +22,7 @@ exchange2-requires c =
     let a = c.args in
     let R = c.requires.trading in
     let at = c.requires.atoms.0 in
-    let T = shift_tables a.p2s.now a.s2pp.now a.nsym_list.now a.perms.now a.n_satom a.n_patom a.num_trans in
+    let T = given a.tables.now in
     let e = other_2 T R.sound a.p.0 a.j.0 a.k.0 at 2 c.block3-o.result refl c.block3-o.ensures in
     found_in false T R 2 a.p.0 a.j.0 a.k.0 (lit< tt) at _ _ c.block3-n.ensures e
 
@@ -31,8 +31,8 @@ returns c =
     let a = c.args in
     let R = c.requires.trading in
     let at = c.requires.atoms.0 in
-    let T = shift_tables a.p2s.now a.s2pp.now a.nsym_list.now a.perms.now a.n_satom a.n_patom a.num_trans in
+    let T = given a.tables.now in
     let e = other_2 T R.sound a.p.0 a.j.0 a.k.0 at 2 c.block3-o.result refl c.block3-o.ensures in
-    let n = a.n_satom in
+    let n = a.tables.now.n_satom in
     let l : c.block3-n.result ≤ c.block3-o.result = rw (c.block3-n.ensures ∙ plain3 n a.p.0 a.j.0 a.k.0, c.block3-o.ensures ∙ plain3 n a.p.0 a.k.0 a.j.0) (rising n a.p.0 a.j.0 a.k.0 c.requires.atoms.1 at.2) in
     found-now false T R 2 a.p.0 a.j.0 a.k.0 (lit< tt) at _ _ c.block3-n.ensures e l (none_stays T 2 (at3 T a.p.0 a.j.0 a.k.0) (lit< tt)) a.fc3.now c.exchange2.ensures

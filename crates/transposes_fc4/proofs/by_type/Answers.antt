@@ -5,7 +5,7 @@ use lib.IntN.{pos}
 use mir.Syntax.{w64}
 use mir.Val.{to_z, of_z}
 use mir.ValLaws.{to_z-of_z}
-use Rattle.tables.specs.Compact.{shift_tables, shifts_of}
+use Rattle.tables.specs.Compact.{shifts_of, given}
 use Rattle.transposes_fc4.specs.Fc4LoopLaws.{by_zero, by-other}
 use Rattle.transposes_fc4.proofs.by_type.Goals as goal
 
@@ -15,8 +15,8 @@ exchange_legs-requires c = (c.requires, lit< tt, lit< tt, λ e. omega (arith, e)
 pub returns-then-t_type-eq0 : goal.returns-then-t_type-eq0
 returns-then-t_type-eq0 c =
     let z : c.args.t_type ≡ pos 0 = sym (to_z-of_z w64 c.args.t_type c.ranges.t_type) ∙ ap (to_z w64) c.if-t_type-eq0.true in
-    c.exchange_legs.ensures ∙ by_zero c.args.half_shifts_stay (shift_tables c.args.p2s.now c.args.s2pp.now c.args.nsym_list.now c.args.perms.now c.args.n_satom c.args.n_patom c.args.num_trans) c.requires.sound.rules c.args.fc4.now c.requires.set-length c.args.t_type z
+    c.exchange_legs.ensures ∙ by_zero c.args.half_shifts_stay (given c.args.tables.now) c.requires.sound.rules c.args.fc4.now c.requires.set-length c.args.t_type z
 
 pub returns-else-t_type-eq0 : goal.returns-else-t_type-eq0
 returns-else-t_type-eq0 c =
-    by-other c.args.half_shifts_stay (shifts_of (shift_tables c.args.p2s.now c.args.s2pp.now c.args.nsym_list.now c.args.perms.now c.args.n_satom c.args.n_patom c.args.num_trans)) c.args.fc4.now c.args.t_type (λ z. c.if-t_type-eq0.false (ap (of_z w64) z))
+    by-other c.args.half_shifts_stay (shifts_of (given c.args.tables.now)) c.args.fc4.now c.args.t_type (λ z. c.if-t_type-eq0.false (ap (of_z w64) z))

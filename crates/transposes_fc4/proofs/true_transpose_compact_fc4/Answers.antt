@@ -4,7 +4,7 @@ use mathlib.Core.Path.{sym, ap, ◌∙◌}
 use lib.Dec.{lit≤}
 use mir.Syntax.{w64}
 use mir.ValLaws.{to_z-of_z}
-use Rattle.tables.specs.Compact.{shift_tables, shifts_of}
+use Rattle.tables.specs.Compact.{shifts_of, given}
 use Rattle.tables.specs.Limits.{limit4}
 use Rattle.orbits.specs.TrueTransposes.{swapped, legs4, true_transpose_compact_fc4}
 use Rattle.orbits.specs.Moved.{true_refused, true_ready, true_done}
@@ -24,4 +24,4 @@ pub returns : goal.returns
 unfolding true_transpose_compact_fc4
 returns c =
     true_done limit4 3 c.args.fc4.now _ c.args.done.now (legs4 c.args.t_type) c.judge_compact.result c.judge_compact.ensures (passes c.in_ok-judge_compact.was)
-    (c.by_type.ensures ∙ ap (λ t. swapped (shifts_of (shift_tables c.args.p2s.now c.args.s2pp.now c.args.nsym_list.now c.args.perms.now c.args.n_satom c.args.n_patom c.args.num_trans)) 3 (legs4 t) c.args.fc4.now) (to_z-of_z w64 c.args.t_type c.ranges.t_type)) c.clear_bytes.ensures
+    (c.by_type.ensures ∙ ap (λ t. swapped (shifts_of (given c.args.tables.now)) 3 (legs4 t) c.args.fc4.now) (to_z-of_z w64 c.args.t_type c.ranges.t_type)) c.clear_bytes.ensures

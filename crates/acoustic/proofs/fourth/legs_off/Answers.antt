@@ -1,7 +1,7 @@
 use native.Mathlib.Omega.{arith}
 use mathlib.Core.Path.{◌≡◌, refl, ap, ◌∙◌}
 use Rattle.lists.specs.Tab.{times, times_none, times_more}
-use Rattle.tables.specs.Compact.{ShiftTables, shift_tables, shifts_of}
+use Rattle.tables.specs.Compact.{ShiftTables, shifts_of, given}
 use Rattle.acoustic.specs.Acoustic.{without_drift, without_drifts}
 use Rattle.acoustic.proofs.fourth.legs_off.Goals as goal
 
@@ -18,7 +18,7 @@ pub returns : goal.returns
 unfolding without_drifts
 returns c =
     let a = c.args in
-    let T : ShiftTables = shift_tables a.p2s.now a.s2pp.now a.nsym_list.now a.perms.now a.n_satom a.n_patom a.num_trans in
+    let T : ShiftTables = given a.tables.now in
     let l = c.loop-leg in
     let e : l.leg ≡ 4 = omega (arith, c.loop-leg-test.false, l.invariant.0) in
     l.invariant.3 ∙ ap (λ k. times k (without_drift (shifts_of T) 3) a.fc4.now) e

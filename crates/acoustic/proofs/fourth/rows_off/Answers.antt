@@ -3,7 +3,7 @@ use native.Mathlib.Nat.{mul-le-mul}
 use native.Mathlib.Omega.{arith}
 use mathlib.Core.Path.{◌≡◌, refl, ap, ◌∙◌}
 use Rattle.lists.specs.Tab.{times, times_none, times_more}
-use Rattle.tables.specs.Compact.{ShiftTables, shift_tables, shifts_of}
+use Rattle.tables.specs.Compact.{ShiftTables, shifts_of, given}
 use Rattle.acoustic.specs.Laws.{row_less}
 use Rattle.acoustic.proofs.fourth.rows_off.Goals as goal
 
@@ -30,7 +30,7 @@ loop-row-preserved c = let l = c.loop-row in (omega arith, c.row_off.auto.fc4 �
 pub returns : goal.returns
 returns c =
     let a = c.args in
-    let T : ShiftTables = shift_tables a.p2s.now a.s2pp.now a.nsym_list.now a.perms.now a.n_satom a.n_patom a.num_trans in
+    let T : ShiftTables = given a.tables.now in
     let l = c.loop-row in
-    let e : l.row ≡ a.n_patom * a.n_satom * a.n_satom = omega (arith, c.loop-row-test.false, l.invariant.0) in
+    let e : l.row ≡ a.tables.now.n_patom * a.tables.now.n_satom * a.tables.now.n_satom = omega (arith, c.loop-row-test.false, l.invariant.0) in
     l.invariant.2 ∙ ap (λ k. times k (row_less (shifts_of T) 3 a.leg 81 a.drift.now) a.fc4.now) e

@@ -1,5 +1,5 @@
 use lib.ListN.{length}
-use Rattle.tables.specs.Compact.{ShiftTables, shift_tables, shifts_of}
+use Rattle.tables.specs.Compact.{ShiftTables, shifts_of, given}
 use Rattle.places.specs.Places.{perms4}
 use Rattle.fc4.specs.Mean24.{mean24}
 use Rattle.acoustic.specs.Calls.{one_level_lem}
@@ -12,5 +12,5 @@ legs_off-requires c = c.requires.work.room
 pub returns : goal.returns
 returns c =
     let a = c.args in
-    let T : ShiftTables = shift_tables a.p2s.now a.s2pp.now a.nsym_list.now a.perms.now a.n_satom a.n_patom a.num_trans in
+    let T : ShiftTables = given a.tables.now in
     one_level_lem mean24 (shifts_of T) 3 perms4 a.fc4.now c.legs_off.ensures (compact_call _ T a.done.now (length a.fc4.now) c.legs_off.auto.fc4 c.requires.passes c.set_permutation_symmetry_compact_fc4.ensures)

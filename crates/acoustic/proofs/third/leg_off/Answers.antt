@@ -1,4 +1,4 @@
-use Rattle.tables.specs.Compact.{ShiftTables, shift_tables}
+use Rattle.tables.specs.Compact.{ShiftTables, given}
 use Rattle.acoustic.specs.Laws.{leg3_made}
 use Rattle.acoustic.proofs.third.leg_off.Goals as goal
 
@@ -11,5 +11,5 @@ rows_off-requires c = (rw c.drifts.auto.drift c.requires.0, c.requires.1)
 pub returns : goal.returns
 returns c =
     let a = c.args in
-    let T : ShiftTables = shift_tables a.p2s.now a.s2pp.now a.nsym_list.now a.perms.now a.n_satom a.n_patom a.num_trans in
+    let T : ShiftTables = given a.tables.now in
     leg3_made T a.leg c.requires.1 a.fc3.now a.drift.now c.requires.0 c.drifts.ensures c.rows_off.ensures

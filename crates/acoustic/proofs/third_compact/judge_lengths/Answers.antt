@@ -3,7 +3,7 @@ use Prim.Native.Nat.{◌*◌}
 use native.Mathlib.Nat.{le_trans}
 use native.Mathlib.Omega.{arith}
 use lib.Dec.{lit≤}
-use Rattle.tables.specs.Compact.{ShiftTables, shift_tables}
+use Rattle.tables.specs.Compact.{ShiftTables, given}
 use Rattle.acoustic.specs.Calls.{above_too, few-atoms, right_too, wrong-more, drift27, few27}
 use Rattle.acoustic.proofs.third_compact.judge_lengths.Goals as goal
 
@@ -13,14 +13,14 @@ judge_compact-a-requires c = (lit≤ tt, lit≤ tt, lit≤ tt)
 pub returns-then-number-eq1 : goal.returns-then-number-eq1
 returns-then-number-eq1 c =
     let a = c.args in
-    let T : ShiftTables = shift_tables a.p2s.now a.s2pp.now a.nsym_list.now a.perms.now a.n_satom a.n_patom a.num_trans in
+    let T : ShiftTables = given a.tables.now in
     let j = c.judge_compact-a in
     above_too 256 2 a.set_len a.done_len a.drift_len T j.result j.ensures (sym c.number.ensures ∙ c.if-number-eq1.true)
 
 pub set_blocks-requires : goal.set_blocks-requires
 set_blocks-requires c =
     let a = c.args in
-    let T : ShiftTables = shift_tables a.p2s.now a.s2pp.now a.nsym_list.now a.perms.now a.n_satom a.n_patom a.num_trans in
+    let T : ShiftTables = given a.tables.now in
     let j = c.judge_compact-a in
     let few = few-atoms 256 2 a.set_len a.done_len 0 T j.result j.ensures (λ e. c.if-number-eq1.false (c.number.ensures ∙ e)) in
     (le_trans few.1 (lit≤ tt), le_trans few.0 (lit≤ tt), lit≤ tt)
@@ -28,23 +28,23 @@ set_blocks-requires c =
 pub overflow_mul-set_blocks : goal.overflow_mul-set_blocks
 overflow_mul-set_blocks c =
     let a = c.args in
-    let T : ShiftTables = shift_tables a.p2s.now a.s2pp.now a.nsym_list.now a.perms.now a.n_satom a.n_patom a.num_trans in
+    let T : ShiftTables = given a.tables.now in
     let j = c.judge_compact-a in
     let few = few-atoms 256 2 a.set_len a.done_len 0 T j.result j.ensures (λ e. c.if-number-eq1.false (c.number.ensures ∙ e)) in
-    let g = few27 a.n_patom a.n_satom (le_trans few.1 (lit≤ tt)) (le_trans few.0 (lit≤ tt)) in
+    let g = few27 a.tables.now.n_patom a.tables.now.n_satom (le_trans few.1 (lit≤ tt)) (le_trans few.0 (lit≤ tt)) in
     omega (arith, g, c.set_blocks.ensures)
 
 pub returns-then-drift_len-set_blocks : goal.returns-then-drift_len-set_blocks
 returns-then-drift_len-set_blocks c =
     let a = c.args in
-    let T : ShiftTables = shift_tables a.p2s.now a.s2pp.now a.nsym_list.now a.perms.now a.n_satom a.n_patom a.num_trans in
+    let T : ShiftTables = given a.tables.now in
     let j = c.judge_compact-a in
-    right_too 256 2 a.set_len a.done_len a.drift_len T j.result j.ensures (c.if-drift_len-set_blocks.true ∙ ap (λ x. x * 27) c.set_blocks.ensures ∙ drift27 a.n_patom a.n_satom)
+    right_too 256 2 a.set_len a.done_len a.drift_len T j.result j.ensures (c.if-drift_len-set_blocks.true ∙ ap (λ x. x * 27) c.set_blocks.ensures ∙ drift27 a.tables.now.n_patom a.tables.now.n_satom)
 
 pub returns : goal.returns
 returns c =
     let a = c.args in
-    let T : ShiftTables = shift_tables a.p2s.now a.s2pp.now a.nsym_list.now a.perms.now a.n_satom a.n_patom a.num_trans in
+    let T : ShiftTables = given a.tables.now in
     let j = c.judge_compact-a in
     wrong-more 256 2 a.set_len a.done_len a.drift_len T j.result j.ensures (λ e. c.if-number-eq1.false (c.number.ensures ∙ e))
-    (λ e. c.if-drift_len-set_blocks.false (e ∙ sym (ap (λ x. x * 27) c.set_blocks.ensures ∙ drift27 a.n_patom a.n_satom)))
+    (λ e. c.if-drift_len-set_blocks.false (e ∙ sym (ap (λ x. x * 27) c.set_blocks.ensures ∙ drift27 a.tables.now.n_patom a.tables.now.n_satom)))

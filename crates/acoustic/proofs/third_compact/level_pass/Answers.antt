@@ -1,4 +1,4 @@
-use Rattle.tables.specs.Compact.{ShiftTables, shift_tables, shifts_of}
+use Rattle.tables.specs.Compact.{ShiftTables, shifts_of, given}
 use Rattle.places.specs.Places.{perms3}
 use Rattle.orbits.specs.Symmetric.{mean6}
 use Rattle.acoustic.specs.Calls.{one_level_lem, compact_ready}
@@ -13,5 +13,5 @@ symmetrize-requires c = rw c.legs_off.auto.fc3 (compact_ready _ _ _ _ c.requires
 pub returns : goal.returns
 returns c =
     let a = c.args in
-    let T : ShiftTables = shift_tables a.p2s.now a.s2pp.now a.nsym_list.now a.perms.now a.n_satom a.n_patom a.num_trans in
+    let T : ShiftTables = given a.tables.now in
     one_level_lem mean6 (shifts_of T) 2 perms3 a.fc3.now c.legs_off.ensures c.symmetrize.ensures.0

@@ -1,7 +1,7 @@
 use native.Mathlib.Omega.{arith}
 use mathlib.Core.Path.{◌≡◌, refl, ap, ◌∙◌}
 use Rattle.lists.specs.Tab.{times, times_none, times_more}
-use Rattle.tables.specs.Compact.{ShiftTables, shift_tables, shifts_of}
+use Rattle.tables.specs.Compact.{ShiftTables, shifts_of, given}
 use Rattle.places.specs.Places.{perms3}
 use Rattle.orbits.specs.Symmetric.{mean6}
 use Rattle.acoustic.specs.Acoustic.{leveled}
@@ -21,7 +21,7 @@ loop-t-preserved c =
 pub returns : goal.returns
 returns c =
     let a = c.args in
-    let T : ShiftTables = shift_tables a.p2s.now a.s2pp.now a.nsym_list.now a.perms.now a.n_satom a.n_patom a.num_trans in
+    let T : ShiftTables = given a.tables.now in
     let l = c.loop-t in
     let e : l.t ≡ a.level = omega (arith, c.loop-t-test.false, l.invariant.0) in
     l.invariant.4 ∙ ap (λ k. times k (λ _. leveled mean6 (shifts_of T) 2 perms3) a.fc3.now) e

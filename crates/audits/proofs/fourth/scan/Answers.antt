@@ -5,7 +5,7 @@ use mathlib.Core.Path.{ap, ◌∙◌, subst}
 use borrow.Author.Rules.{rules}
 use Rattle.lists.specs.Digits.{times_power}
 use Rattle.tables.specs.Limits.{limit4}
-use Rattle.tables.specs.Compact.{ShiftTables, shift_tables, shifts_of}
+use Rattle.tables.specs.Compact.{ShiftTables, shifts_of, given}
 use Rattle.places.specs.Permutations.{perms4}
 use Rattle.audits.specs.Blocks.{alike-none, fits_w, all-passed}
 use Rattle.audits.proofs.BlocksLaws.{passed-w, some-w, found-w}
@@ -18,7 +18,7 @@ pub next-b-requires : goal.next-b-requires
 next-b-requires c =
     let R = c.requires in
     let a = c.args in
-    let T : ShiftTables = shift_tables a.p2s.now a.s2pp.now a.nsym_list.now a.perms.now a.n_satom a.n_patom a.num_trans in
+    let T : ShiftTables = given a.tables.now in
     let n = c.row_of-count.ensures ∙ block-count limit4 3 _ T R 81 in81 in
     (omega arith, blocks-few T R.fit n, blocks-some T n)
 
@@ -26,7 +26,7 @@ pub loop-b-init : goal.loop-b-init
 loop-b-init c =
     let R = c.requires in
     let a = c.args in
-    let T : ShiftTables = shift_tables a.p2s.now a.s2pp.now a.nsym_list.now a.perms.now a.n_satom a.n_patom a.num_trans in
+    let T : ShiftTables = given a.tables.now in
     let n = c.row_of-count.ensures ∙ block-count limit4 3 _ T R 81 in81 in
     let x = c.next-b.ensures in
     (x.to, walked (shifts_of T) R.rules a.fc.now x n (alike-none _ _ _ _))
@@ -35,10 +35,10 @@ pub group_blocks-bs-requires : goal.group_blocks-bs-requires
 group_blocks-bs-requires c =
     let R = c.requires in
     let a = c.args in
-    let T : ShiftTables = shift_tables a.p2s.now a.s2pp.now a.nsym_list.now a.perms.now a.n_satom a.n_patom a.num_trans in
+    let T : ShiftTables = given a.tables.now in
     let l = c.loop-b in
     let n = c.row_of-count.ensures ∙ block-count limit4 3 _ T R 81 in81 in
-    let hb : l.b < times_power a.n_satom 3 a.n_patom = subst (λ (x : ℕ). l.b < x) n c.loop-b-test.true in
+    let hb : l.b < times_power a.tables.now.n_satom 3 a.tables.now.n_patom = subst (λ (x : ℕ). l.b < x) n c.loop-b-test.true in
     let O = orders c.addresses-t.ensures in
     (R.fit, hb)
 
@@ -46,10 +46,10 @@ pub look-k-requires : goal.look-k-requires
 look-k-requires c =
     let R = c.requires in
     let a = c.args in
-    let T : ShiftTables = shift_tables a.p2s.now a.s2pp.now a.nsym_list.now a.perms.now a.n_satom a.n_patom a.num_trans in
+    let T : ShiftTables = given a.tables.now in
     let l = c.loop-b in
     let n = c.row_of-count.ensures ∙ block-count limit4 3 _ T R 81 in81 in
-    let hb : l.b < times_power a.n_satom 3 a.n_patom = subst (λ (x : ℕ). l.b < x) n c.loop-b-test.true in
+    let hb : l.b < times_power a.tables.now.n_satom 3 a.tables.now.n_patom = subst (λ (x : ℕ). l.b < x) n c.loop-b-test.true in
     let O = orders c.addresses-t.ensures in
     fits_w (shifts_of T) R.rules 3 perms4 _ O a.fc.now R.set-length 81 in81 l.b hb _ c.group_blocks-bs.ensures
 
@@ -57,10 +57,10 @@ pub difference-requires : goal.difference-requires
 difference-requires c =
     let R = c.requires in
     let a = c.args in
-    let T : ShiftTables = shift_tables a.p2s.now a.s2pp.now a.nsym_list.now a.perms.now a.n_satom a.n_patom a.num_trans in
+    let T : ShiftTables = given a.tables.now in
     let l = c.loop-b in
     let n = c.row_of-count.ensures ∙ block-count limit4 3 _ T R 81 in81 in
-    let hb : l.b < times_power a.n_satom 3 a.n_patom = subst (λ (x : ℕ). l.b < x) n c.loop-b-test.true in
+    let hb : l.b < times_power a.tables.now.n_satom 3 a.tables.now.n_patom = subst (λ (x : ℕ). l.b < x) n c.loop-b-test.true in
     let O = orders c.addresses-t.ensures in
     let eb = c.group_blocks-bs.ensures in (
       fits_w (shifts_of T) R.rules 3 perms4 _ O a.fc.now R.set-length 81 in81 l.b hb _ eb,
@@ -72,10 +72,10 @@ pub returns-then-k-lt81 : goal.returns-then-k-lt81
 returns-then-k-lt81 c =
     let R = c.requires in
     let a = c.args in
-    let T : ShiftTables = shift_tables a.p2s.now a.s2pp.now a.nsym_list.now a.perms.now a.n_satom a.n_patom a.num_trans in
+    let T : ShiftTables = given a.tables.now in
     let l = c.loop-b in
     let n = c.row_of-count.ensures ∙ block-count limit4 3 _ T R 81 in81 in
-    let hb : l.b < times_power a.n_satom 3 a.n_patom = subst (λ (x : ℕ). l.b < x) n c.loop-b-test.true in
+    let hb : l.b < times_power a.tables.now.n_satom 3 a.tables.now.n_patom = subst (λ (x : ℕ). l.b < x) n c.loop-b-test.true in
     let O = orders c.addresses-t.ensures in
     let eb = c.group_blocks-bs.ensures in
     ap (λ d. Ok (Some d)) c.difference.ensures
@@ -85,7 +85,7 @@ pub next-b-requires-in-loop-b : goal.next-b-requires-in-loop-b
 next-b-requires-in-loop-b c =
     let R = c.requires in
     let a = c.args in
-    let T : ShiftTables = shift_tables a.p2s.now a.s2pp.now a.nsym_list.now a.perms.now a.n_satom a.n_patom a.num_trans in
+    let T : ShiftTables = given a.tables.now in
     let n = c.row_of-count.ensures ∙ block-count limit4 3 _ T R 81 in81 in
     let g = c.loop-b-test.true in
     (omega arith, blocks-few T R.fit n, blocks-some T n)
@@ -97,10 +97,10 @@ pub loop-b-preserved : goal.loop-b-preserved
 loop-b-preserved c =
     let R = c.requires in
     let a = c.args in
-    let T : ShiftTables = shift_tables a.p2s.now a.s2pp.now a.nsym_list.now a.perms.now a.n_satom a.n_patom a.num_trans in
+    let T : ShiftTables = given a.tables.now in
     let l = c.loop-b in
     let n = c.row_of-count.ensures ∙ block-count limit4 3 _ T R 81 in81 in
-    let hb : l.b < times_power a.n_satom 3 a.n_patom = subst (λ (x : ℕ). l.b < x) n c.loop-b-test.true in
+    let hb : l.b < times_power a.tables.now.n_satom 3 a.tables.now.n_patom = subst (λ (x : ℕ). l.b < x) n c.loop-b-test.true in
     let O = orders c.addresses-t.ensures in
     let eb = c.group_blocks-bs.ensures in
     let x = c.next-b-in-loop-b.ensures in
@@ -110,8 +110,8 @@ pub returns : goal.returns
 returns c =
     let R = c.requires in
     let a = c.args in
-    let T : ShiftTables = shift_tables a.p2s.now a.s2pp.now a.nsym_list.now a.perms.now a.n_satom a.n_patom a.num_trans in
+    let T : ShiftTables = given a.tables.now in
     let l = c.loop-b in
     let n = c.row_of-count.ensures ∙ block-count limit4 3 _ T R 81 in81 in
-    let hb : times_power a.n_satom 3 a.n_patom ≤ l.b = subst (λ (x : ℕ). x ≤ l.b) n c.loop-b-test.false in
+    let hb : times_power a.tables.now.n_satom 3 a.tables.now.n_patom ≤ l.b = subst (λ (x : ℕ). x ≤ l.b) n c.loop-b-test.false in
     all-passed (shifts_of T) R.rules 3 perms4 _ (orders c.addresses-t.ensures) a.fc.now R.set-length l.b hb l.invariant.1

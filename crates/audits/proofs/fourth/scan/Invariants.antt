@@ -1,12 +1,12 @@
 use Prim.Native.Nat.{◌-◌, ◌≤◌}
-use Rattle.tables.specs.Compact.{shift_tables, shifts_of}
+use Rattle.tables.specs.Compact.{shifts_of, given}
 use Rattle.places.specs.Permutations.{perms4}
 use Rattle.audits.specs.Blocks.{AlikeTo}
 use Rattle.audits.proofs.fourth.scan.Given as goal
 
 abbrev pub invariant-loop-b : goal.invariant-loop-b
 invariant-loop-b l =
-    (l.b ≤ l.count) × AlikeTo (shifts_of (shift_tables l.p2s l.s2pp l.nsym_list l.perms l.n_satom l.n_patom l.num_trans)) 3 perms4 l.fc l.b
+    (l.b ≤ l.count) × AlikeTo (shifts_of (given l.tables)) 3 perms4 l.fc l.b
 
 abbrev pub decreases-loop-b : goal.decreases-loop-b
 decreases-loop-b l = l.count - l.b

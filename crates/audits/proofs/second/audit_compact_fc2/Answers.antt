@@ -3,7 +3,7 @@ use mathlib.Core.Path.{sym, ◌∙◌}
 use lib.Dec.{lit≤}
 use lib.ListN.{length}
 use Rattle.tables.specs.Limits.{limit2}
-use Rattle.tables.specs.Compact.{shift_tables}
+use Rattle.tables.specs.Compact.{given}
 use Rattle.places.specs.Permutations.{perms2}
 use Rattle.audits.specs.Guard.{ready_compact, compact_refused, compact_done}
 use Rattle.audits.proofs.second.audit_compact_fc2.Goals as goal
@@ -16,14 +16,14 @@ returns-in_err-judge_set c =
     let s = c.args in
     let a = s in
     let p = err_from_is_err_and c.from_residual.result c.from_residual.ensures.1 in
-    rw (p.1, p.2) (compact_refused limit2 1 perms2 a.fc.now (shift_tables a.p2s.now a.s2pp.now a.nsym_list.now a.perms.now a.n_satom a.n_patom a.num_trans) _ (sym c.judge_set.ensures ∙ c.in_err-judge_set.was))
+    rw (p.1, p.2) (compact_refused limit2 1 perms2 a.fc.now (given a.tables.now) _ (sym c.judge_set.ensures ∙ c.in_err-judge_set.was))
 
 pub settle-requires : goal.settle-requires
 settle-requires c =
     let a = c.args in
-    ready_compact limit2 1 (length a.fc.now) (shift_tables a.p2s.now a.s2pp.now a.nsym_list.now a.perms.now a.n_satom a.n_patom a.num_trans) (sym c.judge_set.ensures ∙ c.in_ok-judge_set.was)
+    ready_compact limit2 1 (length a.fc.now) (given a.tables.now) (sym c.judge_set.ensures ∙ c.in_ok-judge_set.was)
 
 pub returns : goal.returns
 returns c =
     let a = c.args in
-    compact_done limit2 1 perms2 a.fc.now (shift_tables a.p2s.now a.s2pp.now a.nsym_list.now a.perms.now a.n_satom a.n_patom a.num_trans) (sym c.judge_set.ensures ∙ c.in_ok-judge_set.was) c.settle.ensures
+    compact_done limit2 1 perms2 a.fc.now (given a.tables.now) (sym c.judge_set.ensures ∙ c.in_ok-judge_set.was) c.settle.ensures

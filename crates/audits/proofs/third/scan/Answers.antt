@@ -4,7 +4,7 @@ use mathlib.Core.Path.{ap, ◌∙◌, subst}
 use borrow.Author.Rules.{rules}
 use Rattle.lists.specs.Digits.{times_power}
 use Rattle.tables.specs.Limits.{limit3}
-use Rattle.tables.specs.Compact.{ShiftTables, shift_tables, shifts_of}
+use Rattle.tables.specs.Compact.{ShiftTables, shifts_of, given}
 use Rattle.places.specs.Permutations.{perms3}
 use Rattle.audits.specs.Blocks.{fits_w, all-passed}
 use Rattle.audits.proofs.BlocksLaws.{passed-w, some-w, found-w}
@@ -19,20 +19,20 @@ pub group_blocks-bs-requires : goal.group_blocks-bs-requires
 group_blocks-bs-requires c =
     let R = c.requires.0 in
     let a = c.args in
-    let T : ShiftTables = shift_tables a.p2s.now a.s2pp.now a.nsym_list.now a.perms.now a.n_satom a.n_patom a.num_trans in
+    let T : ShiftTables = given a.tables.now in
     let l = c.loop-b in
     let n = c.row_of-count.ensures ∙ block-count limit3 2 _ T R 27 in27 in
-    let hb : l.b < times_power a.n_satom 2 a.n_patom = subst (λ (x : ℕ). l.b < x) n c.loop-b-test.true in
+    let hb : l.b < times_power a.tables.now.n_satom 2 a.tables.now.n_patom = subst (λ (x : ℕ). l.b < x) n c.loop-b-test.true in
     (R.fit, hb)
 
 pub look-k-requires : goal.look-k-requires
 look-k-requires c =
     let R = c.requires.0 in
     let a = c.args in
-    let T : ShiftTables = shift_tables a.p2s.now a.s2pp.now a.nsym_list.now a.perms.now a.n_satom a.n_patom a.num_trans in
+    let T : ShiftTables = given a.tables.now in
     let l = c.loop-b in
     let n = c.row_of-count.ensures ∙ block-count limit3 2 _ T R 27 in27 in
-    let hb : l.b < times_power a.n_satom 2 a.n_patom = subst (λ (x : ℕ). l.b < x) n c.loop-b-test.true in
+    let hb : l.b < times_power a.tables.now.n_satom 2 a.tables.now.n_patom = subst (λ (x : ℕ). l.b < x) n c.loop-b-test.true in
     let O = orders c.positions-t.ensures in
     fits_w (shifts_of T) R.rules 2 perms3 _ O a.fc.now R.set-length 27 in27 l.b hb _ c.group_blocks-bs.ensures
 
@@ -40,10 +40,10 @@ pub difference-requires : goal.difference-requires
 difference-requires c =
     let R = c.requires.0 in
     let a = c.args in
-    let T : ShiftTables = shift_tables a.p2s.now a.s2pp.now a.nsym_list.now a.perms.now a.n_satom a.n_patom a.num_trans in
+    let T : ShiftTables = given a.tables.now in
     let l = c.loop-b in
     let n = c.row_of-count.ensures ∙ block-count limit3 2 _ T R 27 in27 in
-    let hb : l.b < times_power a.n_satom 2 a.n_patom = subst (λ (x : ℕ). l.b < x) n c.loop-b-test.true in
+    let hb : l.b < times_power a.tables.now.n_satom 2 a.tables.now.n_patom = subst (λ (x : ℕ). l.b < x) n c.loop-b-test.true in
     let O = orders c.positions-t.ensures in
     let eb = c.group_blocks-bs.ensures in (
       fits_w (shifts_of T) R.rules 2 perms3 _ O a.fc.now R.set-length 27 in27 l.b hb _ eb,
@@ -55,10 +55,10 @@ pub returns-then-k-lt27 : goal.returns-then-k-lt27
 returns-then-k-lt27 c =
     let R = c.requires.0 in
     let a = c.args in
-    let T : ShiftTables = shift_tables a.p2s.now a.s2pp.now a.nsym_list.now a.perms.now a.n_satom a.n_patom a.num_trans in
+    let T : ShiftTables = given a.tables.now in
     let l = c.loop-b in
     let n = c.row_of-count.ensures ∙ block-count limit3 2 _ T R 27 in27 in
-    let hb : l.b < times_power a.n_satom 2 a.n_patom = subst (λ (x : ℕ). l.b < x) n c.loop-b-test.true in
+    let hb : l.b < times_power a.tables.now.n_satom 2 a.tables.now.n_patom = subst (λ (x : ℕ). l.b < x) n c.loop-b-test.true in
     let O = orders c.positions-t.ensures in
     let eb = c.group_blocks-bs.ensures in
     ap (λ d. Ok (Some d)) c.difference.ensures
@@ -68,10 +68,10 @@ pub loop-b-preserved : goal.loop-b-preserved
 loop-b-preserved c =
     let R = c.requires.0 in
     let a = c.args in
-    let T : ShiftTables = shift_tables a.p2s.now a.s2pp.now a.nsym_list.now a.perms.now a.n_satom a.n_patom a.num_trans in
+    let T : ShiftTables = given a.tables.now in
     let l = c.loop-b in
     let n = c.row_of-count.ensures ∙ block-count limit3 2 _ T R 27 in27 in
-    let hb : l.b < times_power a.n_satom 2 a.n_patom = subst (λ (x : ℕ). l.b < x) n c.loop-b-test.true in
+    let hb : l.b < times_power a.tables.now.n_satom 2 a.tables.now.n_patom = subst (λ (x : ℕ). l.b < x) n c.loop-b-test.true in
     let O = orders c.positions-t.ensures in
     let eb = c.group_blocks-bs.ensures in
     passed-w (shifts_of T) R.rules 2 perms3 _ O a.fc.now R.set-length 27 in27 l.b hb _ eb _ c.look-k.ensures c.if-k-lt27.false l.invariant
@@ -80,8 +80,8 @@ pub returns : goal.returns
 returns c =
     let R = c.requires.0 in
     let a = c.args in
-    let T : ShiftTables = shift_tables a.p2s.now a.s2pp.now a.nsym_list.now a.perms.now a.n_satom a.n_patom a.num_trans in
+    let T : ShiftTables = given a.tables.now in
     let l = c.loop-b in
     let n = c.row_of-count.ensures ∙ block-count limit3 2 _ T R 27 in27 in
-    let hb : times_power a.n_satom 2 a.n_patom ≤ l.b = subst (λ (x : ℕ). x ≤ l.b) n c.loop-b-test.false in
+    let hb : times_power a.tables.now.n_satom 2 a.tables.now.n_patom ≤ l.b = subst (λ (x : ℕ). x ≤ l.b) n c.loop-b-test.false in
     all-passed (shifts_of T) R.rules 2 perms3 _ (orders c.positions-t.ensures) a.fc.now R.set-length l.b hb l.invariant

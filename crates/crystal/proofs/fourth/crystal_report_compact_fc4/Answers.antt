@@ -5,7 +5,7 @@ use mathlib.Core.Path.{sym, ap, ◌∙◌}
 use lib.Dec.{lit≤}
 use lib.ListN.{length}
 use Rattle.tables.specs.Limits.{limit4}
-use Rattle.tables.specs.Compact.{ShiftTables, shift_tables}
+use Rattle.tables.specs.Compact.{ShiftTables, given}
 use Rattle.audits.specs.Guard.{ready_compact}
 use Rattle.crystal.specs.Crystal.{earlier, judged_operations}
 use Rattle.crystal.specs.Laws.{both-done, operating, set-few, compact_given, compact_refused}
@@ -17,26 +17,26 @@ judge_set-s-requires c = (lit≤ tt, lit≤ tt)
 pub judge-requires : goal.judge-requires
 judge-requires c =
     let a = c.args in
-    let T : ShiftTables = shift_tables a.p2s.now a.s2pp.now a.nsym_list.now a.perms.now a.n_satom a.n_patom a.num_trans in
+    let T : ShiftTables = given a.tables.now in
     λ d. le_trans (set-few limit4 3 (length a.fc.now) T c.judge_set-s.ensures d) (lit≤ tt)
 
 pub scan-seen-requires : goal.scan-seen-requires
 scan-seen-requires c =
     let a = c.args in
-    let T : ShiftTables = shift_tables a.p2s.now a.s2pp.now a.nsym_list.now a.perms.now a.n_satom a.n_patom a.num_trans in
-    let (d, o) = both-done _ _ (sym (c.judge.ensures ∙ ap (λ x. earlier x (judged_operations a.n_satom a.num_rot (length a.r_carts.now) a.operations.now)) c.judge_set-s.ensures) ∙ c.in_ok-judge.was) in
-    (ready_compact limit4 3 (length a.fc.now) T d, operating a.n_satom a.num_rot (length a.r_carts.now) a.operations.now o)
+    let T : ShiftTables = given a.tables.now in
+    let (d, o) = both-done _ _ (sym (c.judge.ensures ∙ ap (λ x. earlier x (judged_operations a.tables.now.n_satom a.num_rot (length a.r_carts.now) a.operations.now)) c.judge_set-s.ensures) ∙ c.in_ok-judge.was) in
+    (ready_compact limit4 3 (length a.fc.now) T d, operating a.tables.now.n_satom a.num_rot (length a.r_carts.now) a.operations.now o)
 
 pub returns-in_err-judge : goal.returns-in_err-judge
 returns-in_err-judge c =
     let a = c.args in
-    let T : ShiftTables = shift_tables a.p2s.now a.s2pp.now a.nsym_list.now a.perms.now a.n_satom a.n_patom a.num_trans in
+    let T : ShiftTables = given a.tables.now in
     let p = err_from_is_err_and c.from_residual.result c.from_residual.ensures.1 in
-    rw (p.1, p.2) (compact_refused limit4 3 a.fc.now a.r_carts.now a.operations.now a.num_rot T _ (sym (c.judge.ensures ∙ ap (λ x. earlier x (judged_operations a.n_satom a.num_rot (length a.r_carts.now) a.operations.now)) c.judge_set-s.ensures) ∙ c.in_err-judge.was))
+    rw (p.1, p.2) (compact_refused limit4 3 a.fc.now a.r_carts.now a.operations.now a.num_rot T _ (sym (c.judge.ensures ∙ ap (λ x. earlier x (judged_operations a.tables.now.n_satom a.num_rot (length a.r_carts.now) a.operations.now)) c.judge_set-s.ensures) ∙ c.in_err-judge.was))
 
 pub returns : goal.returns
 returns c =
     let a = c.args in
-    let T : ShiftTables = shift_tables a.p2s.now a.s2pp.now a.nsym_list.now a.perms.now a.n_satom a.n_patom a.num_trans in
+    let T : ShiftTables = given a.tables.now in
     ap Ok c.conclude.ensures
-    ∙ compact_given limit4 3 a.fc.now a.r_carts.now a.operations.now a.num_rot T (sym (c.judge.ensures ∙ ap (λ x. earlier x (judged_operations a.n_satom a.num_rot (length a.r_carts.now) a.operations.now)) c.judge_set-s.ensures) ∙ c.in_ok-judge.was) c.scan-seen.ensures
+    ∙ compact_given limit4 3 a.fc.now a.r_carts.now a.operations.now a.num_rot T (sym (c.judge.ensures ∙ ap (λ x. earlier x (judged_operations a.tables.now.n_satom a.num_rot (length a.r_carts.now) a.operations.now)) c.judge_set-s.ensures) ∙ c.in_ok-judge.was) c.scan-seen.ensures

@@ -7,7 +7,7 @@ use Rattle.lists.specs.Tab.{times, times_none, times_more}
 use Rattle.lists.specs.Digits.{times_power}
 use Rattle.blocks.specs.Block.{block}
 use Rattle.tables.specs.Limits.{limit4}
-use Rattle.tables.specs.Compact.{ShiftTables, shift_tables, shifts_of}
+use Rattle.tables.specs.Compact.{ShiftTables, shifts_of, given}
 use Rattle.places.specs.Places.{size}
 use Rattle.audits.specs.Guard.{block-count, block_inside, few-numbers}
 use Rattle.audits.specs.FourthScanLaws.{in81}
@@ -23,18 +23,18 @@ loop-b-init c = (omega arith, λ carts e. times_none _ _)
 pub image_block-to-requires : goal.image_block-to-requires
 image_block-to-requires c =
     let a = c.args in
-    let T : ShiftTables = shift_tables a.p2s.now a.s2pp.now a.nsym_list.now a.perms.now a.n_satom a.n_patom a.num_trans in
+    let T : ShiftTables = given a.tables.now in
     let n = c.row_of-count.ensures ∙ block-count limit4 3 _ T c.requires.0 81 in81 in
-    let hb : c.loop-b.b < times_power a.n_satom 3 a.n_patom = subst (λ (x : ℕ). c.loop-b.b < x) n c.loop-b-test.true in
+    let hb : c.loop-b.b < times_power a.tables.now.n_satom 3 a.tables.now.n_patom = subst (λ (x : ℕ). c.loop-b.b < x) n c.loop-b-test.true in
     (c.requires.0.fit, c.requires.1, hb)
 
 pub index_of-requires : goal.index_of-requires
 index_of-requires c =
     let a = c.args in
-    let T : ShiftTables = shift_tables a.p2s.now a.s2pp.now a.nsym_list.now a.perms.now a.n_satom a.n_patom a.num_trans in
+    let T : ShiftTables = given a.tables.now in
     let l = c.loop-b in
     let n = c.row_of-count.ensures ∙ block-count limit4 3 _ T c.requires.0 81 in81 in
-    let hb : l.b < times_power a.n_satom 3 a.n_patom = subst (λ (x : ℕ). l.b < x) n c.loop-b-test.true in
+    let hb : l.b < times_power a.tables.now.n_satom 3 a.tables.now.n_patom = subst (λ (x : ℕ). l.b < x) n c.loop-b-test.true in
     let g = block_inside limit4 3 _ T c.requires.0 81 in81 l.b hb in
     let f = few-numbers limit4 3 _ T (lit≤ tt) (lit≤ tt) c.requires.0 in
     omega (arith, g, f)
@@ -42,10 +42,10 @@ index_of-requires c =
 pub index_of-first-requires : goal.index_of-first-requires
 index_of-first-requires c =
     let a = c.args in
-    let T : ShiftTables = shift_tables a.p2s.now a.s2pp.now a.nsym_list.now a.perms.now a.n_satom a.n_patom a.num_trans in
+    let T : ShiftTables = given a.tables.now in
     let l = c.loop-b in
     let n = c.row_of-count.ensures ∙ block-count limit4 3 _ T c.requires.0 81 in81 in
-    let hb : l.b < times_power a.n_satom 3 a.n_patom = subst (λ (x : ℕ). l.b < x) n c.loop-b-test.true in
+    let hb : l.b < times_power a.tables.now.n_satom 3 a.tables.now.n_patom = subst (λ (x : ℕ). l.b < x) n c.loop-b-test.true in
     let g = block_inside limit4 3 _ T c.requires.0 81 in81 l.b hb in
     let f = few-numbers limit4 3 _ T (lit≤ tt) (lit≤ tt) c.requires.0 in
     rw c.index_of.ensures (few_index a.r (length a.fc.now) (l.b * 81 + 0) c.requires.2 f (omega (arith, g))).0
@@ -53,10 +53,10 @@ index_of-first-requires c =
 pub look_block-more-requires : goal.look_block-more-requires
 look_block-more-requires c =
     let a = c.args in
-    let T : ShiftTables = shift_tables a.p2s.now a.s2pp.now a.nsym_list.now a.perms.now a.n_satom a.n_patom a.num_trans in
+    let T : ShiftTables = given a.tables.now in
     let l = c.loop-b in
     let n = c.row_of-count.ensures ∙ block-count limit4 3 _ T c.requires.0 81 in81 in
-    let hb : l.b < times_power a.n_satom 3 a.n_patom = subst (λ (x : ℕ). l.b < x) n c.loop-b-test.true in
+    let hb : l.b < times_power a.tables.now.n_satom 3 a.tables.now.n_patom = subst (λ (x : ℕ). l.b < x) n c.loop-b-test.true in
     let g = block_inside limit4 3 _ T c.requires.0 81 in81 l.b hb in
     let f = few-numbers limit4 3 _ T (lit≤ tt) (lit≤ tt) c.requires.0 in
     let e : c.index_of-first.result ≡ a.r * length a.fc.now + (l.b * 81 + 0) = c.index_of-first.ensures ∙ ap (λ x. a.r * length a.fc.now + x) c.index_of.ensures in
@@ -66,7 +66,7 @@ look_block-more-requires c =
 pub loop-b-preserved : goal.loop-b-preserved
 loop-b-preserved c =
     let a = c.args in
-    let T : ShiftTables = shift_tables a.p2s.now a.s2pp.now a.nsym_list.now a.perms.now a.n_satom a.n_patom a.num_trans in
+    let T : ShiftTables = given a.tables.now in
     let l = c.loop-b in
     let e : c.index_of-first.result ≡ a.r * size (shifts_of T) 3 + l.b * 81 =
     c.index_of-first.ensures ∙ ap₂ (λ x y. a.r * x + y) c.requires.0.set-length (c.index_of.ensures ∙ zero_more (l.b * 81)) in (
@@ -81,8 +81,8 @@ pub returns : goal.returns
 unfolding operation_seen
 returns c =
     let a = c.args in
-    let T : ShiftTables = shift_tables a.p2s.now a.s2pp.now a.nsym_list.now a.perms.now a.n_satom a.n_patom a.num_trans in
+    let T : ShiftTables = given a.tables.now in
     let l = c.loop-b in
     let n = c.row_of-count.ensures ∙ block-count limit4 3 _ T c.requires.0 81 in81 in
-    let i : l.b ≡ times_power a.n_satom 3 a.n_patom = omega (arith, c.loop-b-test.false, l.invariant.0) ∙ n in
+    let i : l.b ≡ times_power a.tables.now.n_satom 3 a.tables.now.n_patom = omega (arith, c.loop-b-test.false, l.invariant.0) ∙ n in
     λ carts h. l.invariant.1 carts h ∙ ap (λ k. times k (block_seen (shifts_of T) 3 carts a.operations.now a.fc.now 81 a.r) a.seen0) i

@@ -2,7 +2,7 @@ use Prim.Native.Nat.{◌+◌, ◌*◌, ◌<◌}
 use native.Mathlib.Nat.{mod-lt}
 use mathlib.Core.Path.{ap, ◌∙◌}
 use Rattle.tables.specs.Conditions.{index_at}
-use Rattle.tables.specs.Compact.{ShiftTables, shift_tables}
+use Rattle.tables.specs.Compact.{ShiftTables, given}
 use Rattle.crystal.specs.SecondImages as images
 use Rattle.crystal.proofs.second.image_block.Goals as goal
 
@@ -17,26 +17,26 @@ p2s_at-i-requires c = rw c.row_of.ensures (images.p2s-read _ c.requires.0 c.args
 
 pub perms_at-x-requires : goal.perms_at-x-requires
 perms_at-x-requires c =
-    let i : c.p2s_at-i.result.0 < c.args.n_satom = rw (c.p2s_at-i.ensures, c.row_of.ensures) (images.p2s-read _ c.requires.0 c.args.b c.requires.2).1 in
+    let i : c.p2s_at-i.result.0 < c.args.tables.now.n_satom = rw (c.p2s_at-i.ensures, c.row_of.ensures) (images.p2s-read _ c.requires.0 c.args.b c.requires.2).1 in
     (c.requires.1.each _ i).0
 
 pub perms_at-y-requires : goal.perms_at-y-requires
 perms_at-y-requires c =
-    let j : c.column_of.result < c.args.n_satom = rw c.column_of.ensures (mod-lt c.args.b (images.satoms_pos _ c.requires.0 c.args.b c.requires.2)) in
+    let j : c.column_of.result < c.args.tables.now.n_satom = rw c.column_of.ensures (mod-lt c.args.b (images.satoms_pos _ c.requires.0 c.args.b c.requires.2)) in
     (c.requires.1.each _ j).0
 
 pub stored_block2-requires : goal.stored_block2-requires
 stored_block2-requires c =
-    let i : c.p2s_at-i.result.0 < c.args.n_satom = rw (c.p2s_at-i.ensures, c.row_of.ensures) (images.p2s-read _ c.requires.0 c.args.b c.requires.2).1 in
-    let j : c.column_of.result < c.args.n_satom = rw c.column_of.ensures (mod-lt c.args.b (images.satoms_pos _ c.requires.0 c.args.b c.requires.2)) in
-    let x : c.perms_at-x.result.0 < c.args.n_satom = rw c.perms_at-x.ensures (c.requires.1.each _ i).1 in
-    let y : c.perms_at-y.result.0 < c.args.n_satom = rw c.perms_at-y.ensures (c.requires.1.each _ j).1 in
+    let i : c.p2s_at-i.result.0 < c.args.tables.now.n_satom = rw (c.p2s_at-i.ensures, c.row_of.ensures) (images.p2s-read _ c.requires.0 c.args.b c.requires.2).1 in
+    let j : c.column_of.result < c.args.tables.now.n_satom = rw c.column_of.ensures (mod-lt c.args.b (images.satoms_pos _ c.requires.0 c.args.b c.requires.2)) in
+    let x : c.perms_at-x.result.0 < c.args.tables.now.n_satom = rw c.perms_at-x.ensures (c.requires.1.each _ i).1 in
+    let y : c.perms_at-y.result.0 < c.args.tables.now.n_satom = rw c.perms_at-y.ensures (c.requires.1.each _ j).1 in
     (images.read-tables _ c.requires.0 c.args.b c.requires.2, x, y)
 
 pub returns : goal.returns
 returns c =
     let a = c.args in
-    let T : ShiftTables = shift_tables a.p2s.now a.s2pp.now a.nsym_list.now a.perms.now a.n_satom a.n_patom a.num_trans in
+    let T : ShiftTables = given a.tables.now in
     images.image_is T c.requires.0 a.b c.requires.2 a.operations.now a.r
-    (c.p2s_at-i.ensures ∙ ap (index_at a.p2s.now) c.row_of.ensures) c.perms_at-x.ensures
-    (c.perms_at-y.ensures ∙ ap (λ j. index_at a.operations.now (a.r * a.n_satom + j)) c.column_of.ensures) c.stored_block2.ensures
+    (c.p2s_at-i.ensures ∙ ap (index_at a.tables.now.p2s.now) c.row_of.ensures) c.perms_at-x.ensures
+    (c.perms_at-y.ensures ∙ ap (λ j. index_at a.operations.now (a.r * a.tables.now.n_satom + j)) c.column_of.ensures) c.stored_block2.ensures

@@ -4,7 +4,7 @@ use mathlib.Core.List.{List}
 use lib.Ieee.{Float}
 use Rattle.lists.specs.Tab.{times}
 use Rattle.blocks.specs.Block.{block}
-use Rattle.tables.specs.Compact.{shift_tables, shifts_of}
+use Rattle.tables.specs.Compact.{shifts_of, given}
 use Rattle.rotations.specs.Rotation.{coefficients}
 use Rattle.crystal.specs.Laws.{block_seen}
 use Rattle.crystal.proofs.second.look_operation.Given as goal
@@ -12,7 +12,7 @@ use Rattle.crystal.proofs.second.look_operation.Given as goal
 abbrev pub invariant-loop-b : goal.invariant-loop-b
 invariant-loop-b l =
     (l.b ≤ l.count) × ((carts : List Float) → l.c ≡ coefficients (block 9 l.r carts) 2 9
-    → l.seen ≡ times l.b (block_seen (shifts_of (shift_tables l.p2s l.s2pp l.nsym_list l.perms l.n_satom l.n_patom l.num_trans)) 1 carts l.operations l.fc 9 l.r) l.initial.seen)
+    → l.seen ≡ times l.b (block_seen (shifts_of (given l.tables)) 1 carts l.operations l.fc 9 l.r) l.initial.seen)
 
 abbrev pub decreases-loop-b : goal.decreases-loop-b
 decreases-loop-b l = l.count - l.b

@@ -2,7 +2,7 @@ use native.Mathlib.Omega.{arith}
 use mathlib.Core.Path.{◌≡◌, ap, ◌∙◌}
 use Rattle.lists.specs.Tab.{times, times_none, times_more}
 use Rattle.lists.specs.Digits.{times_power}
-use Rattle.tables.specs.Compact.{ShiftTables, shift_tables, shifts_of}
+use Rattle.tables.specs.Compact.{ShiftTables, shifts_of, given}
 use Rattle.rotations.specs.Rotation.{coefficients}
 use Rattle.audits.specs.ThirdScanLaws.{in27}
 use Rattle.crystal.specs.Laws.{operation_seen, sends, carts_inside}
@@ -30,8 +30,8 @@ loop-r-preserved c =
 pub returns : goal.returns
 returns c =
     let a = c.args in
-    let T : ShiftTables = shift_tables a.p2s.now a.s2pp.now a.nsym_list.now a.perms.now a.n_satom a.n_patom a.num_trans in
+    let T : ShiftTables = given a.tables.now in
     let l = c.loop-r in
     let i : l.r ≡ a.num_rot = omega arith in
     operations_seen-w (shifts_of T) 2 a.r_carts.now a.operations.now a.fc.now 27 in27 a.num_rot
-    (l.invariant.1 ∙ ap (λ k. times k (operation_seen (shifts_of T) 2 a.r_carts.now a.operations.now a.fc.now 27 (times_power a.n_satom 2 a.n_patom)) c.start-seen.result) i ∙ ap (times a.num_rot (operation_seen (shifts_of T) 2 a.r_carts.now a.operations.now a.fc.now 27 (times_power a.n_satom 2 a.n_patom))) c.start-seen.ensures)
+    (l.invariant.1 ∙ ap (λ k. times k (operation_seen (shifts_of T) 2 a.r_carts.now a.operations.now a.fc.now 27 (times_power a.tables.now.n_satom 2 a.tables.now.n_patom)) c.start-seen.result) i ∙ ap (times a.num_rot (operation_seen (shifts_of T) 2 a.r_carts.now a.operations.now a.fc.now 27 (times_power a.tables.now.n_satom 2 a.tables.now.n_patom))) c.start-seen.ensures)

@@ -2,14 +2,14 @@ use Prim.Native.Nat.{◌-◌, ◌≤◌}
 use mathlib.Core.Path.{◌≡◌}
 use Rattle.lists.specs.Tab.{times}
 use Rattle.lists.specs.Digits.{times_power}
-use Rattle.tables.specs.Compact.{shift_tables, shifts_of}
+use Rattle.tables.specs.Compact.{shifts_of, given}
 use Rattle.crystal.specs.Laws.{operation_seen}
 use Rattle.crystal.proofs.third.scan.Given as goal
 
 abbrev pub invariant-loop-r : goal.invariant-loop-r
 invariant-loop-r l =
     (l.r ≤ l.num_rot)
-    × (l.seen ≡ times l.r (operation_seen (shifts_of (shift_tables l.p2s l.s2pp l.nsym_list l.perms l.n_satom l.n_patom l.num_trans)) 2 l.r_carts l.operations l.fc 27 (times_power l.n_satom 2 l.n_patom)) l.initial.seen)
+    × (l.seen ≡ times l.r (operation_seen (shifts_of (given l.tables)) 2 l.r_carts l.operations l.fc 27 (times_power l.tables.n_satom 2 l.tables.n_patom)) l.initial.seen)
 
 abbrev pub decreases-loop-r : goal.decreases-loop-r
 decreases-loop-r l = l.num_rot - l.r

@@ -6,7 +6,7 @@ use borrow.Author.Rules.{rules}
 use Rattle.lists.specs.Tab.{times, times_none, times_more}
 use Rattle.lists.specs.Digits.{times_power}
 use Rattle.tables.specs.Limits.{limit3}
-use Rattle.tables.specs.Compact.{ShiftTables, shift_tables, shifts_of}
+use Rattle.tables.specs.Compact.{ShiftTables, shifts_of, given}
 use Rattle.places.specs.Permutations.{perms3}
 use Rattle.audits.specs.Blocks.{fits_w}
 use Rattle.audits.specs.Guard.{block-count, few-numbers}
@@ -20,19 +20,19 @@ loop-b-init c = (omega arith, times_none _ _)
 pub group_blocks-bs-requires : goal.group_blocks-bs-requires
 group_blocks-bs-requires c =
     let a = c.args in
-    let T : ShiftTables = shift_tables a.p2s.now a.s2pp.now a.nsym_list.now a.perms.now a.n_satom a.n_patom a.num_trans in
+    let T : ShiftTables = given a.tables.now in
     let n = c.row_of-count.ensures ∙ block-count limit3 2 _ T c.requires 27 in27 in
-    let hb : c.loop-b.b < times_power a.n_satom 2 a.n_patom = subst (λ (x : ℕ). c.loop-b.b < x) n c.loop-b-test.true in
+    let hb : c.loop-b.b < times_power a.tables.now.n_satom 2 a.tables.now.n_patom = subst (λ (x : ℕ). c.loop-b.b < x) n c.loop-b-test.true in
     (c.requires.fit, hb)
 
 pub look_block-more-requires : goal.look_block-more-requires
 look_block-more-requires c =
     let a = c.args in
     let R = c.requires in
-    let T : ShiftTables = shift_tables a.p2s.now a.s2pp.now a.nsym_list.now a.perms.now a.n_satom a.n_patom a.num_trans in
+    let T : ShiftTables = given a.tables.now in
     let l = c.loop-b in
     let n = c.row_of-count.ensures ∙ block-count limit3 2 _ T R 27 in27 in
-    let hb : l.b < times_power a.n_satom 2 a.n_patom = subst (λ (x : ℕ). l.b < x) n c.loop-b-test.true in
+    let hb : l.b < times_power a.tables.now.n_satom 2 a.tables.now.n_patom = subst (λ (x : ℕ). l.b < x) n c.loop-b-test.true in
     let O = orders c.positions-t.ensures in
     (fits_w (shifts_of T) R.rules 2 perms3 _ O a.fc.now R.set-length 27 in27 l.b hb _ c.group_blocks-bs.ensures, few-numbers limit3 2 _ T (lit≤ tt) (lit≤ tt) R)
 
@@ -40,17 +40,17 @@ pub loop-b-preserved : goal.loop-b-preserved
 loop-b-preserved c =
     let a = c.args in
     let R = c.requires in
-    let T : ShiftTables = shift_tables a.p2s.now a.s2pp.now a.nsym_list.now a.perms.now a.n_satom a.n_patom a.num_trans in
+    let T : ShiftTables = given a.tables.now in
     let l = c.loop-b in
     let n = c.row_of-count.ensures ∙ block-count limit3 2 _ T R 27 in27 in
-    let hb : l.b < times_power a.n_satom 2 a.n_patom = subst (λ (x : ℕ). l.b < x) n c.loop-b-test.true in
+    let hb : l.b < times_power a.tables.now.n_satom 2 a.tables.now.n_patom = subst (λ (x : ℕ). l.b < x) n c.loop-b-test.true in
     let O = orders c.positions-t.ensures in
     (omega arith, times_more l.b _ _ l.invariant.1 (c.look_block-more.ensures ∙ block_is (shifts_of T) R.rules 2 perms3 _ O a.fc.now R.set-length 27 in27 l.b hb _ c.group_blocks-bs.ensures l.seen))
 
 pub returns : goal.returns
 returns c =
     let a = c.args in
-    let T : ShiftTables = shift_tables a.p2s.now a.s2pp.now a.nsym_list.now a.perms.now a.n_satom a.n_patom a.num_trans in
+    let T : ShiftTables = given a.tables.now in
     let l = c.loop-b in
     let n = c.row_of-count.ensures ∙ block-count limit3 2 _ T c.requires 27 in27 in
     let i : l.b ≡ c.row_of-count.result = omega arith in

@@ -26,5 +26,5 @@ pub returns : goal.returns
 unfolding column_sums
 returns c =
     let l = c.loop-i in
-    let i : l.i ≡ c.args.n = omega arith in
+    let i : l.i ≡ c.args.tables.now.n_satom = omega arith in
     l.invariant.1 ∙ rw i

@@ -8,7 +8,7 @@ use Rattle.places.specs.ReadOuts.{stored_in}
 use Rattle.drift.proofs.compact.column_sums.Given as goal
 
 abbrev pub invariant-loop-i : goal.invariant-loop-i
-invariant-loop-i l = (l.i ≤ l.n) × (l.sums ≡ times l.i (λ k t. more t (block 9 (stored_in l.n l.s2pp l.nsym_list l.perms k (l.j ∷ [])) l.fc)) l.initial.sums)
+invariant-loop-i l = (l.i ≤ l.tables.n_satom) × (l.sums ≡ times l.i (λ k t. more t (block 9 (stored_in l.tables.n_satom l.tables.s2pp.now l.tables.nsym_list.now l.tables.perms.now k (l.j ∷ [])) l.fc)) l.initial.sums)
 
 abbrev pub decreases-loop-i : goal.decreases-loop-i
-decreases-loop-i l = l.n - l.i
+decreases-loop-i l = l.tables.n_satom - l.i

@@ -24,16 +24,16 @@ pub loop-j-preserved : goal.loop-j-preserved
 loop-j-preserved c =
     let l = c.loop-j in
     let a = c.args in
-    let f : c.if-not-calm.seen ≡ look_line (a.n + l.j) c.column_sums-s.result l.seen =
+    let f : c.if-not-calm.seen ≡ look_line (a.tables.now.n_satom + l.j) c.column_sums-s.result l.seen =
     elim c.if-not-calm.branch [
       | then-not-calm w ↦ w.seen-is ∙ w.look_line-more.ensures
-      | else-not-calm w ↦ w.seen-is ∙ line_calm (a.n + l.j) c.column_sums-s.result l.seen (sym c.calm.ensures ∙ w.if-not-calm.false)
+      | else-not-calm w ↦ w.seen-is ∙ line_calm (a.tables.now.n_satom + l.j) c.column_sums-s.result l.seen (sym c.calm.ensures ∙ w.if-not-calm.false)
     ] in
-    (omega arith, times_more l.j _ _ l.invariant.1 (f ∙ ap (λ s. look_line (a.n + l.j) s l.seen) c.column_sums-s.ensures))
+    (omega arith, times_more l.j _ _ l.invariant.1 (f ∙ ap (λ s. look_line (a.tables.now.n_satom + l.j) s l.seen) c.column_sums-s.ensures))
 
 pub returns : goal.returns
 unfolding look_compact_columns
 returns c =
     let l = c.loop-j in
-    let i : l.j ≡ c.args.n = omega arith in
+    let i : l.j ≡ c.args.tables.now.n_satom = omega arith in
     l.invariant.1 ∙ rw i

@@ -26,5 +26,5 @@ pub returns : goal.returns
 unfolding compact_row_sums
 returns c =
     let l = c.loop-j in
-    let i : l.j ≡ c.args.n = omega arith in
+    let i : l.j ≡ c.args.tables.now.n_satom = omega arith in
     l.invariant.1 ∙ rw i

@@ -12,5 +12,5 @@ look_columns-requires c = c.requires
 pub returns : goal.returns
 returns c =
     let a = c.args in
-    let f = stored_in a.n a.s2pp.now a.nsym_list.now a.perms.now in
-    c.look_columns.ensures ∙ ap (look_compact_columns a.fc.now f a.n) (c.look_rows-rows.ensures ∙ ap (look_rows a.fc.now f a.n) c.start.ensures)
+    let f = stored_in a.tables.now.n_satom a.tables.now.s2pp.now a.tables.now.nsym_list.now a.tables.now.perms.now in
+    c.look_columns.ensures ∙ ap (look_compact_columns a.fc.now f a.tables.now.n_satom) (c.look_rows-rows.ensures ∙ ap (look_rows a.fc.now f a.tables.now.n_satom) c.start.ensures)

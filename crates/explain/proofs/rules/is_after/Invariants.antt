@@ -3,10 +3,10 @@ use Prim.Native.Nat.{ℕ, ◌<◌}
 use mathlib.Core.Bool.{true}
 use lib.Dec.{eqb}
 use Rattle.tables.specs.Shifts.{Shifts, row}
-use Rattle.tables.specs.Compact.{shift_tables, shifts_of}
+use Rattle.tables.specs.Compact.{shifts_of, given}
 use Rattle.explain.proofs.rules.is_after.Given as goal
 
 abbrev pub invariant-loop-a : goal.invariant-loop-a
 invariant-loop-a l =
-    let S : Shifts = shifts_of (shift_tables l.p2s l.s2pp l.nsym_list l.perms l.n_satom l.n_patom l.num_trans) in
+    let S : Shifts = shifts_of (given l.tables) in
     (k : ℕ) → k < l.a → eqb (row S l.u (row S l.t k)) (row S l.v k) ≡ true

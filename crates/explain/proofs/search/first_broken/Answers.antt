@@ -1,7 +1,7 @@
 use native.Mathlib.Omega.{arith}
 use borrow.Author.Count.{below_none, below_more}
 use Rattle.lists.specs.Lowest.{lowest_by}
-use Rattle.tables.specs.Compact.{ShiftTables, shift_tables, shifts_of}
+use Rattle.tables.specs.Compact.{ShiftTables, shifts_of, given}
 use Rattle.explain.specs.Explain.{rule_at, broken_from, broken, first_of, first_broken}
 use Rattle.explain.specs.Laws.{found_some, found_none}
 use Rattle.explain.proofs.search.first_broken.Goals as goal
@@ -19,7 +19,7 @@ pub returns-then-first_of-firsts : goal.returns-then-first_of-firsts
 unfolding first_broken broken first_of
 returns-then-first_of-firsts c =
     let a = c.args in
-    let T : ShiftTables = shift_tables a.p2s.now a.s2pp.now a.nsym_list.now a.perms.now a.n_satom a.n_patom a.num_trans in
+    let T : ShiftTables = given a.tables.now in
     let l = c.loop-rule in
     let R = rule_at (shifts_of T) l.rule in
     lowest_by 8 (λ r. broken (rule_at (shifts_of T) r)) l.rule (omega arith) l.invariant (λ _. found_some R.firsts (broken_from R) c.first_of.ensures c.firsts.ensures c.if-first_of-firsts.true)
@@ -28,7 +28,7 @@ pub loop-rule-preserved : goal.loop-rule-preserved
 unfolding broken first_of
 loop-rule-preserved c =
     let a = c.args in
-    let T : ShiftTables = shift_tables a.p2s.now a.s2pp.now a.nsym_list.now a.perms.now a.n_satom a.n_patom a.num_trans in
+    let T : ShiftTables = given a.tables.now in
     let l = c.loop-rule in
     let R = rule_at (shifts_of T) l.rule in
     below_more _ l.rule l.invariant (found_none R.firsts (broken_from R) c.first_of.ensures c.firsts.ensures c.if-first_of-firsts.false)
@@ -37,6 +37,6 @@ pub returns : goal.returns
 unfolding first_broken
 returns c =
     let a = c.args in
-    let T : ShiftTables = shift_tables a.p2s.now a.s2pp.now a.nsym_list.now a.perms.now a.n_satom a.n_patom a.num_trans in
+    let T : ShiftTables = given a.tables.now in
     let l = c.loop-rule in
     lowest_by 8 (λ r. broken (rule_at (shifts_of T) r)) 8 (omega arith) (λ q h. l.invariant q (omega arith)) (λ h. absurd (omega arith))

@@ -2,7 +2,7 @@ use mathlib.Core.Path.{sym, ◌∙◌}
 use native.Mathlib.Omega.{arith}
 use borrow.Author.Count.{below_none, below_more}
 use Rattle.lists.specs.Lowest.{lowest_by}
-use Rattle.tables.specs.Compact.{ShiftTables, shift_tables, shifts_of}
+use Rattle.tables.specs.Compact.{ShiftTables, shifts_of, given}
 use Rattle.explain.specs.Explain.{rule_at, third_of}
 use Rattle.explain.proofs.search.third_of.Goals as goal
 
@@ -22,7 +22,7 @@ pub returns-then-breaks : goal.returns-then-breaks
 unfolding third_of
 returns-then-breaks c =
     let a = c.args in
-    let T : ShiftTables = shift_tables a.p2s.now a.s2pp.now a.nsym_list.now a.perms.now a.n_satom a.n_patom a.num_trans in
+    let T : ShiftTables = given a.tables.now in
     let R = rule_at (shifts_of T) a.rule in
     let l = c.loop-k in
     lowest_by R.thirds (R.breaks a.i a.j) l.k (omega (arith, c.thirds-n.ensures)) l.invariant (λ _. sym c.breaks.ensures ∙ c.if-breaks.true)
@@ -36,7 +36,7 @@ pub returns : goal.returns
 unfolding third_of
 returns c =
     let a = c.args in
-    let T : ShiftTables = shift_tables a.p2s.now a.s2pp.now a.nsym_list.now a.perms.now a.n_satom a.n_patom a.num_trans in
+    let T : ShiftTables = given a.tables.now in
     let R = rule_at (shifts_of T) a.rule in
     let l = c.loop-k in
     lowest_by R.thirds (R.breaks a.i a.j) c.thirds-n.result (omega (arith, c.thirds-n.ensures)) (λ q h. l.invariant q (omega arith)) (λ h. absurd (omega (arith, c.thirds-n.ensures)))

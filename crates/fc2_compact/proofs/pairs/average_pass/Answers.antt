@@ -21,5 +21,5 @@ loop-p-preserved c =
 pub returns : goal.returns
 returns c =
     let l = c.loop-p in
-    let e : l.p ≡ c.args.n_patom = omega arith in
+    let e : l.p ≡ c.args.tables.now.n_patom = omega arith in
     l.invariant ∙ rw e (average_all c.args.fc.now c.requires)

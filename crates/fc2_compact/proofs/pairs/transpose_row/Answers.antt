@@ -24,5 +24,5 @@ pub returns : goal.returns
 returns c =
     let l = c.loop-j in
     let a = c.args in
-    let e : l.j ≡ a.n_satom = omega arith in
+    let e : l.j ≡ a.tables.now.n_satom = omega arith in
     l.invariant ∙ rw e

@@ -1,4 +1,4 @@
-use Rattle.tables.specs.Compact.{shift_tables, shifts_of}
+use Rattle.tables.specs.Compact.{shifts_of, given}
 use mathlib.Core.Path.{◌≡◌}
 use Rattle.lists.specs.Tab.{times}
 use Rattle.fc2_compact.specs.Visits.{transpose_visit}
@@ -6,4 +6,4 @@ use Rattle.fc2_compact.proofs.pairs.transpose_row.Given as goal
 
 abbrev pub invariant-loop-j : goal.invariant-loop-j
 invariant-loop-j l =
-    l.fc ≡ times l.j (transpose_visit l.half_shifts_stay (shifts_of (shift_tables l.p2s l.s2pp l.nsym_list l.perms l.n_satom l.n_patom l.num_trans)) l.p) l.initial.fc
+    l.fc ≡ times l.j (transpose_visit l.half_shifts_stay (shifts_of (given l.tables)) l.p) l.initial.fc

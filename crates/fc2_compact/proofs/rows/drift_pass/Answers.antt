@@ -9,7 +9,7 @@ use Rattle.fc2_compact.proofs.rows.drift_pass.Goals as goal
 
 pub int_to_float-inv_n : goal.int_to_float-inv_n
 unfolding in_float
-int_to_float-inv_n c = le→leb c.args.n_satom (2 ^ 53) (omega (arith, c.requires.fit.satoms))
+int_to_float-inv_n c = le→leb c.args.tables.now.n_satom (2 ^ 53) (omega (arith, c.requires.fit.satoms))
 
 pub row_drift-requires : goal.row_drift-requires
 row_drift-requires c = sized c.requires

@@ -1,4 +1,4 @@
-use Rattle.tables.specs.Compact.{shift_tables}
+use Rattle.tables.specs.Compact.{given}
 use Rattle.fc2_compact.specs.Code.{p2s-read, own_at, own_in, own_row, facts, site_row_is}
 use Rattle.fc2_compact.proofs.rows.site_row.Goals as goal
 
@@ -20,5 +20,5 @@ write9-requires c =
 
 pub returns : goal.returns
 returns c =
-    let T = shift_tables c.args.p2s.now c.args.s2pp.now c.args.nsym_list.now c.args.perms.now c.args.n_satom c.args.n_patom c.args.num_trans in
+    let T = given c.args.tables.now in
     site_row_is T c.args.p c.args.fc.now c.p2s_at-i.ensures c.block2-b.ensures c.other_sums-s.ensures c.balance.ensures c.write9.ensures

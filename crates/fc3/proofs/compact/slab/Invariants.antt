@@ -1,11 +1,11 @@
 use mathlib.Core.Path.{◌≡◌}
 use Rattle.lists.specs.Tab.{times}
-use Rattle.tables.specs.Compact.{shift_tables}
+use Rattle.tables.specs.Compact.{given}
 use Rattle.orbits.specs.GroupLoop.{State}
 use Rattle.fc3.specs.Loops.{row3}
 use Rattle.fc3.proofs.compact.slab.Given as goal
 
 abbrev pub invariant-loop-j : goal.invariant-loop-j
 invariant-loop-j l =
-    let T = shift_tables l.p2s l.s2pp l.nsym_list l.perms l.n_satom l.n_patom l.num_trans in
+    let T = given l.tables in
     ◌≡◌ {A = State} (l.fc3, l.done) (times l.j (λ j. row3 T l.p.0 j) (l.initial.fc3, l.initial.done))

@@ -8,22 +8,22 @@ p2s_at-i-requires c =
 
 pub stored_block3-jik-requires : goal.stored_block3-jik-requires
 stored_block3-jik-requires c =
-    let v : c.p2s_at-i.result.0 < c.args.n_satom = rw c.p2s_at-i.ensures (p2s-read _ _ _ _ c.requires.ready c.args.p.0 c.args.j.0 c.args.k.0 c.requires.atoms).1 in
+    let v : c.p2s_at-i.result.0 < c.args.tables.now.n_satom = rw c.p2s_at-i.ensures (p2s-read _ _ _ _ c.requires.ready c.args.p.0 c.args.j.0 c.args.k.0 c.requires.atoms).1 in
     (read-tables _ _ _ _ c.requires.ready, c.requires.atoms.1, v, c.requires.atoms.2)
 
 pub stored_block3-jki-requires : goal.stored_block3-jki-requires
 stored_block3-jki-requires c =
-    let v : c.p2s_at-i.result.0 < c.args.n_satom = rw c.p2s_at-i.ensures (p2s-read _ _ _ _ c.requires.ready c.args.p.0 c.args.j.0 c.args.k.0 c.requires.atoms).1 in
+    let v : c.p2s_at-i.result.0 < c.args.tables.now.n_satom = rw c.p2s_at-i.ensures (p2s-read _ _ _ _ c.requires.ready c.args.p.0 c.args.j.0 c.args.k.0 c.requires.atoms).1 in
     (read-tables _ _ _ _ c.requires.ready, c.requires.atoms.1, c.requires.atoms.2, v)
 
 pub stored_block3-kij-requires : goal.stored_block3-kij-requires
 stored_block3-kij-requires c =
-    let v : c.p2s_at-i.result.0 < c.args.n_satom = rw c.p2s_at-i.ensures (p2s-read _ _ _ _ c.requires.ready c.args.p.0 c.args.j.0 c.args.k.0 c.requires.atoms).1 in
+    let v : c.p2s_at-i.result.0 < c.args.tables.now.n_satom = rw c.p2s_at-i.ensures (p2s-read _ _ _ _ c.requires.ready c.args.p.0 c.args.j.0 c.args.k.0 c.requires.atoms).1 in
     (read-tables _ _ _ _ c.requires.ready, c.requires.atoms.2, v, c.requires.atoms.1)
 
 pub stored_block3-kji-requires : goal.stored_block3-kji-requires
 stored_block3-kji-requires c =
-    let v : c.p2s_at-i.result.0 < c.args.n_satom = rw c.p2s_at-i.ensures (p2s-read _ _ _ _ c.requires.ready c.args.p.0 c.args.j.0 c.args.k.0 c.requires.atoms).1 in
+    let v : c.p2s_at-i.result.0 < c.args.tables.now.n_satom = rw c.p2s_at-i.ensures (p2s-read _ _ _ _ c.requires.ready c.args.p.0 c.args.j.0 c.args.k.0 c.requires.atoms).1 in
     (read-tables _ _ _ _ c.requires.ready, c.requires.atoms.2, c.requires.atoms.1, v)
 
 pub mark-requires : goal.mark-requires

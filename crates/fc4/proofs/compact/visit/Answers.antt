@@ -1,10 +1,10 @@
-use Rattle.tables.specs.Compact.{shift_tables, shifts_of}
+use Rattle.tables.specs.Compact.{shifts_of, given}
 use Rattle.fc4.specs.Loops.{takes, sized, visit-free, visit-met}
 use Rattle.fc4.proofs.compact.visit.Goals as goal
 
 pub take-requires : goal.take-requires
 take-requires c =
-    let T = shift_tables c.args.p2s.now c.args.s2pp.now c.args.nsym_list.now c.args.perms.now c.args.n_satom c.args.n_patom c.args.num_trans in
+    let T = given c.args.tables.now in
     let R = c.requires.ready in
     let (x, y) = takes (shifts_of T) _ _ c.args.b R.rules (sized T R) R.work-length c.requires.in_range.1 c.group_blocks-bs.ensures in
     (x, y, c.requires.in_range.0)

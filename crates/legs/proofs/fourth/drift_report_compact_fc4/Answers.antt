@@ -4,7 +4,7 @@ use mathlib.Core.Path.{sym, ap, ◌∙◌}
 use lib.Dec.{lit≤}
 use lib.ListN.{length}
 use Rattle.tables.specs.Limits.{limit4}
-use Rattle.tables.specs.Compact.{shift_tables}
+use Rattle.tables.specs.Compact.{given}
 use Rattle.audits.specs.Guard.{ready_compact}
 use Rattle.legs.specs.Laws.{compact_given, compact_refused}
 use Rattle.legs.proofs.fourth.drift_report_compact_fc4.Goals as goal
@@ -16,15 +16,15 @@ pub returns-in_err-judge_set : goal.returns-in_err-judge_set
 returns-in_err-judge_set c =
     let a = c.args in
     let p = err_from_is_err_and c.from_residual.result c.from_residual.ensures.1 in
-    rw (p.1, p.2) (compact_refused limit4 3 a.fc.now (shift_tables a.p2s.now a.s2pp.now a.nsym_list.now a.perms.now a.n_satom a.n_patom a.num_trans) _ (sym c.judge_set.ensures ∙ c.in_err-judge_set.was))
+    rw (p.1, p.2) (compact_refused limit4 3 a.fc.now (given a.tables.now) _ (sym c.judge_set.ensures ∙ c.in_err-judge_set.was))
 
 pub scan-seen-requires : goal.scan-seen-requires
 scan-seen-requires c =
     let a = c.args in
-    ready_compact limit4 3 (length a.fc.now) (shift_tables a.p2s.now a.s2pp.now a.nsym_list.now a.perms.now a.n_satom a.n_patom a.num_trans) (sym c.judge_set.ensures ∙ c.in_ok-judge_set.was)
+    ready_compact limit4 3 (length a.fc.now) (given a.tables.now) (sym c.judge_set.ensures ∙ c.in_ok-judge_set.was)
 
 pub returns : goal.returns
 returns c =
     let a = c.args in
     ap Ok c.conclude.ensures
-    ∙ compact_given limit4 3 a.fc.now (shift_tables a.p2s.now a.s2pp.now a.nsym_list.now a.perms.now a.n_satom a.n_patom a.num_trans) (sym c.judge_set.ensures ∙ c.in_ok-judge_set.was) c.scan-seen.ensures
+    ∙ compact_given limit4 3 a.fc.now (given a.tables.now) (sym c.judge_set.ensures ∙ c.in_ok-judge_set.was) c.scan-seen.ensures

@@ -1,7 +1,7 @@
 use native.Mathlib.Omega.{arith}
 use mathlib.Core.Path.{◌≡◌, ap, ◌∙◌}
 use Rattle.lists.specs.Tab.{times, times_none, times_more}
-use Rattle.tables.specs.Compact.{ShiftTables, shift_tables, shifts_of}
+use Rattle.tables.specs.Compact.{ShiftTables, shifts_of, given}
 use Rattle.audits.specs.FourthScanLaws.{in81}
 use Rattle.legs.specs.Laws.{leg_seen}
 use Rattle.legs.proofs.SeenLaws.{legs_seen-w}
@@ -19,7 +19,7 @@ loop-e-preserved c = let l = c.loop-e in (omega arith, times_more l.e _ _ l.inva
 pub returns : goal.returns
 returns c =
     let a = c.args in
-    let T : ShiftTables = shift_tables a.p2s.now a.s2pp.now a.nsym_list.now a.perms.now a.n_satom a.n_patom a.num_trans in
+    let T : ShiftTables = given a.tables.now in
     let l = c.loop-e in
     let i : l.e ≡ 4 = omega arith in
     legs_seen-w (shifts_of T) 3 a.fc.now 81 in81 (l.invariant.1 ∙ ap (λ k. times k (leg_seen (shifts_of T) 3 a.fc.now 81) c.start-seen.result) i ∙ ap (times 4 (leg_seen (shifts_of T) 3 a.fc.now 81)) c.start-seen.ensures)

@@ -1,13 +1,13 @@
 use Prim.Native.Nat.{◌-◌, ◌≤◌}
 use mathlib.Core.Path.{◌≡◌}
 use Rattle.lists.specs.Tab.{times}
-use Rattle.tables.specs.Compact.{shift_tables, shifts_of}
+use Rattle.tables.specs.Compact.{shifts_of, given}
 use Rattle.legs.specs.Laws.{leg_seen}
 use Rattle.legs.proofs.fourth.scan.Given as goal
 
 abbrev pub invariant-loop-e : goal.invariant-loop-e
 invariant-loop-e l =
-    (l.e ≤ 4) × (l.seen ≡ times l.e (leg_seen (shifts_of (shift_tables l.p2s l.s2pp l.nsym_list l.perms l.n_satom l.n_patom l.num_trans)) 3 l.fc 81) l.initial.seen)
+    (l.e ≤ 4) × (l.seen ≡ times l.e (leg_seen (shifts_of (given l.tables)) 3 l.fc 81) l.initial.seen)
 
 abbrev pub decreases-loop-e : goal.decreases-loop-e
 decreases-loop-e l = 4 - l.e

@@ -4,7 +4,7 @@ use lib.Dec.{lit≤}
 use lib.ListN.{length}
 use Rattle.blocks.specs.Block.{block, length-block}
 use Rattle.tables.specs.Limits.{limit3}
-use Rattle.tables.specs.Compact.{ShiftTables, shift_tables, shifts_of}
+use Rattle.tables.specs.Compact.{ShiftTables, shifts_of, given}
 use Rattle.audits.specs.ThirdScanLaws.{in27}
 use Rattle.legs.specs.Laws.{leg_block, block_sums, sums_none, sums-more, length-sums, leg-inside}
 use Rattle.legs.proofs.third.leg_sums.Goals as goal
@@ -18,13 +18,13 @@ leg_block-at-requires c = (c.requires.0.fit, c.requires.1, c.requires.2, c.loop-
 pub read27-b-requires : goal.read27-b-requires
 read27-b-requires c =
     let a = c.args in
-    let T : ShiftTables = shift_tables a.p2s.now a.s2pp.now a.nsym_list.now a.perms.now a.n_satom a.n_patom a.num_trans in
+    let T : ShiftTables = given a.tables.now in
     rw c.leg_block-at.ensures (leg-inside limit3 2 _ T c.requires.0 (lit≤ tt) a.leg a.t c.loop-i.i c.requires.2 c.loop-i-test.true 27 in27)
 
 pub slice_bounds-add_all-end : goal.slice_bounds-add_all-end
 slice_bounds-add_all-end c =
     let a = c.args in
-    let T : ShiftTables = shift_tables a.p2s.now a.s2pp.now a.nsym_list.now a.perms.now a.n_satom a.n_patom a.num_trans in
+    let T : ShiftTables = given a.tables.now in
     let l = c.loop-i in
     sym (ap length l.invariant.1 ∙ length-sums 27 (leg_block (shifts_of T) 2 a.leg a.t) l.i a.fc.now)
 
@@ -38,14 +38,14 @@ add_all-requires c =
 pub loop-i-preserved : goal.loop-i-preserved
 loop-i-preserved c =
     let a = c.args in
-    let T : ShiftTables = shift_tables a.p2s.now a.s2pp.now a.nsym_list.now a.perms.now a.n_satom a.n_patom a.num_trans in
+    let T : ShiftTables = given a.tables.now in
     let l = c.loop-i in
     (omega arith, sums-more 27 (leg_block (shifts_of T) 2 a.leg a.t) l.i a.fc.now l.invariant.1 (c.read27-b.ensures ∙ ap (λ b. block 27 b a.fc.now) c.leg_block-at.ensures) c.add_all.ensures)
 
 pub returns : goal.returns
 returns c =
     let a = c.args in
-    let T : ShiftTables = shift_tables a.p2s.now a.s2pp.now a.nsym_list.now a.perms.now a.n_satom a.n_patom a.num_trans in
+    let T : ShiftTables = given a.tables.now in
     let l = c.loop-i in
-    let i : l.i ≡ a.n_satom = omega arith in
+    let i : l.i ≡ a.tables.now.n_satom = omega arith in
     l.invariant.1 ∙ ap (λ k. block_sums 27 (leg_block (shifts_of T) 2 a.leg a.t) k a.fc.now) i

@@ -1,12 +1,12 @@
 use Prim.Native.Nat.{◌-◌, ◌≤◌}
 use mathlib.Core.Path.{◌≡◌}
-use Rattle.tables.specs.Compact.{shift_tables, shifts_of}
+use Rattle.tables.specs.Compact.{shifts_of, given}
 use Rattle.legs.specs.Laws.{leg_block, block_sums}
 use Rattle.legs.proofs.third.leg_sums.Given as goal
 
 abbrev pub invariant-loop-i : goal.invariant-loop-i
 invariant-loop-i l =
-    (l.i ≤ l.n_satom) × (l.sums ≡ block_sums 27 (leg_block (shifts_of (shift_tables l.p2s l.s2pp l.nsym_list l.perms l.n_satom l.n_patom l.num_trans)) 2 l.leg l.t) l.i l.fc)
+    (l.i ≤ l.tables.n_satom) × (l.sums ≡ block_sums 27 (leg_block (shifts_of (given l.tables)) 2 l.leg l.t) l.i l.fc)
 
 abbrev pub decreases-loop-i : goal.decreases-loop-i
-decreases-loop-i l = l.n_satom - l.i
+decreases-loop-i l = l.tables.n_satom - l.i

@@ -5,7 +5,7 @@ use mathlib.Core.Path.{◌≡◌, ap, ◌∙◌, subst}
 use lib.ListN.{length}
 use Rattle.lists.specs.Tab.{times, times_none, times_more}
 use Rattle.lists.specs.Digits.{times_power}
-use Rattle.tables.specs.Compact.{ShiftTables, shift_tables, shifts_of}
+use Rattle.tables.specs.Compact.{ShiftTables, shifts_of, given}
 use Rattle.legs.specs.Laws.{leg_block, line_seen, leg_seen, look_is, length-sums}
 use Rattle.legs.proofs.third.look_leg.Goals as goal
 
@@ -26,7 +26,7 @@ pub overflow_sub-e : goal.overflow_sub-e
 overflow_sub-e c = let h = c.requires.1 in omega arith
 
 pub leg_sums-sums-requires : goal.leg_sums-sums-requires
-leg_sums-sums-requires c = (c.requires.0, omega (arith, c.requires.1), subst (λ (x : ℕ). c.loop-t.t < x) (power c.args.n_satom) c.loop-t-test.true)
+leg_sums-sums-requires c = (c.requires.0, omega (arith, c.requires.1), subst (λ (x : ℕ). c.loop-t.t < x) (power c.args.tables.now.n_satom) c.loop-t-test.true)
 
 pub index_of-requires : goal.index_of-requires
 index_of-requires c =
@@ -48,23 +48,23 @@ index_of-first-requires c =
 pub look_numbers-more-requires : goal.look_numbers-more-requires
 look_numbers-more-requires c =
     let a = c.args in
-    let T : ShiftTables = shift_tables a.p2s.now a.s2pp.now a.nsym_list.now a.perms.now a.n_satom a.n_patom a.num_trans in
+    let T : ShiftTables = given a.tables.now in
     let h = c.requires.0.fit.satoms in
     let g = mul-le-mul h h in
     let k = mul-le-mul c.requires.1 g in
     let l = c.loop-t-test.true in
     let e = c.index_of.ensures in
     let f = c.index_of-first.ensures in
-    let z = ap length c.leg_sums-sums.ensures ∙ length-sums 27 (leg_block (shifts_of T) 2 (2 - a.e) c.loop-t.t) a.n_satom a.fc.now in
+    let z = ap length c.leg_sums-sums.ensures ∙ length-sums 27 (leg_block (shifts_of T) 2 (2 - a.e) c.loop-t.t) a.tables.now.n_satom a.fc.now in
     omega arith
 
 pub loop-t-preserved : goal.loop-t-preserved
 loop-t-preserved c =
     let a = c.args in
-    let T : ShiftTables = shift_tables a.p2s.now a.s2pp.now a.nsym_list.now a.perms.now a.n_satom a.n_patom a.num_trans in
+    let T : ShiftTables = given a.tables.now in
     let l = c.loop-t in
-    let e : c.index_of-first.result ≡ (a.e * times_power a.n_satom 2 1 + l.t) * 27 =
-    c.index_of-first.ensures ∙ zero_more _ ∙ ap (λ x. x * 27) (c.index_of.ensures ∙ ap (λ x. a.e * x + l.t) (power a.n_satom)) in (
+    let e : c.index_of-first.result ≡ (a.e * times_power a.tables.now.n_satom 2 1 + l.t) * 27 =
+    c.index_of-first.ensures ∙ zero_more _ ∙ ap (λ x. x * 27) (c.index_of.ensures ∙ ap (λ x. a.e * x + l.t) (power a.tables.now.n_satom)) in (
       omega arith,
       times_more l.t _ _ l.invariant.1
           (c.look_numbers-more.ensures ∙ look_is (shifts_of T) 2 a.fc.now 27 a.e l.t l.seen e c.leg_sums-sums.ensures),
@@ -74,7 +74,7 @@ pub returns : goal.returns
 unfolding leg_seen
 returns c =
     let a = c.args in
-    let T : ShiftTables = shift_tables a.p2s.now a.s2pp.now a.nsym_list.now a.perms.now a.n_satom a.n_patom a.num_trans in
+    let T : ShiftTables = given a.tables.now in
     let l = c.loop-t in
-    let i : l.t ≡ a.n_satom * a.n_satom = omega (arith, c.loop-t-test.false, l.invariant.0) in
-    l.invariant.1 ∙ ap (λ k. times k (line_seen (shifts_of T) 2 a.fc.now 27 a.e) a.seen0) (i ∙ power a.n_satom)
+    let i : l.t ≡ a.tables.now.n_satom * a.tables.now.n_satom = omega (arith, c.loop-t-test.false, l.invariant.0) in
+    l.invariant.1 ∙ ap (λ k. times k (line_seen (shifts_of T) 2 a.fc.now 27 a.e) a.seen0) (i ∙ power a.tables.now.n_satom)

@@ -8,8 +8,8 @@ use Rattle.read_out.proofs.fc2.rows.Given as goal
 
 abbrev pub invariant-loop-i : goal.invariant-loop-i
 invariant-loop-i l =
-    (l.i ≤ l.n_satom) × (length l.full ≡ length l.initial.full)
-    × (l.full ≡ times l.i (λ i. copy_legs l.perms l.n_satom 9 (index_at l.nsym_list i) 1 i (index_at l.s2pp i) l.fc2) l.initial.full)
+    (l.i ≤ l.tables.n_satom) × (length l.full ≡ length l.initial.full)
+    × (l.full ≡ times l.i (λ i. copy_legs l.tables.perms.now l.tables.n_satom 9 (index_at l.tables.nsym_list.now i) 1 i (index_at l.tables.s2pp.now i) l.fc2) l.initial.full)
 
 abbrev pub decreases-loop-i : goal.decreases-loop-i
-decreases-loop-i l = l.n_satom - l.i
+decreases-loop-i l = l.tables.n_satom - l.i

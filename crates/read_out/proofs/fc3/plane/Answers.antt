@@ -17,7 +17,7 @@ pub index_of-b-requires : goal.index_of-b-requires
 index_of-b-requires c =
     let a = c.args in
     let l = c.loop-j in
-    let k = inside-small a.n_satom 27 1 _ _ (omega arith) (omega arith) (inside-atom a.n_satom 27 1 a.to _ l.j (omega arith) c.requires.blocks_in.0) in
+    let k = inside-small a.tables.now.n_satom 27 1 _ _ (omega arith) (omega arith) (inside-atom a.tables.now.n_satom 27 1 a.to _ l.j (omega arith) c.requires.blocks_in.0) in
     omega arith
 
 pub index_of-f-requires : goal.index_of-f-requires
@@ -26,8 +26,8 @@ index_of-f-requires c =
     let l = c.loop-j in
     let p = c.perms_at-image in
     let i = (c.requires.along l.j (omega arith)).1 in
-    let g : p.result.0 < a.n_satom = omega (arith, p.ensures) in
-    let k = inside-small a.n_satom 27 1 _ _ (omega arith) (omega arith) (inside-atom a.n_satom 27 1 a.from _ p.result.0 g c.requires.blocks_in.1) in
+    let g : p.result.0 < a.tables.now.n_satom = omega (arith, p.ensures) in
+    let k = inside-small a.tables.now.n_satom 27 1 _ _ (omega arith) (omega arith) (inside-atom a.tables.now.n_satom 27 1 a.from _ p.result.0 g c.requires.blocks_in.1) in
     omega arith
 
 pub line-requires : goal.line-requires
@@ -36,7 +36,7 @@ line-requires c =
     let l = c.loop-j in
     let p = c.perms_at-image in
     let i = (c.requires.along l.j (omega arith)).1 in
-    let g : p.result.0 < a.n_satom = omega (arith, p.ensures) in rw (c.index_of-b.ensures, c.index_of-f.ensures, l.invariant.1) (record { along = c.requires.along; blocks_in = (inside-atom a.n_satom 27 1 a.to _ l.j (omega arith) c.requires.blocks_in.0, inside-atom a.n_satom 27 1 a.from _ p.result.0 g c.requires.blocks_in.1) })
+    let g : p.result.0 < a.tables.now.n_satom = omega (arith, p.ensures) in rw (c.index_of-b.ensures, c.index_of-f.ensures, l.invariant.1) (record { along = c.requires.along; blocks_in = (inside-atom a.tables.now.n_satom 27 1 a.to _ l.j (omega arith) c.requires.blocks_in.0, inside-atom a.tables.now.n_satom 27 1 a.from _ p.result.0 g c.requires.blocks_in.1) })
 
 pub loop-j-preserved : goal.loop-j-preserved
 unfolding copy_legs
@@ -44,14 +44,14 @@ loop-j-preserved c =
     let a = c.args in
     let l = c.loop-j in
     let p = c.perms_at-image in
-    let r : c.line.new.full ≡ copy_legs a.perms.now a.n_satom 27 a.t 1 (a.to * a.n_satom + l.j) (a.from * a.n_satom + index_at a.perms.now (a.t * a.n_satom + l.j)) a.fc3.now l.full =
-    ◌∙◌ {b = copy_legs a.perms.now a.n_satom 27 a.t 1 c.index_of-b.result c.index_of-f.result a.fc3.now l.full}
+    let r : c.line.new.full ≡ copy_legs a.tables.now.perms.now a.tables.now.n_satom 27 a.t 1 (a.to * a.tables.now.n_satom + l.j) (a.from * a.tables.now.n_satom + index_at a.tables.now.perms.now (a.t * a.tables.now.n_satom + l.j)) a.fc3.now l.full =
+    ◌∙◌ {b = copy_legs a.tables.now.perms.now a.tables.now.n_satom 27 a.t 1 c.index_of-b.result c.index_of-f.result a.fc3.now l.full}
     c.line.ensures (rw (c.index_of-b.ensures, c.index_of-f.ensures, p.ensures)) in
-    (omega arith, c.line.auto.full ∙ l.invariant.1, times_more l.j (λ k. copy_legs a.perms.now a.n_satom 27 a.t 1 (a.to * a.n_satom + k) (a.from * a.n_satom + index_at a.perms.now (a.t * a.n_satom + k)) a.fc3.now) a.full.now l.invariant.2 r)
+    (omega arith, c.line.auto.full ∙ l.invariant.1, times_more l.j (λ k. copy_legs a.tables.now.perms.now a.tables.now.n_satom 27 a.t 1 (a.to * a.tables.now.n_satom + k) (a.from * a.tables.now.n_satom + index_at a.tables.now.perms.now (a.t * a.tables.now.n_satom + k)) a.fc3.now) a.full.now l.invariant.2 r)
 
 pub returns : goal.returns
 unfolding copy_legs
 returns c =
     let l = c.loop-j in
-    let i : l.j ≡ c.args.n_satom = omega arith in
+    let i : l.j ≡ c.args.tables.now.n_satom = omega arith in
     l.invariant.2 ∙ rw i

@@ -8,8 +8,8 @@ use Rattle.read_out.proofs.fc3.plane.Given as goal
 
 abbrev pub invariant-loop-j : goal.invariant-loop-j
 invariant-loop-j l =
-    (l.j ≤ l.n_satom) × (length l.full ≡ length l.initial.full)
-    × (l.full ≡ times l.j (λ k. copy_legs l.perms l.n_satom 27 l.t 1 (l.to * l.n_satom + k) (l.from * l.n_satom + index_at l.perms (l.t * l.n_satom + k)) l.fc3) l.initial.full)
+    (l.j ≤ l.tables.n_satom) × (length l.full ≡ length l.initial.full)
+    × (l.full ≡ times l.j (λ k. copy_legs l.tables.perms.now l.tables.n_satom 27 l.t 1 (l.to * l.tables.n_satom + k) (l.from * l.tables.n_satom + index_at l.tables.perms.now (l.t * l.tables.n_satom + k)) l.fc3) l.initial.full)
 
 abbrev pub decreases-loop-j : goal.decreases-loop-j
-decreases-loop-j l = l.n_satom - l.j
+decreases-loop-j l = l.tables.n_satom - l.j

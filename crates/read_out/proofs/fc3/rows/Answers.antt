@@ -23,8 +23,8 @@ plane-requires c =
     let R = c.requires in rw (c.nsym_at-t.ensures, c.s2pp_at-p.ensures, l.invariant.1) (record {
       along = perms-read R.read-tables l.i (omega arith);
       blocks_in = (
-        inside_slab a.n_satom 27 2 l.i a.n_satom _ (omega arith) R.full-length,
-        inside_slab a.n_satom 27 2 _ R.read-tables.n_patom _ (s2pp-read R.read-tables l.i (omega arith)).1 R.set-length,
+        inside_slab a.tables.now.n_satom 27 2 l.i a.tables.now.n_satom _ (omega arith) R.full-length,
+        inside_slab a.tables.now.n_satom 27 2 _ R.read-tables.n_patom _ (s2pp-read R.read-tables l.i (omega arith)).1 R.set-length,
       );
     })
 
@@ -32,14 +32,14 @@ pub loop-i-preserved : goal.loop-i-preserved
 loop-i-preserved c =
     let a = c.args in
     let l = c.loop-i in
-    let r : c.plane.new.full ≡ copy_legs a.perms.now a.n_satom 27 (index_at a.nsym_list.now l.i) 2 l.i (index_at a.s2pp.now l.i) a.fc3.now l.full =
-    ◌∙◌ {b = copy_legs a.perms.now a.n_satom 27 c.nsym_at-t.result 2 l.i c.s2pp_at-p.result.0 a.fc3.now l.full}
+    let r : c.plane.new.full ≡ copy_legs a.tables.now.perms.now a.tables.now.n_satom 27 (index_at a.tables.now.nsym_list.now l.i) 2 l.i (index_at a.tables.now.s2pp.now l.i) a.fc3.now l.full =
+    ◌∙◌ {b = copy_legs a.tables.now.perms.now a.tables.now.n_satom 27 c.nsym_at-t.result 2 l.i c.s2pp_at-p.result.0 a.fc3.now l.full}
     c.plane.ensures (rw (c.nsym_at-t.ensures, c.s2pp_at-p.ensures)) in
-    (omega arith, c.plane.auto.full ∙ l.invariant.1, times_more l.i (λ i. copy_legs a.perms.now a.n_satom 27 (index_at a.nsym_list.now i) 2 i (index_at a.s2pp.now i) a.fc3.now) a.full.now l.invariant.2 r)
+    (omega arith, c.plane.auto.full ∙ l.invariant.1, times_more l.i (λ i. copy_legs a.tables.now.perms.now a.tables.now.n_satom 27 (index_at a.tables.now.nsym_list.now i) 2 i (index_at a.tables.now.s2pp.now i) a.fc3.now) a.full.now l.invariant.2 r)
 
 pub returns : goal.returns
 unfolding copy_rows
 returns c =
     let l = c.loop-i in
-    let i : l.i ≡ c.args.n_satom = omega arith in
+    let i : l.i ≡ c.args.tables.now.n_satom = omega arith in
     l.invariant.2 ∙ rw i

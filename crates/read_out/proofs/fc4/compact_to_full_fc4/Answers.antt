@@ -2,7 +2,7 @@ use Rattle.std.proofs.lemmas.Result.{err_from_is_err_and}
 use Rattle.tables.specs.Answers.{passes, refuses}
 use mathlib.Core.Path.{sym, ◌∙◌}
 use lib.Dec.{lit≤}
-use Rattle.tables.specs.Compact.{ShiftTables, shift_tables}
+use Rattle.tables.specs.Compact.{ShiftTables, given}
 use Rattle.read_out.specs.Guard.{in81, read-out-refused, reading}
 use Rattle.read_out.proofs.GuardLaws.{read-out-done}
 use Rattle.read_out.proofs.fc4.compact_to_full_fc4.Goals as goal
@@ -13,18 +13,18 @@ judge-requires c = (lit≤ tt, lit≤ tt)
 pub returns-in_err-judge : goal.returns-in_err-judge
 returns-in_err-judge c =
     let a = c.args in
-    let T : ShiftTables = shift_tables a.p2s.now a.s2pp.now a.nsym_list.now a.perms.now a.n_satom a.n_patom a.num_trans in
+    let T : ShiftTables = given a.tables.now in
     let p = err_from_is_err_and c.from_residual.result c.from_residual.ensures.1 in
     rw (p.1, p.2) (rw (← c.in_err-judge.was) (read-out-refused 64 3 81 in81 (lit≤ tt) a.full.now a.fc4.now T c.judge.result c.judge.ensures (refuses c.in_err-judge.was)))
 
 pub rows-requires : goal.rows-requires
 rows-requires c =
     let a = c.args in
-    let T : ShiftTables = shift_tables a.p2s.now a.s2pp.now a.nsym_list.now a.perms.now a.n_satom a.n_patom a.num_trans in
+    let T : ShiftTables = given a.tables.now in
     reading 64 3 81 in81 (lit≤ tt) a.full.now a.fc4.now T c.judge.result c.judge.ensures (passes c.in_ok-judge.was)
 
 pub returns : goal.returns
 returns c =
     let a = c.args in
-    let T : ShiftTables = shift_tables a.p2s.now a.s2pp.now a.nsym_list.now a.perms.now a.n_satom a.n_patom a.num_trans in
+    let T : ShiftTables = given a.tables.now in
     read-out-done 64 3 81 in81 (lit≤ tt) a.full.now a.fc4.now T c.judge.result c.judge.ensures (passes c.in_ok-judge.was) c.rows.ensures

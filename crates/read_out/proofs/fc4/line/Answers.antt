@@ -18,7 +18,7 @@ pub index_of-b-requires : goal.index_of-b-requires
 index_of-b-requires c =
     let a = c.args in
     let l = c.loop-l in
-    let k = inside-small a.n_satom 81 0 _ _ (omega arith) (omega arith) (inside-atom a.n_satom 81 0 a.to _ l.l (omega arith) c.requires.blocks_in.0) in
+    let k = inside-small a.tables.now.n_satom 81 0 _ _ (omega arith) (omega arith) (inside-atom a.tables.now.n_satom 81 0 a.to _ l.l (omega arith) c.requires.blocks_in.0) in
     omega arith
 
 pub index_of-f-requires : goal.index_of-f-requires
@@ -27,8 +27,8 @@ index_of-f-requires c =
     let l = c.loop-l in
     let p = c.perms_at-image in
     let i = (c.requires.along l.l (omega arith)).1 in
-    let g : p.result.0 < a.n_satom = omega (arith, p.ensures) in
-    let k = inside-small a.n_satom 81 0 _ _ (omega arith) (omega arith) (inside-atom a.n_satom 81 0 a.from _ p.result.0 g c.requires.blocks_in.1) in
+    let g : p.result.0 < a.tables.now.n_satom = omega (arith, p.ensures) in
+    let k = inside-small a.tables.now.n_satom 81 0 _ _ (omega arith) (omega arith) (inside-atom a.tables.now.n_satom 81 0 a.from _ p.result.0 g c.requires.blocks_in.1) in
     omega arith
 
 pub read81-v-requires : goal.read81-v-requires
@@ -37,16 +37,16 @@ read81-v-requires c =
     let l = c.loop-l in
     let p = c.perms_at-image in
     let i = (c.requires.along l.l (omega arith)).1 in
-    let g : p.result.0 < a.n_satom = omega (arith, p.ensures) in
+    let g : p.result.0 < a.tables.now.n_satom = omega (arith, p.ensures) in
     rw c.index_of-f.ensures
-    (inside-block a.n_satom 81 (a.from * a.n_satom + p.result.0) _ (inside-atom a.n_satom 81 0 a.from _ p.result.0 g c.requires.blocks_in.1))
+    (inside-block a.tables.now.n_satom 81 (a.from * a.tables.now.n_satom + p.result.0) _ (inside-atom a.tables.now.n_satom 81 0 a.from _ p.result.0 g c.requires.blocks_in.1))
 
 pub write81-requires : goal.write81-requires
 write81-requires c =
     let a = c.args in
     let l = c.loop-l in
     rw (c.index_of-b.ensures, l.invariant.1)
-    (inside-block a.n_satom 81 (a.to * a.n_satom + l.l) _ (inside-atom a.n_satom 81 0 a.to _ l.l (omega arith) c.requires.blocks_in.0))
+    (inside-block a.tables.now.n_satom 81 (a.to * a.tables.now.n_satom + l.l) _ (inside-atom a.tables.now.n_satom 81 0 a.to _ l.l (omega arith) c.requires.blocks_in.0))
 
 pub loop-l-preserved : goal.loop-l-preserved
 unfolding copy_legs
@@ -54,13 +54,13 @@ loop-l-preserved c =
     let a = c.args in
     let l = c.loop-l in
     let p = c.perms_at-image in
-    let r : c.write81.new.fc ≡ put_block 81 (a.to * a.n_satom + l.l) (block 81 (a.from * a.n_satom + index_at a.perms.now (a.t * a.n_satom + l.l)) a.fc4.now) l.full =
+    let r : c.write81.new.fc ≡ put_block 81 (a.to * a.tables.now.n_satom + l.l) (block 81 (a.from * a.tables.now.n_satom + index_at a.tables.now.perms.now (a.t * a.tables.now.n_satom + l.l)) a.fc4.now) l.full =
     c.write81.ensures ∙ rw (c.read81-v.ensures, c.index_of-b.ensures, c.index_of-f.ensures, p.ensures) in
-    (omega arith, c.write81.auto.fc ∙ l.invariant.1, times_more l.l (λ k. copy_legs a.perms.now a.n_satom 81 a.t 0 (a.to * a.n_satom + k) (a.from * a.n_satom + index_at a.perms.now (a.t * a.n_satom + k)) a.fc4.now) a.full.now l.invariant.2 r)
+    (omega arith, c.write81.auto.fc ∙ l.invariant.1, times_more l.l (λ k. copy_legs a.tables.now.perms.now a.tables.now.n_satom 81 a.t 0 (a.to * a.tables.now.n_satom + k) (a.from * a.tables.now.n_satom + index_at a.tables.now.perms.now (a.t * a.tables.now.n_satom + k)) a.fc4.now) a.full.now l.invariant.2 r)
 
 pub returns : goal.returns
 unfolding copy_legs
 returns c =
     let l = c.loop-l in
-    let i : l.l ≡ c.args.n_satom = omega arith in
+    let i : l.l ≡ c.args.tables.now.n_satom = omega arith in
     l.invariant.2 ∙ rw i

@@ -8,8 +8,8 @@ use Rattle.read_out.proofs.fc4.plane.Given as goal
 
 abbrev pub invariant-loop-k : goal.invariant-loop-k
 invariant-loop-k l =
-    (l.k ≤ l.n_satom) × (length l.full ≡ length l.initial.full)
-    × (l.full ≡ times l.k (λ k. copy_legs l.perms l.n_satom 81 l.t 1 (l.to * l.n_satom + k) (l.from * l.n_satom + index_at l.perms (l.t * l.n_satom + k)) l.fc4) l.initial.full)
+    (l.k ≤ l.tables.n_satom) × (length l.full ≡ length l.initial.full)
+    × (l.full ≡ times l.k (λ k. copy_legs l.tables.perms.now l.tables.n_satom 81 l.t 1 (l.to * l.tables.n_satom + k) (l.from * l.tables.n_satom + index_at l.tables.perms.now (l.t * l.tables.n_satom + k)) l.fc4) l.initial.full)
 
 abbrev pub decreases-loop-k : goal.decreases-loop-k
-decreases-loop-k l = l.n_satom - l.k
+decreases-loop-k l = l.tables.n_satom - l.k

@@ -18,7 +18,7 @@ perms_at-d-requires c = image-read c.requires.0 c.args.v c.args.a.0 c.requires.3
 pub returns : goal.returns
 returns c =
     let a = c.args in
-    let e = c.perms_at-b.ensures ∙ ap (image a.perms.now a.n_satom a.u) c.perms_at.ensures in
+    let e = c.perms_at-b.ensures ∙ ap (image a.tables.now.perms.now a.tables.now.n_satom a.u) c.perms_at.ensures in
     let f = c.perms_at-d.ensures in
     let r = c.eq.ensures in
     (λ q. sym e ∙ eqb-true _ _ (sym r ∙ q) ∙ f, λ q. r ∙ eq-eqb _ _ (e ∙ q ∙ sym f))

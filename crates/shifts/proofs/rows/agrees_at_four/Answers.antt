@@ -28,5 +28,5 @@ agrees_at-s-requires c = let p = c.requires in (p.0, p.1, p.2, p.3, omega (arith
 pub returns : goal.returns
 returns c =
     let a = c.args in
-    four_tell (λ k. image a.perms.now a.n_satom a.u (image a.perms.now a.n_satom a.t k) ≡ image a.perms.now a.n_satom a.v k) a.a _ _ _ _
+    four_tell (λ k. image a.tables.now.perms.now a.tables.now.n_satom a.u (image a.tables.now.perms.now a.tables.now.n_satom a.t k) ≡ image a.tables.now.perms.now a.tables.now.n_satom a.v k) a.a _ _ _ _
     c.agrees_at-p.ensures c.agrees_at-q.ensures c.agrees_at-r.ensures c.agrees_at-s.ensures

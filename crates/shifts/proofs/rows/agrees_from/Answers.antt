@@ -17,7 +17,7 @@ pub loop-a-preserved : goal.loop-a-preserved
 loop-a-preserved c =
     let a = c.args in
     let l = c.loop-a in
-    below_more (λ k. a.start ≤ k → image a.perms.now a.n_satom a.u (image a.perms.now a.n_satom a.t k) ≡ image a.perms.now a.n_satom a.v k) l.a l.invariant (λ _. c.agrees_at.ensures.0 c.if-not-agrees_at.false)
+    below_more (λ k. a.start ≤ k → image a.tables.now.perms.now a.tables.now.n_satom a.u (image a.tables.now.perms.now a.tables.now.n_satom a.t k) ≡ image a.tables.now.perms.now a.tables.now.n_satom a.v k) l.a l.invariant (λ _. c.agrees_at.ensures.0 c.if-not-agrees_at.false)
 
 pub returns-then-not-agrees_at : goal.returns-then-not-agrees_at
 returns-then-not-agrees_at c = (λ q. absurd (true≢false (sym q)), λ f. absurd (not-both (c.agrees_at.ensures.1 (f c.loop-a.a (omega arith) c.loop-a-test.true)) c.if-not-agrees_at.true))

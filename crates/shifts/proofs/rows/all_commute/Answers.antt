@@ -17,7 +17,7 @@ pub loop-g-preserved : goal.loop-g-preserved
 loop-g-preserved c =
     let l = c.loop-g in
     let a = c.args in
-    below_more (λ k. (get_or a.gens.now k 0 ≡ 0 → ⊥) → Commutes a.n_satom a.perms.now k (λ x. get_or a.right.now x 0)) l.g l.invariant (c.generator_commutes.ensures.0 c.if-not-generator_commutes.false)
+    below_more (λ k. (get_or a.gens.now k 0 ≡ 0 → ⊥) → Commutes a.tables.now.n_satom a.tables.now.perms.now k (λ x. get_or a.right.now x 0)) l.g l.invariant (c.generator_commutes.ensures.0 c.if-not-generator_commutes.false)
 
 pub returns-then-not-generator_commutes : goal.returns-then-not-generator_commutes
 returns-then-not-generator_commutes c = (λ q. absurd (true≢false (sym q)), λ f. absurd (not-both (c.generator_commutes.ensures.1 (f c.loop-g.g c.loop-g-test.true)) c.if-not-generator_commutes.true))

@@ -19,7 +19,7 @@ loop-s-preserved c =
     let l = c.loop-s in
     let a = c.args in
     let E = c.is_settled.ensures in
-    (E.0, below_more (λ k. (get_or a.gens.now k 0 ≡ 0 → ⊥) → Settled a.n_satom a.num_trans a.perms.now a.p2s.now a.s2pp.now a.sent.now a.gens.now k) l.s l.invariant.1 (E.1.0 c.if-not-is_settled.false))
+    (E.0, below_more (λ k. (get_or a.gens.now k 0 ≡ 0 → ⊥) → Settled a.tables.now.n_satom a.tables.now.num_trans a.tables.now.perms.now a.tables.now.p2s.now a.tables.now.s2pp.now a.sent.now a.gens.now k) l.s l.invariant.1 (E.1.0 c.if-not-is_settled.false))
 
 pub returns-then-not-is_settled : goal.returns-then-not-is_settled
 returns-then-not-is_settled c = (λ q. absurd (true≢false (sym q)), λ f. absurd (not-both (c.is_settled.ensures.1.1 (f c.loop-s.s c.loop-s-test.true)) c.if-not-is_settled.true))

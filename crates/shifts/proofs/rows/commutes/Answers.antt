@@ -30,14 +30,14 @@ shifted-requires-in-loop-a c =
 pub returns-then-ne : goal.returns-then-ne
 returns-then-ne c =
     let l = c.loop-a in
-    let e = c.perms_at-d.ensures ∙ ap (image c.args.perms.now c.args.n_satom c.args.g) c.shifted.ensures in
+    let e = c.perms_at-d.ensures ∙ ap (image c.args.tables.now.perms.now c.args.tables.now.n_satom c.args.g) c.shifted.ensures in
     let f = c.shifted-in-loop-a.ensures ∙ ap (λ x. get_or c.args.right.now x 0) c.perms_at-b.ensures in
     (λ q. absurd (true≢false (sym q)), λ h. absurd (not-both (eq-eqb _ _ (e ∙ h l.a c.loop-a-test.true ∙ sym f)) (not-true _ (sym c.ne.ensures ∙ c.if-ne.true))))
 
 pub loop-a-preserved : goal.loop-a-preserved
 loop-a-preserved c =
     let l = c.loop-a in
-    let e = c.perms_at-d.ensures ∙ ap (image c.args.perms.now c.args.n_satom c.args.g) c.shifted.ensures in
+    let e = c.perms_at-d.ensures ∙ ap (image c.args.tables.now.perms.now c.args.tables.now.n_satom c.args.g) c.shifted.ensures in
     let f = c.shifted-in-loop-a.ensures ∙ ap (λ x. get_or c.args.right.now x 0) c.perms_at-b.ensures in
     below_more _ l.a l.invariant (sym e ∙ eqb-true _ _ (not-false _ (sym c.ne.ensures ∙ c.if-ne.false)) ∙ f)
 

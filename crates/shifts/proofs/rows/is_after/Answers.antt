@@ -18,7 +18,7 @@ pub loop-f-preserved : goal.loop-f-preserved
 loop-f-preserved c =
     let a = c.args in
     let l = c.loop-f in
-    λ k h. four-more (λ k. image a.perms.now a.n_satom a.u (image a.perms.now a.n_satom a.t k) ≡ image a.perms.now a.n_satom a.v k) (l.f * 4) l.invariant (c.agrees_at_four.ensures.0 c.if-not-agrees_at_four.false) k (omega arith)
+    λ k h. four-more (λ k. image a.tables.now.perms.now a.tables.now.n_satom a.u (image a.tables.now.perms.now a.tables.now.n_satom a.t k) ≡ image a.tables.now.perms.now a.tables.now.n_satom a.v k) (l.f * 4) l.invariant (c.agrees_at_four.ensures.0 c.if-not-agrees_at_four.false) k (omega arith)
 
 pub returns-then-not-agrees_at_four : goal.returns-then-not-agrees_at_four
 returns-then-not-agrees_at_four c =
@@ -31,6 +31,6 @@ pub returns : goal.returns
 returns c =
     let a = c.args in
     let l = c.loop-f in (
-      λ q. all_of_lem (λ k. image a.perms.now a.n_satom a.u (image a.perms.now a.n_satom a.t k) ≡ image a.perms.now a.n_satom a.v k) (l.f * 4) a.n_satom l.invariant (λ k g h. c.agrees_from.ensures.0 q k (omega arith) h),
+      λ q. all_of_lem (λ k. image a.tables.now.perms.now a.tables.now.n_satom a.u (image a.tables.now.perms.now a.tables.now.n_satom a.t k) ≡ image a.tables.now.perms.now a.tables.now.n_satom a.v k) (l.f * 4) a.tables.now.n_satom l.invariant (λ k g h. c.agrees_from.ensures.0 q k (omega arith) h),
       λ f. c.agrees_from.ensures.1 (λ k g h. f k h),
     )

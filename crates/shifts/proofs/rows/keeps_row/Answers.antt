@@ -22,7 +22,7 @@ s2pp_at-q-requires c =
 
 pub returns-then-ne : goal.returns-then-ne
 returns-then-ne c =
-    let e = c.s2pp_at-q.ensures ∙ ap (index_at c.args.s2pp.now) c.perms_at-b.ensures in
+    let e = c.s2pp_at-q.ensures ∙ ap (index_at c.args.tables.now.s2pp.now) c.perms_at-b.ensures in
     (λ q. absurd (true≢false (sym q)), λ K. absurd (not-both (eq-eqb _ _ (e ∙ K.0 ∙ sym c.s2pp_at-p.ensures)) (not-true _ (sym c.ne.ensures ∙ c.if-ne.true))))
 
 pub p2s_at-first-requires : goal.p2s_at-first-requires
@@ -39,8 +39,8 @@ perms_at-requires c =
 pub perms_at-d-requires : goal.perms_at-d-requires
 perms_at-d-requires c =
     let R = c.requires.0.rows in
-    let hs : c.sender.result < c.args.num_trans = omega (arith, c.sender.ensures, sender_below c.requires.0 c.args.a.0 c.requires.2) in
-    let hp : c.p2s_at-first.result.0 < c.args.n_satom = omega (arith, c.p2s_at-first.ensures, (read c.requires.0.reps 0 c.requires.0.rep).1) in
+    let hs : c.sender.result < c.args.tables.now.num_trans = omega (arith, c.sender.ensures, sender_below c.requires.0 c.args.a.0 c.requires.2) in
+    let hp : c.p2s_at-first.result.0 < c.args.tables.now.n_satom = omega (arith, c.p2s_at-first.ensures, (read c.requires.0.reps 0 c.requires.0.rep).1) in
     image-read R c.args.g _ c.requires.1 (omega (arith, c.perms_at.ensures, image-below R _ _ hs hp))
 
 pub sender-requires-2 : goal.sender-requires-2
@@ -55,21 +55,21 @@ pub sender-requires-3 : goal.sender-requires-3
 sender-requires-3 c =
     let Z = c.requires.0 in
     let R = Z.rows in
-    let hs : c.sender.result < c.args.num_trans = omega (arith, c.sender.ensures, sender_below Z c.args.a.0 c.requires.2) in
-    let hp : c.p2s_at-first.result.0 < c.args.n_satom = omega (arith, c.p2s_at-first.ensures, (read Z.reps 0 Z.rep).1) in
-    let hb : c.perms_at.result.0 < c.args.n_satom = omega (arith, c.perms_at.ensures, image-below R _ _ hs hp) in
-    let hd : c.perms_at-d.result.0 < c.args.n_satom = omega (arith, c.perms_at-d.ensures, image-below R c.args.g _ c.requires.1 hb) in
+    let hs : c.sender.result < c.args.tables.now.num_trans = omega (arith, c.sender.ensures, sender_below Z c.args.a.0 c.requires.2) in
+    let hp : c.p2s_at-first.result.0 < c.args.tables.now.n_satom = omega (arith, c.p2s_at-first.ensures, (read Z.reps 0 Z.rep).1) in
+    let hb : c.perms_at.result.0 < c.args.tables.now.n_satom = omega (arith, c.perms_at.ensures, image-below R _ _ hs hp) in
+    let hd : c.perms_at-d.result.0 < c.args.tables.now.n_satom = omega (arith, c.perms_at-d.ensures, image-below R c.args.g _ c.requires.1 hb) in
     (omega (arith, R.atoms, hd), sent_pos Z _ hd)
 
 pub returns : goal.returns
 returns c =
     let a = c.args in
     let Z = c.requires.0 in
-    let im : ℕ → ℕ → ℕ = λ t x. image a.perms.now a.n_satom t x in
+    let im : ℕ → ℕ → ℕ = λ t x. image a.tables.now.perms.now a.tables.now.n_satom t x in
     let at : ℕ → ℕ = λ x. get_or a.sent.now x 0 in
     let e = ap at c.perms_at-b.ensures in
     let f = c.perms_at-d.ensures ∙ ap (im a.g) (c.perms_at.ensures ∙ ap (λ x. im x c.p2s_at-first.result.0) c.sender.ensures ∙ ap (im (get_or a.sent.now a.a.0 0 - 1)) c.p2s_at-first.ensures) in
-    let i = c.s2pp_at-q.ensures ∙ ap (index_at a.s2pp.now) c.perms_at-b.ensures in
+    let i = c.s2pp_at-q.ensures ∙ ap (index_at a.tables.now.s2pp.now) c.perms_at-b.ensures in
     let hb = image-below Z.rows a.g a.a.0 c.requires.1 c.requires.2 in
     let hd = image-below Z.rows a.g _ c.requires.1 (image-below Z.rows _ _ (sender_below Z a.a.0 c.requires.2) (read Z.reps 0 Z.rep).1) in (
       λ q. (

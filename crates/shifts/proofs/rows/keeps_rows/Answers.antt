@@ -16,7 +16,7 @@ pub loop-a-preserved : goal.loop-a-preserved
 loop-a-preserved c =
     let l = c.loop-a in
     let a = c.args in
-    below_more (λ k. KeepsAt a.n_satom a.perms.now a.p2s.now a.s2pp.now a.sent.now a.g k) l.a l.invariant (c.keeps_row.ensures.0 c.if-not-keeps_row.false)
+    below_more (λ k. KeepsAt a.tables.now.n_satom a.tables.now.perms.now a.tables.now.p2s.now a.tables.now.s2pp.now a.sent.now a.g k) l.a l.invariant (c.keeps_row.ensures.0 c.if-not-keeps_row.false)
 
 pub returns-then-not-keeps_row : goal.returns-then-not-keeps_row
 returns-then-not-keeps_row c = (λ q. absurd (true≢false (sym q)), λ f. absurd (not-both (c.keeps_row.ensures.1 (f c.loop-a.a c.loop-a-test.true)) c.if-not-keeps_row.true))

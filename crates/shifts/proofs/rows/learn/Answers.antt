@@ -23,7 +23,7 @@ pub spread-requires : goal.spread-requires
 spread-requires c =
     let a = c.args in
     let h : a.u < 1024 = omega (arith, c.requires.rows.0.rows.shifts, c.requires.rows.2) in
-    let g = gens_more a.gens.now a.u h c.requires.made.2 in record { rows = c.requires.rows; made = (generator g.1, made_more a.n_satom a.num_trans a.perms.now a.gens.now _ g.0 c.requires.made.0, known_more a.n_satom a.num_trans a.perms.now a.gens.now _ a.known.now g.0 c.requires.made.1) }
+    let g = gens_more a.gens.now a.u h c.requires.made.2 in record { rows = c.requires.rows; made = (generator g.1, made_more a.tables.now.n_satom a.tables.now.num_trans a.tables.now.perms.now a.gens.now _ g.0 c.requires.made.0, known_more a.tables.now.n_satom a.tables.now.num_trans a.tables.now.perms.now a.gens.now _ a.known.now g.0 c.requires.made.1) }
 
 pub returns : goal.returns
 returns c =

@@ -28,12 +28,12 @@ returns-then-is_after c =
     let a = c.args in
     let hv = c.row_after-v.ensures.0 in
     let e = c.is_after.ensures.0 c.if-is_after.true in
-    (known-linked a.n_satom a.num_trans a.perms.now a.gens.now a.known.now a.r _ c.requires.rows.0.rows c.requires.rows.1 hv c.requires.made.2 c.requires.made.1 (shift-after c.requires.rows.1 c.requires.rows.2 c.requires.made.1 c.requires.made.0 e), λ _. refl)
+    (known-linked a.tables.now.n_satom a.tables.now.num_trans a.tables.now.perms.now a.gens.now a.known.now a.r _ c.requires.rows.0.rows c.requires.rows.1 hv c.requires.made.2 c.requires.made.1 (shift-after c.requires.rows.1 c.requires.rows.2 c.requires.made.1 c.requires.made.0 e), λ _. refl)
 
 pub returns : goal.returns
 returns c =
     let a = c.args in
     let w = c.row_after-v.ensures in (
       c.requires.made.2,
-      λ C. absurd (not-both (c.is_after.ensures.1 (mark_composed a.n_satom a.num_trans a.perms.now a.base.0 a.sent.now c.requires.rows.0 C a.r a.u _ c.requires.rows.1 c.requires.rows.2 w.1)) c.if-is_after.false),
+      λ C. absurd (not-both (c.is_after.ensures.1 (mark_composed a.tables.now.n_satom a.tables.now.num_trans a.tables.now.perms.now a.base.0 a.sent.now c.requires.rows.0 C a.r a.u _ c.requires.rows.1 c.requires.rows.2 w.1)) c.if-is_after.false),
     )

@@ -18,7 +18,7 @@ bounds-known-null c = omega (arith, c.requires.0.rows.shifts, c.requires.1)
 pub loop-u-init : goal.loop-u-init
 loop-u-init c =
     let a = c.args in
-    (c.requires.3, λ k h. absurd (omega arith), known_start a.n_satom a.num_trans a.perms.now a.gens.now a.null (omega (arith, c.requires.0.rows.shifts, c.requires.1)) (c.requires.2 a.gens.now))
+    (c.requires.3, λ k h. absurd (omega arith), known_start a.tables.now.n_satom a.tables.now.num_trans a.tables.now.perms.now a.gens.now a.null (omega (arith, c.requires.0.rows.shifts, c.requires.1)) (c.requires.2 a.gens.now))
 
 pub learn-requires : goal.learn-requires
 learn-requires c =
@@ -29,7 +29,7 @@ loop-u-preserved c =
     let a = c.args in
     let l = c.loop-u in
     let L = c.learn.ensures.0 in
-    (L.size, below_more _ l.u (λ k b. made_more a.n_satom a.num_trans a.perms.now l.gens _ L.more (l.invariant.1 k b)) L.made, L.knows)
+    (L.size, below_more _ l.u (λ k b. made_more a.tables.now.n_satom a.tables.now.num_trans a.tables.now.perms.now l.gens _ L.more (l.invariant.1 k b)) L.made, L.knows)
 
 pub returns-then-not-learn : goal.returns-then-not-learn
 returns-then-not-learn c = (λ q. absurd (true≢false (sym q)), λ C. absurd (not-both (c.learn.ensures.1 C) c.if-not-learn.true))

@@ -17,7 +17,7 @@ pub sender-requires : goal.sender-requires
 sender-requires c =
     let a = c.args in
     let M = c.requires.0 in
-    let e = c.perms_at-2.ensures ∙ ap (image a.perms.now a.n_satom a.u) c.perms_at.ensures in
+    let e = c.perms_at-2.ensures ∙ ap (image a.tables.now.perms.now a.tables.now.n_satom a.u) c.perms_at.ensures in
     let f = ap (λ x. get_or a.sent.now x 0) e in
     let h = image-below M.rows a.u _ c.requires.2 (image-below M.rows a.r a.base.0 c.requires.1 M.below) in
     (omega (arith, e, M.rows.atoms, h), omega (arith, f, (M.named _ h).0))
@@ -26,7 +26,7 @@ pub returns : goal.returns
 returns c =
     let a = c.args in
     let M = c.requires.0 in
-    let e = c.perms_at-2.ensures ∙ ap (image a.perms.now a.n_satom a.u) c.perms_at.ensures in
+    let e = c.perms_at-2.ensures ∙ ap (image a.tables.now.perms.now a.tables.now.n_satom a.u) c.perms_at.ensures in
     let f = ap (λ x. get_or a.sent.now x 0) e in
     let h = M.named _ (image-below M.rows a.u _ c.requires.2 (image-below M.rows a.r a.base.0 c.requires.1 M.below)) in
     let r = c.sender.ensures in

@@ -29,14 +29,14 @@ sender-requires c =
 pub perms_at-requires : goal.perms_at-requires
 perms_at-requires c =
     let Z = c.requires.0 in
-    let ho : c.s2pp_at.result.0 < c.args.n_patom = omega (arith, c.s2pp_at.ensures, (read Z.orbs c.loop-a.a c.loop-a-test.true).1) in
+    let ho : c.s2pp_at.result.0 < c.args.tables.now.n_patom = omega (arith, c.s2pp_at.ensures, (read Z.orbs c.loop-a.a c.loop-a-test.true).1) in
     image-read Z.rows c.args.s _ c.requires.1 (omega (arith, c.p2s_at-p.ensures, (read Z.reps _ ho).1))
 
 pub perms_at-b-requires : goal.perms_at-b-requires
 perms_at-b-requires c =
     let Z = c.requires.0 in
-    let ho : c.s2pp_at.result.0 < c.args.n_patom = omega (arith, c.s2pp_at.ensures, (read Z.orbs c.loop-a.a c.loop-a-test.true).1) in
-    let hp : c.p2s_at-p.result.0 < c.args.n_satom = omega (arith, c.p2s_at-p.ensures, (read Z.reps _ ho).1) in
+    let ho : c.s2pp_at.result.0 < c.args.tables.now.n_patom = omega (arith, c.s2pp_at.ensures, (read Z.orbs c.loop-a.a c.loop-a-test.true).1) in
+    let hp : c.p2s_at-p.result.0 < c.args.tables.now.n_satom = omega (arith, c.p2s_at-p.ensures, (read Z.reps _ ho).1) in
     let (t, ht, e, f) = Z.named c.loop-a.a c.loop-a-test.true in
     image-read Z.rows _ _ (omega (arith, c.sender.ensures)) (omega (arith, c.perms_at.ensures, image-below Z.rows c.args.s _ c.requires.1 hp))
 
@@ -50,13 +50,13 @@ pub loop-a-preserved : goal.loop-a-preserved
 loop-a-preserved c =
     let a = c.args in
     let l = c.loop-a in
-    let im : ℕ → ℕ → ℕ = λ t x. image a.perms.now a.n_satom t x in
+    let im : ℕ → ℕ → ℕ = λ t x. image a.tables.now.perms.now a.tables.now.n_satom t x in
     let v = c.perms_at-b.result.0 in
-    let e : v ≡ right_of a.perms.now a.n_satom a.p2s.now a.s2pp.now a.sent.now a.s l.a =
+    let e : v ≡ right_of a.tables.now.perms.now a.tables.now.n_satom a.tables.now.p2s.now a.tables.now.s2pp.now a.sent.now a.s l.a =
     c.perms_at-b.ensures ∙ ap (λ x. im x c.perms_at.result.0) c.sender.ensures
-    ∙ ap (im (get_or a.sent.now l.a 0 - 1)) (c.perms_at.ensures ∙ ap (im a.s) (c.p2s_at-p.ensures ∙ ap (index_at a.p2s.now) c.s2pp_at.ensures)) in
+    ∙ ap (im (get_or a.sent.now l.a 0 - 1)) (c.perms_at.ensures ∙ ap (im a.s) (c.p2s_at-p.ensures ∙ ap (index_at a.tables.now.p2s.now) c.s2pp_at.ensures)) in
     let h : l.a < length l.right = omega (arith, c.requires.0.rows.atoms, c.loop-a-test.true, l.invariant.1) in (
-      below_more (λ k. get_or (set l.right l.a v) k 0 ≡ right_of a.perms.now a.n_satom a.p2s.now a.s2pp.now a.sent.now a.s k) l.a
+      below_more (λ k. get_or (set l.right l.a v) k 0 ≡ right_of a.tables.now.perms.now a.tables.now.n_satom a.tables.now.p2s.now a.tables.now.s2pp.now a.sent.now a.s k) l.a
           (λ k b. get_or-set_other l.right l.a k v 0 (λ q. omega arith) ∙ l.invariant.0 k b)
           (get_or-set_same l.right l.a v 0 h ∙ e),
       length-set l.right l.a v ∙ l.invariant.1,

@@ -6,4 +6,4 @@ use Rattle.tables.specs.Shifts.{is_null}
 use Rattle.shifts.proofs.rules.has_null.Given as goal
 
 abbrev pub invariant-loop-t : goal.invariant-loop-t
-invariant-loop-t l = (k : ℕ) → k < l.t → is_null (rows_of l.n_satom l.num_trans l.perms) k ≡ false
+invariant-loop-t l = (k : ℕ) → k < l.t → is_null (rows_of l.tables.n_satom l.tables.num_trans l.tables.perms.now) k ≡ false

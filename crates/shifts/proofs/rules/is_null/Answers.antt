@@ -19,16 +19,16 @@ unfolding is_null
 returns-then-ne c =
     let a = c.args in
     let k = c.loop-a.a in
-    let e = c.perms_at-b.ensures ∙ row_is a.n_satom a.num_trans a.perms.now a.t k in
-    one_failed a.n_satom _ k c.loop-a-test.true (ap (λ x. eqb x k) (sym e) ∙ not-true _ (sym c.ne.ensures ∙ c.if-ne.true))
+    let e = c.perms_at-b.ensures ∙ row_is a.tables.now.n_satom a.tables.now.num_trans a.tables.now.perms.now a.t k in
+    one_failed a.tables.now.n_satom _ k c.loop-a-test.true (ap (λ x. eqb x k) (sym e) ∙ not-true _ (sym c.ne.ensures ∙ c.if-ne.true))
 
 pub loop-a-preserved : goal.loop-a-preserved
 loop-a-preserved c =
     let a = c.args in
     let l = c.loop-a in
-    let e = c.perms_at-b.ensures ∙ row_is a.n_satom a.num_trans a.perms.now a.t l.a in
+    let e = c.perms_at-b.ensures ∙ row_is a.tables.now.n_satom a.tables.now.num_trans a.tables.now.perms.now a.t l.a in
     below_more _ l.a l.invariant (ap (λ x. eqb x l.a) (sym e) ∙ not-false _ (sym c.ne.ensures ∙ c.if-ne.false))
 
 pub returns : goal.returns
 unfolding is_null
-returns c = let a = c.args in all-passed a.n_satom _ (λ k h. c.loop-a.invariant k (omega arith))
+returns c = let a = c.args in all-passed a.tables.now.n_satom _ (λ k h. c.loop-a.invariant k (omega arith))

@@ -7,4 +7,4 @@ use Rattle.tables.specs.Shifts.{row}
 use Rattle.shifts.proofs.rules.is_null.Given as goal
 
 abbrev pub invariant-loop-a : goal.invariant-loop-a
-invariant-loop-a l = (k : ℕ) → k < l.a → eqb (row (rows_of l.n_satom l.num_trans l.perms) l.t k) k ≡ true
+invariant-loop-a l = (k : ℕ) → k < l.a → eqb (row (rows_of l.tables.n_satom l.tables.num_trans l.tables.perms.now) l.t k) k ≡ true

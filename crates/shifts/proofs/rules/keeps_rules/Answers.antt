@@ -3,7 +3,7 @@ use Prim.Native.Nat.{◌<◌}
 use native.Mathlib.Omega.{arith}
 use borrow.Author.Tests.{eq-eqb, ne_eqb}
 use Rattle.lists.specs.Tests.{refuted, not-both, same_test}
-use Rattle.tables.specs.Compact.{ShiftTables, shift_tables, shifts_of, fit-within}
+use Rattle.tables.specs.Compact.{ShiftTables, shifts_of, fit-within, given}
 use Rattle.tables.specs.Conditions.{read}
 use Rattle.tables.specs.Shifts.{counts_agree, ruled}
 use Rattle.shifts.proofs.Inverses.{all-ruled, ruled-spread, ruled-placed, ruled-closed, closed-rows, closed_none, placed-kept, placed-free, sent_of}
@@ -12,25 +12,25 @@ use Rattle.tables.proofs.Loops.{told-no, told_yes}
 use Rattle.shifts.proofs.rules.keeps_rules.Goals as goal
 
 pub overflow_mul-n_patom : goal.overflow_mul-n_patom
-overflow_mul-n_patom c = omega (arith, product_small c.args.n_patom c.args.num_trans c.requires.patoms c.requires.shifts)
+overflow_mul-n_patom c = omega (arith, product_small c.args.tables.now.n_patom c.args.tables.now.num_trans c.requires.patoms c.requires.shifts)
 
 pub returns-then-n_satom-n_patom : goal.returns-then-n_satom-n_patom
 unfolding counts_agree
 returns-then-n_satom-n_patom c =
     let a = c.args in
-    let T : ShiftTables = shift_tables a.p2s.now a.s2pp.now a.nsym_list.now a.perms.now a.n_satom a.n_patom a.num_trans in
+    let T : ShiftTables = given a.tables.now in
     sym (refuted (ruled (shifts_of T)) (λ e. not-both (rules_of (shifts_of T) e).0 (ne_eqb _ _ c.if-n_satom-n_patom.true)))
 
 pub returns-then-not-has_null : goal.returns-then-not-has_null
 returns-then-not-has_null c =
     let a = c.args in
-    let T : ShiftTables = shift_tables a.p2s.now a.s2pp.now a.nsym_list.now a.perms.now a.n_satom a.n_patom a.num_trans in
+    let T : ShiftTables = given a.tables.now in
     sym (refuted (ruled (shifts_of T)) (λ e. not-both (rules_of (shifts_of T) e).1.1.0 (sym (same-null T) ∙ told-no c.has_null.ensures c.if-not-has_null.true-raw)))
 
 pub returns-then-not-nsym_lands : goal.returns-then-not-nsym_lands
 returns-then-not-nsym_lands c =
     let a = c.args in
-    let T : ShiftTables = shift_tables a.p2s.now a.s2pp.now a.nsym_list.now a.perms.now a.n_satom a.n_patom a.num_trans in
+    let T : ShiftTables = given a.tables.now in
     sym (refuted (ruled (shifts_of T)) (λ e. not-both (rules_of (shifts_of T) e).1.1.1.1.1.1.1 (told-no c.nsym_lands.ensures c.if-not-nsym_lands.true-raw)))
 
 pub place_all-requires : goal.place_all-requires
@@ -39,7 +39,7 @@ place_all-requires c = let F = c.requires in (F.p2s-fit, F.s2pp-fit, record { at
 pub returns-then-not-place_all : goal.returns-then-not-place_all
 returns-then-not-place_all c =
     let a = c.args in
-    let T : ShiftTables = shift_tables a.p2s.now a.s2pp.now a.nsym_list.now a.perms.now a.n_satom a.n_patom a.num_trans in
+    let T : ShiftTables = given a.tables.now in
     sym (refuted (ruled (shifts_of T)) (λ e. not-both (c.place_all.ensures.1 (ruled-spread T c.requires e)) c.if-not-place_all.true))
 
 pub all_placed-requires : goal.all_placed-requires
@@ -49,7 +49,7 @@ pub returns-then-not-all_placed : goal.returns-then-not-all_placed
 returns-then-not-all_placed c =
     let a = c.args in
     let w = c.place_all in
-    let T : ShiftTables = shift_tables a.p2s.now a.s2pp.now a.nsym_list.now a.perms.now a.n_satom a.n_patom a.num_trans in
+    let T : ShiftTables = given a.tables.now in
     let L = w.ensures.0 c.if-not-place_all.false in
     sym (refuted (ruled (shifts_of T)) (λ e. not-both (c.all_placed.ensures.1 (ruled-placed T c.requires _ L e)) c.if-not-all_placed.true))
 
@@ -57,7 +57,7 @@ pub returns-then-n_satom-eq0 : goal.returns-then-n_satom-eq0
 unfolding counts_agree
 returns-then-n_satom-eq0 c =
     let a = c.args in
-    let T : ShiftTables = shift_tables a.p2s.now a.s2pp.now a.nsym_list.now a.perms.now a.n_satom a.n_patom a.num_trans in
+    let T : ShiftTables = given a.tables.now in
     let L = c.place_all.ensures.0 c.if-not-place_all.false in
     sym (all-ruled (shifts_of T) (fit-within T c.requires) (eq-eqb _ _ c.if-n_satom-n_patom.false)
     (sym (same-null T) ∙ told_yes c.has_null.ensures c.if-not-has_null.false-raw)
@@ -69,17 +69,17 @@ returns-then-n_satom-eq0 c =
 pub rows_closed-requires : goal.rows_closed-requires
 rows_closed-requires c =
     let a = c.args in
-    let T : ShiftTables = shift_tables a.p2s.now a.s2pp.now a.nsym_list.now a.perms.now a.n_satom a.n_patom a.num_trans in
+    let T : ShiftTables = given a.tables.now in
     let L = c.place_all.ensures.0 c.if-not-place_all.false in
     let C = c.all_placed.ensures.0 c.if-not-all_placed.false in
-    let atom : 0 < a.n_satom = omega arith in
+    let atom : 0 < a.tables.now.n_satom = omega arith in
     sent_of T c.requires _ L (sym (same-null T) ∙ told_yes c.has_null.ensures c.if-not-has_null.false-raw) C (omega (arith, (read c.requires.s2pp-fit 0 atom).1))
 
 pub returns : goal.returns
 unfolding counts_agree
 returns c =
     let a = c.args in
-    let T : ShiftTables = shift_tables a.p2s.now a.s2pp.now a.nsym_list.now a.perms.now a.n_satom a.n_patom a.num_trans in
+    let T : ShiftTables = given a.tables.now in
     let L = c.place_all.ensures.0 c.if-not-place_all.false in
     same_test _ (ruled (shifts_of T))
     (λ e.

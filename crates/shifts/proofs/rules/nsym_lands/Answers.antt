@@ -4,7 +4,7 @@ use lib.Dec.{eqb}
 use borrow.Author.Tests.{not-true, not-false}
 use borrow.Author.Count.{below_none, below_more}
 use Rattle.lists.specs.Digits.{in_row}
-use Rattle.tables.specs.Compact.{ShiftTables, shift_tables, shifts_of, perms_is, p2s_is, s2pp_is, nsym_is}
+use Rattle.tables.specs.Compact.{ShiftTables, shifts_of, perms_is, p2s_is, s2pp_is, nsym_is, given}
 use Rattle.tables.specs.Shifts.{Shifts, row, p2s_at, s2pp_at, nsym_at, nsym_lands}
 use Rattle.tables.specs.Conditions.{read}
 use Rattle.tables.proofs.Loops.{all-passed, one_failed}
@@ -20,7 +20,7 @@ pub perms_at-b-requires : goal.perms_at-b-requires
 perms_at-b-requires c =
     let k = c.loop-a.a in
     let h = c.loop-a-test.true in
-    (read c.requires.perms-fit _ (in_row c.args.num_trans c.args.n_satom c.nsym_at.result k (omega (arith, c.nsym_at.ensures, (read c.requires.nsym_fit k h).1)) h)).0
+    (read c.requires.perms-fit _ (in_row c.args.tables.now.num_trans c.args.tables.now.n_satom c.nsym_at.result k (omega (arith, c.nsym_at.ensures, (read c.requires.nsym_fit k h).1)) h)).0
 
 pub s2pp_at-requires : goal.s2pp_at-requires
 s2pp_at-requires c = (read c.requires.s2pp-fit c.loop-a.a c.loop-a-test.true).0
@@ -34,7 +34,7 @@ unfolding nsym_lands
 returns-then-ne c =
     let a = c.args in
     let l = c.loop-a in
-    let T : ShiftTables = shift_tables a.p2s.now a.s2pp.now a.nsym_list.now a.perms.now a.n_satom a.n_patom a.num_trans in
+    let T : ShiftTables = given a.tables.now in
     let S : Shifts = shifts_of T in
     let e : c.perms_at-b.result.0 ≡ row S (nsym_at S l.a) l.a =
     c.perms_at-b.ensures ∙ perms_is T _ l.a ∙ ap (λ t. row S t l.a) (c.nsym_at.ensures ∙ nsym_is T l.a) in
@@ -45,7 +45,7 @@ pub loop-a-preserved : goal.loop-a-preserved
 loop-a-preserved c =
     let a = c.args in
     let l = c.loop-a in
-    let T : ShiftTables = shift_tables a.p2s.now a.s2pp.now a.nsym_list.now a.perms.now a.n_satom a.n_patom a.num_trans in
+    let T : ShiftTables = given a.tables.now in
     let S : Shifts = shifts_of T in
     let e : c.perms_at-b.result.0 ≡ row S (nsym_at S l.a) l.a =
     c.perms_at-b.ensures ∙ perms_is T _ l.a ∙ ap (λ t. row S t l.a) (c.nsym_at.ensures ∙ nsym_is T l.a) in

@@ -18,14 +18,14 @@ place_images-requires c =
     let a = c.args in
     let l = c.loop-p in
     let h = (read c.requires.0 l.p c.loop-p-test.true).1 in
-    (c.requires.1, c.requires.2, omega (arith, c.p2s_at-a.ensures, h), placed-fresh a.n_satom a.num_trans l.p a.perms.now a.p2s.now a.s2pp.now l.sent l.invariant, l.invariant.size)
+    (c.requires.1, c.requires.2, omega (arith, c.p2s_at-a.ensures, h), placed-fresh a.tables.now.n_satom a.tables.now.num_trans l.p a.tables.now.perms.now a.tables.now.p2s.now a.tables.now.s2pp.now l.sent l.invariant, l.invariant.size)
 
 pub loop-p-preserved : goal.loop-p-preserved
 loop-p-preserved c =
     let a = c.args in
     let l = c.loop-p in
     let e = c.p2s_at-a.ensures in
-    placed-more a.n_satom a.num_trans l.p a.perms.now a.p2s.now a.s2pp.now l.sent l.invariant _ _ e (c.place_images.ensures.0 c.if-not-place_images.false)
+    placed-more a.tables.now.n_satom a.tables.now.num_trans l.p a.tables.now.perms.now a.tables.now.p2s.now a.tables.now.s2pp.now l.sent l.invariant _ _ e (c.place_images.ensures.0 c.if-not-place_images.false)
 
 pub returns-then-not-place_images : goal.returns-then-not-place_images
 returns-then-not-place_images c =
@@ -34,7 +34,7 @@ returns-then-not-place_images c =
     let e = c.p2s_at-a.ensures in (
       λ q. absurd (true≢false (sym q)),
       λ f.
-          let o = subst (λ x. Spread a.n_satom a.num_trans a.perms.now a.s2pp.now x l.p) (sym e) (f l.p c.loop-p-test.true) in
+          let o = subst (λ x. Spread a.tables.now.n_satom a.tables.now.num_trans a.tables.now.perms.now a.tables.now.s2pp.now x l.p) (sym e) (f l.p c.loop-p-test.true) in
           absurd (not-both (c.place_images.ensures.1 o) c.if-not-place_images.true),
     )
 
@@ -42,5 +42,5 @@ pub returns : goal.returns
 returns c =
     let a = c.args in
     let l = c.loop-p in
-    let i : l.p ≡ a.n_patom = omega arith in
-    (λ _. subst (λ k. Placed a.n_satom a.num_trans k a.perms.now a.p2s.now a.s2pp.now l.sent) i l.invariant, λ _. refl)
+    let i : l.p ≡ a.tables.now.n_patom = omega arith in
+    (λ _. subst (λ k. Placed a.tables.now.n_satom a.tables.now.num_trans k a.tables.now.perms.now a.tables.now.p2s.now a.tables.now.s2pp.now l.sent) i l.invariant, λ _. refl)

@@ -26,7 +26,7 @@ pub returns-then-ne : goal.returns-then-ne
 returns-then-ne c =
     let a = c.args in
     let l = c.loop-t in
-    let e = c.s2pp_at-q.ensures ∙ ap (index_at a.s2pp.now) c.perms_at-x.ensures in
+    let e = c.s2pp_at-q.ensures ∙ ap (index_at a.tables.now.s2pp.now) c.perms_at-x.ensures in
     (λ q. absurd (true≢false (sym q)), λ f. absurd (not-both (eq-eqb _ _ (e ∙ f.0 l.t c.loop-t-test.true)) (not-true _ (sym c.ne.ensures ∙ c.if-ne.true))))
 
 pub offset_bounds-sent-i : goal.offset_bounds-sent-i
@@ -44,7 +44,7 @@ returns-then-sent-i-ne0 c =
     let h = c.loop-t-test.true in
     let e = c.perms_at-x.ensures in (
       λ q. absurd (true≢false (sym q)),
-      λ f. absurd (placing-twice a.n_satom l.t a.a.0 a.p.0 a.perms.now a.s2pp.now a.sent.now l.sent l.invariant a.num_trans h c.requires.3 f (λ z. c.if-sent-i-ne0.true (ap (λ x. get_or l.sent x 0) e ∙ z))),
+      λ f. absurd (placing-twice a.tables.now.n_satom l.t a.a.0 a.p.0 a.tables.now.perms.now a.tables.now.s2pp.now a.sent.now l.sent l.invariant a.tables.now.num_trans h c.requires.3 f (λ z. c.if-sent-i-ne0.true (ap (λ x. get_or l.sent x 0) e ∙ z))),
     )
 
 pub offset_bounds-sent-i-in-loop-t : goal.offset_bounds-sent-i-in-loop-t
@@ -60,15 +60,15 @@ loop-t-preserved c =
     let a = c.args in
     let l = c.loop-t in
     let h = c.loop-t-test.true in
-    let e : c.perms_at-x.result.0 ≡ image a.perms.now a.n_satom l.t a.a.0 = c.perms_at-x.ensures in
-    let f = c.s2pp_at-q.ensures ∙ ap (index_at a.s2pp.now) e in
-    let small : image a.perms.now a.n_satom l.t a.a.0 < 1024 = omega (arith, c.requires.1.atoms, image-below c.requires.1 l.t a.a.0 h c.requires.2) in
-    subst (λ x. Placing a.n_satom (l.t + 1) a.a.0 a.p.0 a.perms.now a.s2pp.now a.sent.now (set l.sent x (l.t + 1))) (sym e)
-    (placing-more a.n_satom l.t a.a.0 a.p.0 a.perms.now a.s2pp.now a.sent.now l.sent l.invariant small (sym f ∙ eqb-true _ _ (not-false _ (sym c.ne.ensures ∙ c.if-ne.false))) (ap (λ x. get_or l.sent x 0) (sym e) ∙ c.if-sent-i-ne0.false))
+    let e : c.perms_at-x.result.0 ≡ image a.tables.now.perms.now a.tables.now.n_satom l.t a.a.0 = c.perms_at-x.ensures in
+    let f = c.s2pp_at-q.ensures ∙ ap (index_at a.tables.now.s2pp.now) e in
+    let small : image a.tables.now.perms.now a.tables.now.n_satom l.t a.a.0 < 1024 = omega (arith, c.requires.1.atoms, image-below c.requires.1 l.t a.a.0 h c.requires.2) in
+    subst (λ x. Placing a.tables.now.n_satom (l.t + 1) a.a.0 a.p.0 a.tables.now.perms.now a.tables.now.s2pp.now a.sent.now (set l.sent x (l.t + 1))) (sym e)
+    (placing-more a.tables.now.n_satom l.t a.a.0 a.p.0 a.tables.now.perms.now a.tables.now.s2pp.now a.sent.now l.sent l.invariant small (sym f ∙ eqb-true _ _ (not-false _ (sym c.ne.ensures ∙ c.if-ne.false))) (ap (λ x. get_or l.sent x 0) (sym e) ∙ c.if-sent-i-ne0.false))
 
 pub returns : goal.returns
 returns c =
     let a = c.args in
     let l = c.loop-t in
-    let i : l.t ≡ a.num_trans = omega arith in
-    (λ _. subst (λ k. Placing a.n_satom k a.a.0 a.p.0 a.perms.now a.s2pp.now a.sent.now l.sent) i l.invariant, λ _. refl)
+    let i : l.t ≡ a.tables.now.num_trans = omega arith in
+    (λ _. subst (λ k. Placing a.tables.now.n_satom k a.a.0 a.p.0 a.tables.now.perms.now a.tables.now.s2pp.now a.sent.now l.sent) i l.invariant, λ _. refl)

@@ -18,7 +18,7 @@ atom_at-requires-4 c = (lit< tt, leg-below c.args.o.now c.requires.1 3 (lit< tt)
 
 pub stored_block4-requires : goal.stored_block4-requires
 stored_block4-requires c =
-    let b = named-below c.args.o.now c.requires.1 c.args.n_satom (c.args.i.0 ∷ c.args.j.0 ∷ c.args.k.0 ∷ c.args.l.0 ∷ []) refl c.requires.2 in (
+    let b = named-below c.args.o.now c.requires.1 c.args.tables.now.n_satom (c.args.i.0 ∷ c.args.j.0 ∷ c.args.k.0 ∷ c.args.l.0 ∷ []) refl c.requires.2 in (
       c.requires.0,
       rw c.atom_at.ensures (b 0 (lit< tt)),
       rw c.atom_at-2.ensures (b 1 (lit< tt)),
@@ -28,5 +28,5 @@ stored_block4-requires c =
 
 pub returns : goal.returns
 returns c =
-    read_in_order c.args.n_satom c.args.s2pp.now c.args.nsym_list.now c.args.perms.now c.args.o.now (c.args.i.0 ∷ c.args.j.0 ∷ c.args.k.0 ∷ c.args.l.0 ∷ [])
+    read_in_order c.args.tables.now.n_satom c.args.tables.now.s2pp.now c.args.tables.now.nsym_list.now c.args.tables.now.perms.now c.args.o.now (c.args.i.0 ∷ c.args.j.0 ∷ c.args.k.0 ∷ c.args.l.0 ∷ [])
     c.atom_at.ensures c.atom_at-2.ensures c.atom_at-3.ensures c.atom_at-4.ensures c.stored_block4.ensures

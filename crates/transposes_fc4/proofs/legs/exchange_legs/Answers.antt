@@ -1,5 +1,5 @@
 use mathlib.Core.Path.{ap, ◌∙◌}
-use Rattle.tables.specs.Compact.{shift_tables}
+use Rattle.tables.specs.Compact.{given}
 use Rattle.transposes_fc4.specs.Loops.{pairs4}
 use Rattle.transposes_fc4.proofs.RowsLaws.{two_legs}
 use Rattle.transposes_fc4.proofs.legs.exchange_legs.Goals as goal
@@ -13,4 +13,4 @@ pairs-requires c =
 
 pub returns : goal.returns
 returns c =
-    c.pairs.ensures ∙ ap (λ o. pairs4 c.args.half_shifts_stay o (shift_tables c.args.p2s.now c.args.s2pp.now c.args.nsym_list.now c.args.perms.now c.args.n_satom c.args.n_patom c.args.num_trans) c.args.fc4.now) c.order_of-o.ensures
+    c.pairs.ensures ∙ ap (λ o. pairs4 c.args.half_shifts_stay o (given c.args.tables.now) c.args.fc4.now) c.order_of-o.ensures

@@ -20,5 +20,5 @@ pub returns : goal.returns
 unfolding line4
 returns c =
     let l = c.loop-l in
-    let e : l.l ≡ c.args.n_satom = omega arith in
+    let e : l.l ≡ c.args.tables.now.n_satom = omega arith in
     l.invariant ∙ rw e

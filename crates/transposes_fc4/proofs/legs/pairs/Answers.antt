@@ -24,5 +24,5 @@ pub returns : goal.returns
 unfolding pairs4
 returns c =
     let l = c.loop-q in
-    let e : l.q ≡ c.args.n_patom * c.args.n_satom = omega arith in
+    let e : l.q ≡ c.args.tables.now.n_patom * c.args.tables.now.n_satom = omega arith in
     l.invariant ∙ rw e

@@ -1,5 +1,5 @@
 use mathlib.Core.Path.{◌∙◌}
-use Rattle.tables.specs.Compact.{shift_tables}
+use Rattle.tables.specs.Compact.{given}
 use Rattle.transposes_fc4.specs.Loops.{swaps}
 use Rattle.transposes_fc4.specs.Guard.{swapped-none}
 use Rattle.transposes_fc4.proofs.swaps.swap.Goals as goal
@@ -14,4 +14,4 @@ exchange_legs-requires c = (c.requires.0, c.requires.1, c.requires.2, c.if-leg_a
 pub returns : goal.returns
 returns c =
     c.exchange_legs.ensures
-    ∙ swaps c.args.leg_a c.args.leg_b (shift_tables c.args.p2s.now c.args.s2pp.now c.args.nsym_list.now c.args.perms.now c.args.n_satom c.args.n_patom c.args.num_trans) c.requires.1 c.requires.2 c.if-leg_a-leg_b.false c.requires.0.sound.rules c.args.fc4.now c.requires.0.set-length
+    ∙ swaps c.args.leg_a c.args.leg_b (given c.args.tables.now) c.requires.1 c.requires.2 c.if-leg_a-leg_b.false c.requires.0.sound.rules c.args.fc4.now c.requires.0.set-length
