@@ -81,7 +81,7 @@ fn row_off(fc4: &mut [f64], drift: &[f64], tables: &ShiftTables, leg: usize, row
     let i = tables.p2s_at(PrimAtom(row_of(pj, tables.n_satom)));
     let j = SuperAtom(column_of(pj, tables.n_satom));
     let k = SuperAtom(column_of(row, tables.n_satom));
-    for l in 0..n_satom {
+    for l in 0..tables.n_satom {
         let r = other_block(tables, leg, i, j, k, SuperAtom(l));
         let b = index_of(row, tables.n_satom, l);
         block_off(fc4, drift, b, r);

@@ -74,7 +74,7 @@ fn row_off(fc3: &mut [f64], drift: &[f64], tables: &ShiftTables, leg: usize, row
 {
     let i = tables.p2s_at(PrimAtom(row_of(row, tables.n_satom)));
     let j = SuperAtom(column_of(row, tables.n_satom));
-    for k in 0..n_satom {
+    for k in 0..tables.n_satom {
         let r = other_block(tables, leg, i, j, SuperAtom(k));
         let b = index_of(row, tables.n_satom, k);
         block_off(fc3, drift, b, r);

@@ -23,7 +23,7 @@ fn is_null(tables: &ShiftTables, t: usize) -> bool
     requires { TablesFit 1024 (given tables.now) × (t < tables.now.num_trans) }
     ensures { result ≡ is_null (shifts_of (given tables.now)) t }
 {
-    for a in 0..n_satom {
+    for a in 0..tables.n_satom {
         let b = tables.perms_at(t, SuperAtom(a));
         if b != SuperAtom(a) {
             return false;
@@ -37,7 +37,7 @@ fn has_null(tables: &ShiftTables) -> bool
     requires { TablesFit 1024 (given tables.now) }
     ensures { result ≡ has_null (shifts_of (given tables.now)) }
 {
-    for t in 0..num_trans {
+    for t in 0..tables.num_trans {
         if is_null(tables, t) {
             return true;
         }
@@ -50,7 +50,7 @@ fn is_after(tables: &ShiftTables, t: usize, u: usize, v: usize) -> bool
     requires { TablesFit 1024 (given tables.now) × (t < tables.now.num_trans) × (u < tables.now.num_trans) × (v < tables.now.num_trans) }
     ensures { result ≡ is_after (shifts_of (given tables.now)) t u v }
 {
-    for a in 0..n_satom {
+    for a in 0..tables.n_satom {
         let b = tables.perms_at(t, SuperAtom(a));
         let x = tables.perms_at(u, b);
         let y = tables.perms_at(v, SuperAtom(a));
@@ -66,7 +66,7 @@ fn has_after(tables: &ShiftTables, t: usize, u: usize) -> bool
     requires { TablesFit 1024 (given tables.now) × (t < tables.now.num_trans) × (u < tables.now.num_trans) }
     ensures { result ≡ some tables.now.num_trans (is_after (shifts_of (given tables.now)) t u) }
 {
-    for v in 0..num_trans {
+    for v in 0..tables.num_trans {
         if is_after(tables, t, u, v) {
             return true;
         }

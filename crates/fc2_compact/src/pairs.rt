@@ -72,7 +72,7 @@ fn transpose_row(fc: &mut [f64], tables: &ShiftTables, half_shifts_stay: bool, p
     ensures { fc.new ≡ times tables.now.n_satom (transpose_visit half_shifts_stay (shifts_of (given tables.now)) p) fc.old }
 {
     let i = tables.p2s_at(PrimAtom(p));
-    for j in 0..n_satom {
+    for j in 0..tables.n_satom {
         transpose_visit(fc, tables, half_shifts_stay, PrimAtom(p), i, SuperAtom(j));
     }
 }
@@ -82,7 +82,7 @@ pub fn transpose_pass(fc: &mut [f64], tables: &ShiftTables, half_shifts_stay: bo
     requires { Ready (given tables.now) (length fc.old) }
     ensures { let T = given tables.now in fc.new ≡ cond half_shifts_stay (transposed (shifts_of T) fc.old) (swapped (shifts_of T) 1 (0, 1) fc.old) }
 {
-    for p in 0..n_patom {
+    for p in 0..tables.n_patom {
         transpose_row(fc, tables, half_shifts_stay, p);
     }
 }
@@ -93,7 +93,7 @@ fn average_row(fc: &mut [f64], tables: &ShiftTables, p: usize)
     ensures { fc.new ≡ times tables.now.n_satom (average_visit (shifts_of (given tables.now)) p) fc.old }
 {
     let i = tables.p2s_at(PrimAtom(p));
-    for j in 0..n_satom {
+    for j in 0..tables.n_satom {
         average_visit(fc, tables, PrimAtom(p), i, SuperAtom(j));
     }
 }
@@ -103,7 +103,7 @@ pub fn average_pass(fc: &mut [f64], tables: &ShiftTables)
     requires { Ready (given tables.now) (length fc.old) }
     ensures { fc.new ≡ averaged_compact (shifts_of (given tables.now)) fc.old }
 {
-    for p in 0..n_patom {
+    for p in 0..tables.n_patom {
         average_row(fc, tables, p);
     }
 }

@@ -26,7 +26,7 @@ pub fn site_pass(fc: &mut [f64], tables: &ShiftTables)
     requires { Ready (given tables.now) (length fc.old) }
     ensures { fc.new ≡ on_site (shifts_of (given tables.now)) fc.old }
 {
-    for p in 0..n_patom {
+    for p in 0..tables.n_patom {
         site_row(fc, tables, p);
     }
 }

@@ -65,7 +65,7 @@ fn row(fc3: &mut [f64], tables: &ShiftTables, done: &mut [u8], p: PrimAtom, j: S
     requires in_range { (p.0 < tables.now.n_patom) × (j.0 < tables.now.n_satom) }
     ensures { (fc3.new, done.new) ≡ row3 (given tables.now) p.0 j.0 (fc3.old, done.old) }
 {
-    for k in 0..n_satom {
+    for k in 0..tables.n_satom {
         visit(fc3, tables, done, p, j, SuperAtom(k));
     }
 }
@@ -76,7 +76,7 @@ fn slab(fc3: &mut [f64], tables: &ShiftTables, done: &mut [u8], p: PrimAtom)
     requires in_range { p.0 < tables.now.n_patom }
     ensures { (fc3.new, done.new) ≡ slab3 (given tables.now) p.0 (fc3.old, done.old) }
 {
-    for j in 0..n_satom {
+    for j in 0..tables.n_satom {
         row(fc3, tables, done, p, SuperAtom(j));
     }
 }
@@ -86,7 +86,7 @@ fn slabs(fc3: &mut [f64], tables: &ShiftTables, done: &mut [u8])
     requires { Ready (length fc3.old) 2 (length done.old) (given tables.now) }
     ensures { (fc3.new, done.new) ≡ all3 (given tables.now) (fc3.old, done.old) }
 {
-    for p in 0..n_patom {
+    for p in 0..tables.n_patom {
         slab(fc3, tables, done, PrimAtom(p));
     }
 }

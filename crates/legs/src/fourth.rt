@@ -47,7 +47,7 @@ pub fn leg_sums(fc: &[f64], tables: &ShiftTables, leg: usize, t: usize) -> [f64;
     ensures { result ≡ block_sums 81 (leg_block (shifts_of (given tables.now)) 3 leg t) tables.now.n_satom fc.now }
 {
     let mut sums = [0.0f64; 81];
-    for i in 0..n_satom {
+    for i in 0..tables.n_satom {
         let at = leg_block(tables, leg, t, i);
         let b = blocks::read81(fc, at);
         add_all(&mut sums, &b);

@@ -4,8 +4,8 @@ ghost use Rattle.tables.specs.Compact.{shifts_of, given};
 ghost use Rattle.places.specs.Moves.{stays as staysIn};
 ghost use Rattle.orbits.specs.HalfShift.{Sound};
 
-use tables::shift_tables::ShiftTables;
 use tables::atoms::{PrimAtom, SuperAtom};
+use tables::shift_tables::ShiftTables;
 
 // Whether the blocks of pair (p, j) stay, where half shifts do: j's row is not the null shift and exchanges j with p's representative.
 pub fn stays(tables: &ShiftTables, half_shifts_stay: bool, p: PrimAtom, j: SuperAtom) -> bool

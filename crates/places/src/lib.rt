@@ -6,8 +6,8 @@ ghost use Rattle.std.specs.Prelude.{◌≡◌, [], ◌∷◌, ◌+◌, ◌*◌, 
 ghost use Rattle.lists.specs.Digits.{horner};
 ghost use Rattle.places.specs.ReadOuts.{Tables, stored_in};
 
-use tables::shift_tables::ShiftTables;
 use tables::atoms::{PrimAtom, SuperAtom};
+use tables::shift_tables::ShiftTables;
 
 // One leg more: of the blocks that block b of the legs before it is divided into, one for each of n atoms, the one of atom a. A place in
 // a table of rows of n entries is the same sum, and so is a position inside a block, with directions for atoms. The number of every block
@@ -122,7 +122,13 @@ pub fn stored_block3(tables: &ShiftTables, i: SuperAtom, j: SuperAtom, k: SuperA
 }
 
 // The same for atoms i, j, k and l.
-pub fn stored_block4(tables: &ShiftTables, i: SuperAtom, j: SuperAtom, k: SuperAtom, l: SuperAtom) -> usize
+pub fn stored_block4(
+    tables: &ShiftTables,
+    i: SuperAtom,
+    j: SuperAtom,
+    k: SuperAtom,
+    l: SuperAtom,
+) -> usize
     requires { Tables tables.now.n_satom tables.now.s2pp.now tables.now.nsym_list.now tables.now.perms.now × (i.0 < tables.now.n_satom) × (j.0 < tables.now.n_satom) × (k.0 < tables.now.n_satom) × (l.0 < tables.now.n_satom) }
     ensures { result ≡ stored_in tables.now.n_satom tables.now.s2pp.now tables.now.nsym_list.now tables.now.perms.now i.0 (j.0 ∷ k.0 ∷ l.0 ∷ []) }
 {

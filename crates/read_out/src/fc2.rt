@@ -19,7 +19,7 @@ fn line(full: &mut [f64], fc2: &[f64], tables: &ShiftTables, t: usize, first: Su
     requires blocks_in { BlocksIn tables.now.n_satom 9 1 first.0 (length full.old) × BlocksIn tables.now.n_satom 9 1 home.0 (length fc2.now) }
     ensures { full.new ≡ copy_legs tables.now.perms.now tables.now.n_satom 9 t 1 first.0 home.0 fc2.now full.old }
 {
-    for j in 0..n_satom {
+    for j in 0..tables.n_satom {
         let image = tables.perms_at(t, SuperAtom(j));
         let b = index_of(first.0, tables.n_satom, j);
         let f = index_of(home.0, tables.n_satom, image.0);
@@ -34,7 +34,7 @@ fn rows(full: &mut [f64], fc2: &[f64], tables: &ShiftTables)
     ensures { full.new
         ≡ copy_rows tables.now.s2pp.now tables.now.nsym_list.now tables.now.perms.now tables.now.n_satom 9 1 fc2.now full.old }
 {
-    for i in 0..n_satom {
+    for i in 0..tables.n_satom {
         let t = tables.nsym_at(SuperAtom(i));
         let p = tables.s2pp_at(SuperAtom(i));
         line(full, fc2, tables, t, SuperAtom(i), p);

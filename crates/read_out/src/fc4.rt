@@ -19,7 +19,7 @@ fn line(full: &mut [f64], fc4: &[f64], tables: &ShiftTables, t: usize, to: usize
     requires blocks_in { BlocksIn tables.now.n_satom 81 1 to (length full.old) × BlocksIn tables.now.n_satom 81 1 from (length fc4.now) }
     ensures { full.new ≡ copy_legs tables.now.perms.now tables.now.n_satom 81 t 1 to from fc4.now full.old }
 {
-    for l in 0..n_satom {
+    for l in 0..tables.n_satom {
         let image = tables.perms_at(t, SuperAtom(l));
         let b = index_of(to, tables.n_satom, l);
         let f = index_of(from, tables.n_satom, image.0);
@@ -34,7 +34,7 @@ fn plane(full: &mut [f64], fc4: &[f64], tables: &ShiftTables, t: usize, to: usiz
     requires blocks_in { BlocksIn tables.now.n_satom 81 2 to (length full.old) × BlocksIn tables.now.n_satom 81 2 from (length fc4.now) }
     ensures { full.new ≡ copy_legs tables.now.perms.now tables.now.n_satom 81 t 2 to from fc4.now full.old }
 {
-    for k in 0..n_satom {
+    for k in 0..tables.n_satom {
         let image = tables.perms_at(t, SuperAtom(k));
         let b = index_of(to, tables.n_satom, k);
         let f = index_of(from, tables.n_satom, image.0);
@@ -48,7 +48,7 @@ fn slab(full: &mut [f64], fc4: &[f64], tables: &ShiftTables, t: usize, to: usize
     requires blocks_in { BlocksIn tables.now.n_satom 81 3 to (length full.old) × BlocksIn tables.now.n_satom 81 3 from (length fc4.now) }
     ensures { full.new ≡ copy_legs tables.now.perms.now tables.now.n_satom 81 t 3 to from fc4.now full.old }
 {
-    for j in 0..n_satom {
+    for j in 0..tables.n_satom {
         let image = tables.perms_at(t, SuperAtom(j));
         let b = index_of(to, tables.n_satom, j);
         let f = index_of(from, tables.n_satom, image.0);
@@ -62,7 +62,7 @@ fn rows(full: &mut [f64], fc4: &[f64], tables: &ShiftTables)
     ensures { full.new
         ≡ copy_rows tables.now.s2pp.now tables.now.nsym_list.now tables.now.perms.now tables.now.n_satom 81 3 fc4.now full.old }
 {
-    for i in 0..n_satom {
+    for i in 0..tables.n_satom {
         let t = tables.nsym_at(SuperAtom(i));
         let p = tables.s2pp_at(SuperAtom(i));
         slab(full, fc4, tables, t, i, p.0);

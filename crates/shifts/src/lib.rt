@@ -6,11 +6,11 @@ ghost use Rattle.tables.specs.Conditions.{any_above, any_wrong};
 ghost use Rattle.tables.specs.Limits.{limit2};
 ghost use Rattle.tables.specs.Compact.{table_lengths, tables_out_of_range, judged_entries, judged_tables, judged_set, judged_compact, given};
 
-use tables::shift_tables::ShiftTables;
 use tables::Refusal;
 use tables::index::all_below;
 use tables::limits::LIMIT2;
 use tables::sets::{set_blocks, set_length};
+use tables::shift_tables::ShiftTables;
 
 pub mod rows;
 mod rules;
@@ -91,7 +91,12 @@ pub fn check_shift_tables(tables: &ShiftTables) -> Result<(), Refusal>
 }
 
 // The guard of a call that brings a compact set of rank m + 1 and no other slice.
-pub fn judge_set(limit: usize, m: usize, set_len: usize, tables: &ShiftTables) -> Result<(), Refusal>
+pub fn judge_set(
+    limit: usize,
+    m: usize,
+    set_len: usize,
+    tables: &ShiftTables,
+) -> Result<(), Refusal>
     requires { (limit ≤ 1024) × (m ≤ 3) }
     ensures { result ≡ judged_set limit m set_len [] (given tables.now) }
 {
@@ -108,7 +113,14 @@ pub fn judge_set(limit: usize, m: usize, set_len: usize, tables: &ShiftTables) -
 }
 
 // The same with a work slice of n_patom × n_satom^k entries. A wrong length of it is refusal 2, unless a count is above its limit.
-pub fn judge_compact(limit: usize, m: usize, set_len: usize, k: usize, work_len: usize, tables: &ShiftTables) -> Result<(), Refusal>
+pub fn judge_compact(
+    limit: usize,
+    m: usize,
+    set_len: usize,
+    k: usize,
+    work_len: usize,
+    tables: &ShiftTables,
+) -> Result<(), Refusal>
     requires { (limit ≤ 1024) × (m ≤ 3) × (k ≤ 3) }
     ensures { result ≡ judged_compact limit m set_len k work_len (given tables.now) }
 {

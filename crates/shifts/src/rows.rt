@@ -5,8 +5,8 @@ ghost use Rattle.shifts.specs.Rows.{Rows, image, Composed, Closed, Sent};
 ghost use Rattle.tables.specs.Conditions.{Tells};
 ghost use Rattle.shifts.specs.Loops.{Marked, Made, Known, Learnt, KeepsAt, right_of, Commutes, Settled};
 
-use tables::shift_tables::ShiftTables;
 use tables::atoms::{PrimAtom, SuperAtom};
+use tables::shift_tables::ShiftTables;
 
 // Whether row u after row t sends atom a where row v sends it.
 fn agrees_at(tables: &ShiftTables, t: usize, u: usize, v: usize, a: SuperAtom) -> bool
@@ -40,7 +40,7 @@ fn agrees_from(tables: &ShiftTables, t: usize, u: usize, v: usize, start: usize)
         → k < tables.now.n_satom
         → image tables.now.perms.now tables.now.n_satom u (image tables.now.perms.now tables.now.n_satom t k) ≡ image tables.now.perms.now tables.now.n_satom v k) }
 {
-    for a in start..n_satom {
+    for a in start..tables.n_satom {
         if !agrees_at(tables, t, u, v, SuperAtom(a)) {
             return false;
         }
@@ -63,19 +63,30 @@ fn is_after(tables: &ShiftTables, t: usize, u: usize, v: usize) -> bool
 }
 
 // The row that sends base where row r and then row u send it.
-fn row_after(tables: &ShiftTables, base: SuperAtom, sent: &[usize; 1024], r: usize, u: usize) -> usize
+fn row_after(
+    tables: &ShiftTables,
+    base: SuperAtom,
+    sent: &[usize; 1024],
+    r: usize,
+    u: usize,
+) -> usize
     requires { Marked tables.now.n_satom tables.now.num_trans tables.now.perms.now base.0 sent.now × (r < tables.now.num_trans) × (u < tables.now.num_trans) }
     ensures { (result < tables.now.num_trans)
         × (get_or sent.now (image tables.now.perms.now tables.now.n_satom u (image tables.now.perms.now tables.now.n_satom r base.0)) 0 ≡ result + 1) }
 {
-    sender(
-        sent,
-        tables.perms_at(u, tables.perms_at(r, base)),
-    )
+    sender(sent, tables.perms_at(u, tables.perms_at(r, base)))
 }
 
 // Row u after row r, if it is not known yet: it is compared whole with the one row that it can be, which then comes after r in the list.
-fn learn_after(tables: &ShiftTables, base: SuperAtom, sent: &[usize; 1024], gens: &[u8; 1024], u: usize, r: usize, known: &mut [usize; 1024]) -> bool
+fn learn_after(
+    tables: &ShiftTables,
+    base: SuperAtom,
+    sent: &[usize; 1024],
+    gens: &[u8; 1024],
+    u: usize,
+    r: usize,
+    known: &mut [usize; 1024],
+) -> bool
     requires rows { Marked tables.now.n_satom tables.now.num_trans tables.now.perms.now base.0 sent.now × (r < tables.now.num_trans) × (u < tables.now.num_trans) }
     requires made { Made tables.now.n_satom tables.now.num_trans tables.now.perms.now gens.now u
         × Made tables.now.n_satom tables.now.num_trans tables.now.perms.now gens.now r
@@ -96,7 +107,15 @@ fn learn_after(tables: &ShiftTables, base: SuperAtom, sent: &[usize; 1024], gens
 }
 
 // Row u after the rows of the list, from the null shift on, the new ones among them: no power of u after a row that was known is left out.
-fn spread(tables: &ShiftTables, base: SuperAtom, sent: &[usize; 1024], gens: &[u8; 1024], null: usize, u: usize, known: &mut [usize; 1024]) -> bool
+fn spread(
+    tables: &ShiftTables,
+    base: SuperAtom,
+    sent: &[usize; 1024],
+    gens: &[u8; 1024],
+    null: usize,
+    u: usize,
+    known: &mut [usize; 1024],
+) -> bool
     requires rows { Marked tables.now.n_satom tables.now.num_trans tables.now.perms.now base.0 sent.now × (null < tables.now.num_trans) × (u < tables.now.num_trans) }
     requires made { Made tables.now.n_satom tables.now.num_trans tables.now.perms.now gens.now u
         × Made tables.now.n_satom tables.now.num_trans tables.now.perms.now gens.now null
@@ -105,7 +124,7 @@ fn spread(tables: &ShiftTables, base: SuperAtom, sent: &[usize; 1024], gens: &[u
         × (Closed tables.now.n_satom tables.now.num_trans tables.now.perms.now → result ≡ true) }
 {
     let mut r = null;
-    for _ in 0..num_trans {
+    for _ in 0..tables.num_trans {
         if !learn_after(tables, base, sent, gens, u, r, known) {
             return false;
         }
@@ -122,7 +141,15 @@ fn spread(tables: &ShiftTables, base: SuperAtom, sent: &[usize; 1024], gens: &[u
 }
 
 // Row u is known, or a generator more, from which further rows are made.
-fn learn(tables: &ShiftTables, base: SuperAtom, sent: &[usize; 1024], null: usize, u: usize, known: &mut [usize; 1024], gens: &mut [u8; 1024]) -> bool
+fn learn(
+    tables: &ShiftTables,
+    base: SuperAtom,
+    sent: &[usize; 1024],
+    null: usize,
+    u: usize,
+    known: &mut [usize; 1024],
+    gens: &mut [u8; 1024],
+) -> bool
     requires rows { Marked tables.now.n_satom tables.now.num_trans tables.now.perms.now base.0 sent.now × (null < tables.now.num_trans) × (u < tables.now.num_trans) }
     requires made { Made tables.now.n_satom tables.now.num_trans tables.now.perms.now gens.old null
         × Known tables.now.n_satom tables.now.num_trans tables.now.perms.now gens.old known.old
@@ -138,7 +165,13 @@ fn learn(tables: &ShiftTables, base: SuperAtom, sent: &[usize; 1024], null: usiz
 }
 
 // Every row is the null shift, a generator, or made of those one after another.
-fn learn_all(tables: &ShiftTables, base: SuperAtom, sent: &[usize; 1024], null: usize, gens: &mut [u8; 1024]) -> bool
+fn learn_all(
+    tables: &ShiftTables,
+    base: SuperAtom,
+    sent: &[usize; 1024],
+    null: usize,
+    gens: &mut [u8; 1024],
+) -> bool
     requires { Marked tables.now.n_satom tables.now.num_trans tables.now.perms.now base.0 sent.now
         × (null < tables.now.num_trans)
         × ((gens : List ℕ) → Made tables.now.n_satom tables.now.num_trans tables.now.perms.now gens null)
@@ -148,7 +181,7 @@ fn learn_all(tables: &ShiftTables, base: SuperAtom, sent: &[usize; 1024], null: 
 {
     let mut known = [0usize; 1024];
     known[null] = tables.num_trans + 1;
-    for u in 0..num_trans {
+    for u in 0..tables.num_trans {
         if !learn(tables, base, sent, null, u, &mut known, gens) {
             return false;
         }
@@ -186,7 +219,7 @@ fn keeps_rows(tables: &ShiftTables, sent: &[usize; 1024], g: usize) -> bool
     requires { Sent tables.now.n_satom tables.now.num_trans tables.now.n_patom tables.now.perms.now tables.now.p2s.now tables.now.s2pp.now sent.now × (g < tables.now.num_trans) }
     ensures { Tells result ((a : ℕ) → a < tables.now.n_satom → KeepsAt tables.now.n_satom tables.now.perms.now tables.now.p2s.now tables.now.s2pp.now sent.now g a) }
 {
-    for a in 0..n_satom {
+    for a in 0..tables.n_satom {
         if !keeps_row(tables, sent, g, SuperAtom(a)) {
             return false;
         }
@@ -202,7 +235,7 @@ fn shift_right(tables: &ShiftTables, sent: &[usize; 1024], s: usize, right: &mut
         → get_or right.new a 0 ≡ right_of tables.now.perms.now tables.now.n_satom tables.now.p2s.now tables.now.s2pp.now sent.now s a)
         × (length right.new ≡ 1024) }
 {
-    for a in 0..n_satom {
+    for a in 0..tables.n_satom {
         let p = tables.p2s_at(tables.s2pp_at(SuperAtom(a)));
         let b = tables.perms_at(sender(sent, SuperAtom(a)), tables.perms_at(s, p));
         right[a] = b.0;
@@ -223,7 +256,7 @@ fn commutes(tables: &ShiftTables, g: usize, right: &[usize; 1024]) -> bool
     requires { Rows tables.now.n_satom tables.now.num_trans tables.now.perms.now × (g < tables.now.num_trans) × ((a : ℕ) → a < tables.now.n_satom → get_or right.now a 0 < tables.now.n_satom) }
     ensures { Tells result (Commutes tables.now.n_satom tables.now.perms.now g (λ a. get_or right.now a 0)) }
 {
-    for a in 0..n_satom {
+    for a in 0..tables.n_satom {
         let b = tables.perms_at(g, SuperAtom(a));
         let d = tables.perms_at(g, shifted(right, SuperAtom(a)));
         if d != shifted(right, b) {
@@ -234,7 +267,12 @@ fn commutes(tables: &ShiftTables, g: usize, right: &[usize; 1024]) -> bool
 }
 
 // The same of row g if it is a generator.
-fn generator_commutes(tables: &ShiftTables, gens: &[u8; 1024], g: usize, right: &[usize; 1024]) -> bool
+fn generator_commutes(
+    tables: &ShiftTables,
+    gens: &[u8; 1024],
+    g: usize,
+    right: &[usize; 1024],
+) -> bool
     requires { Rows tables.now.n_satom tables.now.num_trans tables.now.perms.now × (g < tables.now.num_trans) × ((a : ℕ) → a < tables.now.n_satom → get_or right.now a 0 < tables.now.n_satom) }
     ensures { Tells result ((get_or gens.now g 0 ≡ 0 → ⊥) → Commutes tables.now.n_satom tables.now.perms.now g (λ a. get_or right.now a 0)) }
 {
@@ -252,7 +290,7 @@ fn all_commute(tables: &ShiftTables, gens: &[u8; 1024], right: &[usize; 1024]) -
         → (get_or gens.now g 0 ≡ 0 → ⊥)
         → Commutes tables.now.n_satom tables.now.perms.now g (λ a. get_or right.now a 0)) }
 {
-    for g in 0..num_trans {
+    for g in 0..tables.num_trans {
         if !generator_commutes(tables, gens, g, right) {
             return false;
         }
@@ -261,7 +299,13 @@ fn all_commute(tables: &ShiftTables, gens: &[u8; 1024], right: &[usize; 1024]) -
 }
 
 // Row s, if it is a generator, keeps the images of the representatives together, and from the right it commutes with every generator.
-fn is_settled(tables: &ShiftTables, sent: &[usize; 1024], gens: &[u8; 1024], s: usize, right: &mut [usize; 1024]) -> bool
+fn is_settled(
+    tables: &ShiftTables,
+    sent: &[usize; 1024],
+    gens: &[u8; 1024],
+    s: usize,
+    right: &mut [usize; 1024],
+) -> bool
     requires { Sent tables.now.n_satom tables.now.num_trans tables.now.n_patom tables.now.perms.now tables.now.p2s.now tables.now.s2pp.now sent.now × (s < tables.now.num_trans) × (length right.old ≡ 1024) }
     ensures { (length right.new ≡ 1024)
         × Tells result ((get_or gens.now s 0 ≡ 0 → ⊥)
@@ -286,7 +330,7 @@ fn all_settled(tables: &ShiftTables, sent: &[usize; 1024], gens: &[u8; 1024]) ->
         → Settled tables.now.n_satom tables.now.num_trans tables.now.perms.now tables.now.p2s.now tables.now.s2pp.now sent.now gens.now s) }
 {
     let mut right = [0usize; 1024];
-    for s in 0..num_trans {
+    for s in 0..tables.num_trans {
         if !is_settled(tables, sent, gens, s, &mut right) {
             return false;
         }

@@ -68,7 +68,7 @@ fn line0(fc3: &mut [f64], tables: &ShiftTables, p: PrimAtom, i: SuperAtom, j: Su
     requires { PairAt 2 (length fc3.old) (given tables.now) p.0 i.0 j.0 }
     ensures { fc3.new ≡ row_t false (given tables.now) 0 p.0 j.0 fc3.old }
 {
-    for k in 0..n_satom {
+    for k in 0..tables.n_satom {
         visit0(fc3, tables, p, i, j, SuperAtom(k));
     }
 }
@@ -92,7 +92,7 @@ fn row1(fc3: &mut [f64], tables: &ShiftTables, half_shifts_stay: bool, p: PrimAt
     requires in_range { (p.0 < tables.now.n_patom) × (j.0 < tables.now.n_satom) }
     ensures { fc3.new ≡ row_t half_shifts_stay (given tables.now) 1 p.0 j.0 fc3.old }
 {
-    for k in 0..n_satom {
+    for k in 0..tables.n_satom {
         visit1(fc3, tables, half_shifts_stay, p, j, SuperAtom(k));
     }
 }
@@ -103,7 +103,7 @@ fn row2(fc3: &mut [f64], tables: &ShiftTables, p: PrimAtom, j: SuperAtom)
     requires in_range { (p.0 < tables.now.n_patom) × (j.0 < tables.now.n_satom) }
     ensures { fc3.new ≡ row_t false (given tables.now) 2 p.0 j.0 fc3.old }
 {
-    for k in j.0..n_satom {
+    for k in j.0..tables.n_satom {
         visit2(fc3, tables, p, j, SuperAtom(k));
     }
 }
@@ -140,7 +140,7 @@ fn slab(fc3: &mut [f64], tables: &ShiftTables, half_shifts_stay: bool, t: usize,
     requires in_range { (p.0 < tables.now.n_patom) × (t < 3) }
     ensures { fc3.new ≡ slab_t half_shifts_stay (given tables.now) t p.0 fc3.old }
 {
-    for j in 0..n_satom {
+    for j in 0..tables.n_satom {
         row(fc3, tables, half_shifts_stay, t, p, SuperAtom(j));
     }
 }
@@ -151,7 +151,7 @@ fn slabs(fc3: &mut [f64], tables: &ShiftTables, half_shifts_stay: bool, t: usize
     requires in_range { t < 3 }
     ensures { fc3.new ≡ all_t half_shifts_stay (given tables.now) t fc3.old }
 {
-    for p in 0..n_patom {
+    for p in 0..tables.n_patom {
         slab(fc3, tables, half_shifts_stay, t, PrimAtom(p));
     }
 }

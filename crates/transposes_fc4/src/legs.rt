@@ -138,7 +138,7 @@ fn line(fc4: &mut [f64], tables: &ShiftTables, o: &[usize; 4], m: &[u8; 54], p: 
     requires in_range { k.0 < tables.now.n_satom }
     ensures { fc4.new ≡ line4 false o.now (given tables.now) (p.0 * tables.now.n_satom + j.0) k.0 fc4.old }
 {
-    for l in 0..n_satom {
+    for l in 0..tables.n_satom {
         trade(fc4, tables, o, m, p, i, j, k, SuperAtom(l));
     }
 }
@@ -148,7 +148,7 @@ fn plane(fc4: &mut [f64], tables: &ShiftTables, o: &[usize; 4], m: &[u8; 54], p:
     requires { PairAt 3 (length fc4.old) (given tables.now) p.0 i.0 j.0 × Swap o.now m.now }
     ensures { fc4.new ≡ plane4 false o.now (given tables.now) (p.0 * tables.now.n_satom + j.0) fc4.old }
 {
-    for k in 0..n_satom {
+    for k in 0..tables.n_satom {
         line(fc4, tables, o, m, p, i, j, SuperAtom(k));
     }
 }
@@ -174,7 +174,7 @@ fn pairs(fc4: &mut [f64], tables: &ShiftTables, half_shifts_stay: bool, o: &[usi
     requires { Trading 3 (length fc4.old) (given tables.now) × Swap o.now m.now }
     ensures { fc4.new ≡ pairs4 half_shifts_stay o.now (given tables.now) fc4.old }
 {
-    for q in 0..n_patom * tables.n_satom {
+    for q in 0..tables.n_patom * tables.n_satom {
         pair(fc4, tables, half_shifts_stay, o, m, q);
     }
 }
