@@ -12,11 +12,11 @@ ghost use Rattle.tables.specs.Shifts.{ruled};
 ghost use Rattle.tables.specs.Compact.{shifts_of, table_lengths, TablesFit, given};
 ghost use Rattle.explain.specs.Explain.{first_above, first_wrong, first_beyond, because as becauseOf, bad_entry, broken_rule, explain_shift_tables};
 
-use tables::shift_tables::ShiftTables;
 use shifts::check_shift_tables;
 use tables::Refusal;
 use tables::index::all_below;
 use tables::limits::LIMIT2;
+use tables::shift_tables::ShiftTables;
 
 // What check_shift_tables answers, and what a refusal is about.
 // 1: `which` is 0 n_satom, 1 n_patom, 2 num_trans: the first that is above the limit.
@@ -96,10 +96,10 @@ fn because(r: Refusal, which: usize, first: usize, second: usize, third: usize) 
 {
     Explanation {
         answer: Err(r),
-        which: which,
-        first: first,
-        second: second,
-        third: third,
+        which,
+        first,
+        second,
+        third,
     }
 }
 
@@ -108,7 +108,7 @@ fn bad_entry(tables: &ShiftTables) -> Explanation
     ensures { result ≡ bad_entry (given tables.now) }
 {
     if !all_below(tables.perms, tables.n_satom) {
-        let k = first_beyond(tables);
+        let k = first_beyond(tables.perms, tables.n_satom);
         return because(Refusal::IndexOutOfRange, 0, k, 0, 0);
     }
     if !all_below(tables.p2s, tables.n_satom) {
@@ -145,13 +145,7 @@ pub fn explain_shift_tables(tables: &ShiftTables) -> Explanation
     let a = check_shift_tables(tables);
     let n = tables::number(a);
     if n == 1 {
-        return because(
-            Refusal::CountAboveLimit,
-            first_above(tables),
-            0,
-            0,
-            0,
-        );
+        return because(Refusal::CountAboveLimit, first_above(tables), 0, 0, 0);
     }
     if n == 2 {
         let i = first_wrong(tables);

@@ -5,8 +5,8 @@ ghost use Rattle.tables.specs.Shifts.{row, p2s_at, s2pp_at, nsym_at, is_null, ha
 ghost use Rattle.tables.specs.Compact.{shifts_of, TablesFit, given};
 ghost use Rattle.explain.specs.Explain.{rule_at};
 
-use tables::shift_tables::ShiftTables;
 use tables::atoms::{PrimAtom, SuperAtom};
+use tables::shift_tables::ShiftTables;
 
 // Whether row t sends atom a where row u sends atom b.
 fn meet(tables: &ShiftTables, t: usize, a: usize, u: usize, b: usize) -> bool

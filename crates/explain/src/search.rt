@@ -3,8 +3,8 @@ ghost use Rattle.std.specs.Prelude.{◌≡◌, ◌<◌};
 ghost use Rattle.tables.specs.Compact.{shifts_of, TablesFit, given};
 ghost use Rattle.explain.specs.Explain.{rule_at, first_of, second_of, third_of, first_broken};
 
-use tables::shift_tables::ShiftTables;
 use crate::rules::breaks;
+use tables::shift_tables::ShiftTables;
 
 // The counts of what a rule is about.
 fn firsts(rule: usize, tables: &ShiftTables) -> usize
@@ -77,8 +77,7 @@ pub fn second_of(rule: usize, tables: &ShiftTables, i: usize) -> usize
     let n = seconds(rule, tables);
     let m = thirds(rule, tables);
     for j in 0..n {
-        if third_of(rule, tables, i, j) < m
-        {
+        if third_of(rule, tables, i, j) < m {
             return j;
         }
     }
@@ -93,8 +92,7 @@ pub fn first_of(rule: usize, tables: &ShiftTables) -> usize
     let n = firsts(rule, tables);
     let m = seconds(rule, tables);
     for i in 0..n {
-        if second_of(rule, tables, i) < m
-        {
+        if second_of(rule, tables, i) < m {
             return i;
         }
     }

@@ -9,12 +9,12 @@ ghost use Rattle.tables.specs.Answers.{refuse_if};
 ghost use Rattle.orbits.specs.TrueTransposes.{true_transpose_compact_fc2};
 ghost use Rattle.fc2_compact.specs.Code.{Ready};
 
-use tables::shift_tables::ShiftTables;
 use crate::pairs::{average_pass, transpose_pass};
 use crate::rows::{drift_pass, site_pass};
 use shifts::judge_compact;
 use tables::Refusal;
 use tables::limits::{LIMIT_LEVEL, LIMIT2};
+use tables::shift_tables::ShiftTables;
 
 // One level: twice the transpose and the row drift, then the averages.
 fn level_pass(fc: &mut [f64], tables: &ShiftTables)
@@ -65,7 +65,12 @@ fn judge(set_len: usize, work_len: usize, tables: &ShiftTables) -> Result<(), Re
 }
 
 // The same with the limit of the level.
-fn judge_levels(set_len: usize, work_len: usize, tables: &ShiftTables, level: usize) -> Result<(), Refusal>
+fn judge_levels(
+    set_len: usize,
+    work_len: usize,
+    tables: &ShiftTables,
+    level: usize,
+) -> Result<(), Refusal>
     ensures { result ≡ refuse_if (ltb limit_level level) Refusal.CountAboveLimit (judged_compact limit2 1 set_len 1 work_len (given tables.now)) }
 {
     if level > LIMIT_LEVEL {
@@ -76,7 +81,12 @@ fn judge_levels(set_len: usize, work_len: usize, tables: &ShiftTables, level: us
 
 // Exchanges the atoms of every pair of a compact set (transpose), or averages every number with that of the exchanged pair.
 // The Rust marks pairs in done; here the pair is taken at its smaller block, and done is only cleared.
-pub fn set_index_permutation_symmetry_compact_fc(fc: &mut [f64], tables: &ShiftTables, done: &mut [u8], transpose: bool) -> Result<(), Refusal>
+pub fn set_index_permutation_symmetry_compact_fc(
+    fc: &mut [f64],
+    tables: &ShiftTables,
+    done: &mut [u8],
+    transpose: bool,
+) -> Result<(), Refusal>
     ensures { (result, fc.new, done.new) ≡ set_index_permutation_symmetry_compact_fc fc.old (given tables.now) done.old transpose }
 {
     judge(fc.len(), done.len(), tables)?;
@@ -86,7 +96,11 @@ pub fn set_index_permutation_symmetry_compact_fc(fc: &mut [f64], tables: &ShiftT
 }
 
 // Exchanges the atoms of every pair of a compact set, those that a half shift exchanges too.
-pub fn true_transpose_compact_fc2(fc: &mut [f64], tables: &ShiftTables, done: &mut [u8]) -> Result<(), Refusal>
+pub fn true_transpose_compact_fc2(
+    fc: &mut [f64],
+    tables: &ShiftTables,
+    done: &mut [u8],
+) -> Result<(), Refusal>
     ensures { (result, fc.new, done.new) ≡ true_transpose_compact_fc2 fc.old (given tables.now) done.old }
 {
     judge(fc.len(), done.len(), tables)?;
@@ -96,7 +110,12 @@ pub fn true_transpose_compact_fc2(fc: &mut [f64], tables: &ShiftTables, done: &m
 }
 
 // Symmetrizes a compact set: per level twice the transpose and the row drift, then the averages; at the end the on-site blocks.
-pub fn perm_trans_symmetrize_compact_fc(fc: &mut [f64], tables: &ShiftTables, done: &mut [u8], level: usize) -> Result<(), Refusal>
+pub fn perm_trans_symmetrize_compact_fc(
+    fc: &mut [f64],
+    tables: &ShiftTables,
+    done: &mut [u8],
+    level: usize,
+) -> Result<(), Refusal>
     ensures { (result, fc.new, done.new) ≡ perm_trans_symmetrize_compact_fc fc.old (given tables.now) done.old level }
 {
     judge_levels(fc.len(), done.len(), tables, level)?;

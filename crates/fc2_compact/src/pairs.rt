@@ -8,9 +8,9 @@ ghost use Rattle.orbits.specs.TrueTransposes.{swapped};
 ghost use Rattle.tables.specs.Compact.{shifts_of, given};
 ghost use Rattle.lists.specs.Tab.{times};
 
-use tables::shift_tables::ShiftTables;
 use blocks::transposed9;
 use tables::atoms::{PrimAtom, SuperAtom};
+use tables::shift_tables::ShiftTables;
 
 // Blocks b and c change places, each transposed.
 fn swap_blocks(fc: &mut [f64], b: usize, c: usize)
@@ -26,7 +26,14 @@ fn swap_blocks(fc: &mut [f64], b: usize, c: usize)
 // The visit of block (p, j) in the transpose: it and its counterpart, the read-out block of atoms j and i, change places, transposed, if it is the
 // one with the smaller number. Where half shifts stay, a block that is its own counterpart is transposed only if it is that of i with itself.
 // Where j's primitive atom comes before p, so does the counterpart, whatever the rows say.
-fn transpose_visit(fc: &mut [f64], tables: &ShiftTables, half_shifts_stay: bool, p: PrimAtom, i: SuperAtom, j: SuperAtom)
+fn transpose_visit(
+    fc: &mut [f64],
+    tables: &ShiftTables,
+    half_shifts_stay: bool,
+    p: PrimAtom,
+    i: SuperAtom,
+    j: SuperAtom,
+)
     requires { ReadyAt (given tables.now) (length fc.old) p.0 i.0 j.0 }
     ensures { fc.new ≡ transpose_visit half_shifts_stay (shifts_of (given tables.now)) p.0 j.0 fc.old }
 {

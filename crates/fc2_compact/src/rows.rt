@@ -6,9 +6,9 @@ ghost use Rattle.tables.specs.Compact.{shifts_of, given};
 ghost use Rattle.fc2_compact.specs.Passes.{without_row_drift_compact, on_site};
 ghost use Rattle.fc2_compact.specs.Code.{Ready};
 
-use tables::shift_tables::ShiftTables;
 use lines::nines::balance;
 use tables::atoms::PrimAtom;
+use tables::shift_tables::ShiftTables;
 
 // The on-site block of primitive atom p by the acoustic sum rule, from the sums over the other atoms.
 fn site_row(fc: &mut [f64], tables: &ShiftTables, p: usize)

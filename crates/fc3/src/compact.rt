@@ -8,7 +8,6 @@ ghost use Rattle.orbits.specs.Symmetric.{symmetrized, mean6};
 ghost use Rattle.fc3.specs.Symmetrize.{set_permutation_symmetry_compact_fc3};
 ghost use Rattle.fc3.specs.Loops.{Ready, Atoms, at3, Marks6, work_at, visit_at, row3, slab3, all3};
 
-use tables::shift_tables::ShiftTables;
 use crate::spread::work_group;
 use lists::clear_bytes;
 use places::{block3, stored_block3};
@@ -16,6 +15,7 @@ use shifts::judge_compact;
 use tables::Refusal;
 use tables::atoms::{PrimAtom, SuperAtom};
 use tables::limits::LIMIT3;
+use tables::shift_tables::ShiftTables;
 
 // The six blocks of a group are done.
 fn mark(done: &mut [u8], b0: usize, b1: usize, b2: usize, b3: usize, b4: usize, b5: usize)
@@ -31,7 +31,14 @@ fn mark(done: &mut [u8], b0: usize, b1: usize, b2: usize, b3: usize, b4: usize, 
 }
 
 // The group of block (p, j, k): its six blocks ijk, ikj, jik, jki, kij, kji are marked, worked out and written.
-fn take(fc3: &mut [f64], tables: &ShiftTables, done: &mut [u8], p: PrimAtom, j: SuperAtom, k: SuperAtom)
+fn take(
+    fc3: &mut [f64],
+    tables: &ShiftTables,
+    done: &mut [u8],
+    p: PrimAtom,
+    j: SuperAtom,
+    k: SuperAtom,
+)
     requires ready { Ready (length fc3.old) 2 (length done.old) (given tables.now) }
     requires atoms { Atoms (given tables.now) p.0 j.0 k.0 }
     ensures { let T = given tables.now in (fc3.new, done.new) ≡ work_at T (at3 T p.0 j.0 k.0) (fc3.old, done.old) }
@@ -48,7 +55,14 @@ fn take(fc3: &mut [f64], tables: &ShiftTables, done: &mut [u8], p: PrimAtom, j: 
 }
 
 // One visit: block (p, j, k) is passed over if its group was met before.
-fn visit(fc3: &mut [f64], tables: &ShiftTables, done: &mut [u8], p: PrimAtom, j: SuperAtom, k: SuperAtom)
+fn visit(
+    fc3: &mut [f64],
+    tables: &ShiftTables,
+    done: &mut [u8],
+    p: PrimAtom,
+    j: SuperAtom,
+    k: SuperAtom,
+)
     requires ready { Ready (length fc3.old) 2 (length done.old) (given tables.now) }
     requires atoms { Atoms (given tables.now) p.0 j.0 k.0 }
     ensures { let T = given tables.now in (fc3.new, done.new) ≡ visit_at T (at3 T p.0 j.0 k.0) (fc3.old, done.old) }
@@ -102,7 +116,11 @@ pub fn symmetrize(fc3: &mut [f64], tables: &ShiftTables, done: &mut [u8])
 }
 
 // The set is symmetrized: all six permutations of any three legs read out the same number. The done table comes in with anything and is left with zeros.
-pub fn set_permutation_symmetry_compact_fc3(fc3: &mut [f64], tables: &ShiftTables, done: &mut [u8]) -> Result<(), Refusal>
+pub fn set_permutation_symmetry_compact_fc3(
+    fc3: &mut [f64],
+    tables: &ShiftTables,
+    done: &mut [u8],
+) -> Result<(), Refusal>
     ensures { (result, fc3.new, done.new) ≡ set_permutation_symmetry_compact_fc3 fc3.old (given tables.now) done.old }
 {
     judge_compact(LIMIT3, 2, fc3.len(), 2, done.len(), tables)?;

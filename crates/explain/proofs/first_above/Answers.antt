@@ -2,18 +2,18 @@ use borrow.Author.Tests.{lt-ltb, le-ltb}
 use Rattle.lists.specs.Lowest.{lowest}
 use Rattle.explain.proofs.first_above.Goals as goal
 
-pub returns-then-n_satom-gt-LIMIT2 : goal.returns-then-n_satom-gt-LIMIT2
+pub returns-then-tables-gt-LIMIT2 : goal.returns-then-tables-gt-LIMIT2
 unfolding lowest
-returns-then-n_satom-gt-LIMIT2 c = simp (lt-ltb _ _ c.if-n_satom-gt-LIMIT2.true)
+returns-then-tables-gt-LIMIT2 c = simp (lt-ltb _ _ c.if-tables-gt-LIMIT2.true)
 
-pub returns-then-n_patom-gt-LIMIT2 : goal.returns-then-n_patom-gt-LIMIT2
+pub returns-then-tables-gt-LIMIT2-2 : goal.returns-then-tables-gt-LIMIT2-2
 unfolding lowest
-returns-then-n_patom-gt-LIMIT2 c = simp (le-ltb _ _ c.if-n_satom-gt-LIMIT2.false, lt-ltb _ _ c.if-n_patom-gt-LIMIT2.true)
+returns-then-tables-gt-LIMIT2-2 c = simp (le-ltb _ _ c.if-tables-gt-LIMIT2.false, lt-ltb _ _ c.if-tables-gt-LIMIT2-2.true)
 
-pub returns-then-num_trans-gt-LIMIT2 : goal.returns-then-num_trans-gt-LIMIT2
+pub returns-then-tables-gt-LIMIT2-3 : goal.returns-then-tables-gt-LIMIT2-3
 unfolding lowest
-returns-then-num_trans-gt-LIMIT2 c = simp (le-ltb _ _ c.if-n_satom-gt-LIMIT2.false, le-ltb _ _ c.if-n_patom-gt-LIMIT2.false, lt-ltb _ _ c.if-num_trans-gt-LIMIT2.true)
+returns-then-tables-gt-LIMIT2-3 c = simp (le-ltb _ _ c.if-tables-gt-LIMIT2.false, le-ltb _ _ c.if-tables-gt-LIMIT2-2.false, lt-ltb _ _ c.if-tables-gt-LIMIT2-3.true)
 
 pub returns : goal.returns
 unfolding lowest
-returns c = simp (le-ltb _ _ c.if-n_satom-gt-LIMIT2.false, le-ltb _ _ c.if-n_patom-gt-LIMIT2.false, le-ltb _ _ c.if-num_trans-gt-LIMIT2.false)
+returns c = simp (le-ltb _ _ c.if-tables-gt-LIMIT2.false, le-ltb _ _ c.if-tables-gt-LIMIT2-2.false, le-ltb _ _ c.if-tables-gt-LIMIT2-3.false)

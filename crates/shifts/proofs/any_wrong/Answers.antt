@@ -6,21 +6,21 @@ use Rattle.lists.specs.Tests.{or-here, or-next, or-last}
 use Rattle.shifts.proofs.Together.{product_small}
 use Rattle.shifts.proofs.any_wrong.Goals as goal
 
-pub overflow_mul-num_trans : goal.overflow_mul-num_trans
-overflow_mul-num_trans c = omega (arith, product_small c.args.tables.now.num_trans c.args.tables.now.n_satom c.requires.1 c.requires.0)
+pub overflow_mul-tables : goal.overflow_mul-tables
+overflow_mul-tables c = omega (arith, product_small c.args.tables.now.num_trans c.args.tables.now.n_satom c.requires.1 c.requires.0)
 
-pub returns-then-perms-num_trans : goal.returns-then-perms-num_trans
-returns-then-perms-num_trans c = or-here _ _ (ap not (ne_eqb _ _ c.if-perms-num_trans.true))
+pub returns-then-tables : goal.returns-then-tables
+returns-then-tables c = or-here _ _ (ap not (ne_eqb _ _ c.if-tables.true))
 
-pub returns-then-p2s-n_patom : goal.returns-then-p2s-n_patom
-returns-then-p2s-n_patom c = or-next _ _ (ap not (eq-eqb _ _ c.if-perms-num_trans.false)) (or-here _ _ (ap not (ne_eqb _ _ c.if-p2s-n_patom.true)))
+pub returns-then-tables-2 : goal.returns-then-tables-2
+returns-then-tables-2 c = or-next _ _ (ap not (eq-eqb _ _ c.if-tables.false)) (or-here _ _ (ap not (ne_eqb _ _ c.if-tables-2.true)))
 
-pub returns-then-s2pp-n_satom : goal.returns-then-s2pp-n_satom
-returns-then-s2pp-n_satom c =
-    or-next _ _ (ap not (eq-eqb _ _ c.if-perms-num_trans.false))
-    (or-next _ _ (ap not (eq-eqb _ _ c.if-p2s-n_patom.false)) (or-here _ _ (ap not (ne_eqb _ _ c.if-s2pp-n_satom.true))))
+pub returns-then-tables-3 : goal.returns-then-tables-3
+returns-then-tables-3 c =
+    or-next _ _ (ap not (eq-eqb _ _ c.if-tables.false))
+    (or-next _ _ (ap not (eq-eqb _ _ c.if-tables-2.false)) (or-here _ _ (ap not (ne_eqb _ _ c.if-tables-3.true))))
 
 pub returns : goal.returns
 returns c =
-    or-next _ _ (ap not (eq-eqb _ _ c.if-perms-num_trans.false))
-    (or-next _ _ (ap not (eq-eqb _ _ c.if-p2s-n_patom.false)) (or-next _ _ (ap not (eq-eqb _ _ c.if-s2pp-n_satom.false)) (or-last _ refl)))
+    or-next _ _ (ap not (eq-eqb _ _ c.if-tables.false))
+    (or-next _ _ (ap not (eq-eqb _ _ c.if-tables-2.false)) (or-next _ _ (ap not (eq-eqb _ _ c.if-tables-3.false)) (or-last _ refl)))

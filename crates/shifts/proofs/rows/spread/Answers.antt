@@ -19,8 +19,8 @@ bounds-known-r c = omega (arith, c.requires.rows.0.rows.shifts, c.loop.invariant
 pub returns-then-x-eq0 : goal.returns-then-x-eq0
 returns-then-x-eq0 c = (c.learn_after.ensures.0, λ _. refl)
 
-pub returns-then-num_trans-x : goal.returns-then-num_trans-x
-returns-then-num_trans-x c = (c.learn_after.ensures.0, λ _. refl)
+pub returns-then-tables-x : goal.returns-then-tables-x
+returns-then-tables-x c = (c.learn_after.ensures.0, λ _. refl)
 
 pub loop-preserved : goal.loop-preserved
 loop-preserved c =

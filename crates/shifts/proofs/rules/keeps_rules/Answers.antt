@@ -11,15 +11,15 @@ use Rattle.shifts.proofs.Together.{product_small, rules_of, same-null}
 use Rattle.tables.proofs.Loops.{told-no, told_yes}
 use Rattle.shifts.proofs.rules.keeps_rules.Goals as goal
 
-pub overflow_mul-n_patom : goal.overflow_mul-n_patom
-overflow_mul-n_patom c = omega (arith, product_small c.args.tables.now.n_patom c.args.tables.now.num_trans c.requires.patoms c.requires.shifts)
+pub overflow_mul-tables : goal.overflow_mul-tables
+overflow_mul-tables c = omega (arith, product_small c.args.tables.now.n_patom c.args.tables.now.num_trans c.requires.patoms c.requires.shifts)
 
-pub returns-then-n_satom-n_patom : goal.returns-then-n_satom-n_patom
+pub returns-then-tables : goal.returns-then-tables
 unfolding counts_agree
-returns-then-n_satom-n_patom c =
+returns-then-tables c =
     let a = c.args in
     let T : ShiftTables = given a.tables.now in
-    sym (refuted (ruled (shifts_of T)) (λ e. not-both (rules_of (shifts_of T) e).0 (ne_eqb _ _ c.if-n_satom-n_patom.true)))
+    sym (refuted (ruled (shifts_of T)) (λ e. not-both (rules_of (shifts_of T) e).0 (ne_eqb _ _ c.if-tables.true)))
 
 pub returns-then-not-has_null : goal.returns-then-not-has_null
 returns-then-not-has_null c =
@@ -53,18 +53,18 @@ returns-then-not-all_placed c =
     let L = w.ensures.0 c.if-not-place_all.false in
     sym (refuted (ruled (shifts_of T)) (λ e. not-both (c.all_placed.ensures.1 (ruled-placed T c.requires _ L e)) c.if-not-all_placed.true))
 
-pub returns-then-n_satom-eq0 : goal.returns-then-n_satom-eq0
+pub returns-then-tables-eq0 : goal.returns-then-tables-eq0
 unfolding counts_agree
-returns-then-n_satom-eq0 c =
+returns-then-tables-eq0 c =
     let a = c.args in
     let T : ShiftTables = given a.tables.now in
     let L = c.place_all.ensures.0 c.if-not-place_all.false in
-    sym (all-ruled (shifts_of T) (fit-within T c.requires) (eq-eqb _ _ c.if-n_satom-n_patom.false)
+    sym (all-ruled (shifts_of T) (fit-within T c.requires) (eq-eqb _ _ c.if-tables.false)
     (sym (same-null T) ∙ told_yes c.has_null.ensures c.if-not-has_null.false-raw)
     (told_yes c.nsym_lands.ensures c.if-not-nsym_lands.false-raw)
     (placed-kept T c.requires _ L)
     (placed-free T c.requires _ L)
-    (closed-rows T c.requires (closed_none T c.requires c.if-n_satom-eq0.true)))
+    (closed-rows T c.requires (closed_none T c.requires c.if-tables-eq0.true)))
 
 pub rows_closed-requires : goal.rows_closed-requires
 rows_closed-requires c =
@@ -83,7 +83,7 @@ returns c =
     let L = c.place_all.ensures.0 c.if-not-place_all.false in
     same_test _ (ruled (shifts_of T))
     (λ e.
-    all-ruled (shifts_of T) (fit-within T c.requires) (eq-eqb _ _ c.if-n_satom-n_patom.false)
+    all-ruled (shifts_of T) (fit-within T c.requires) (eq-eqb _ _ c.if-tables.false)
     (sym (same-null T) ∙ told_yes c.has_null.ensures c.if-not-has_null.false-raw)
     (told_yes c.nsym_lands.ensures c.if-not-nsym_lands.false-raw)
     (placed-kept T c.requires _ L)
