@@ -1,33 +1,26 @@
 -- The audit block by block: what a look at a block says of the set. For every rank at once. Assumes nothing.
 use Rattle.std.specs.Prelude.{None, Ok, Some, ◌≡◌, refl, Bool, ◌||◌, ◌⊎◌, ℕ, zero, suc, ◌+◌, ◌*◌, ◌-◌, ◌/◌, ◌%◌, ◌≤◌, ◌<◌, Float}
 use Rattle.std.proofs.Math.Path.{sym, ap, ap₂, subst}
-use Rattle.std.proofs.Common.{◌∙◌, inl, inr, div-add-mod', mod-lt, div-lt_iff_lt-mul, arith, ltb-true, lt-ltb}
+use Rattle.std.proofs.Common.{◌∙◌, inl, inr, arith, ltb-true, lt-ltb}
 use Rattle.std.proofs.Math.Bool.{true, false, cond}
 use mathlib.Core.List.{List, []}
 use Rattle.std.proofs.Math.Nat.{mul-le-mul_right}
 use Rattle.std.proofs.Math.Dec.{ltb}
-use Rattle.std.proofs.Math.ListN.{length, get_or, length-map}
+use Rattle.std.proofs.Math.ListN.{length, get_or}
 use Rattle.std.specs.Float.{nan}
 use Rattle.lists.specs.Tests.{some, some_at, refuted, split}
-use Rattle.lists.specs.Elements.{straight, get_d_map}
-use Rattle.lists.specs.Cases.{lt_or_le}
-use Rattle.lists.specs.Tab.{tab, length-tab, get_or-tab}
-use Rattle.lists.specs.Digits.{times_power, in_row, quotient, remainder}
+use Rattle.lists.specs.Digits.{times_power}
 use Rattle.tables.specs.Shifts.{Shifts, Laws}
 use Rattle.places.specs.Places.{size, in_block}
-use Rattle.places.specs.Permutations.{Permutation, Group}
-use Rattle.blocks.specs.Block.{fits}
-use Rattle.blocks.specs.Permuted.{permuted}
-use Rattle.orbits.specs.Transposed.{counterpart, counterpart-below, permuted_is_below, in_block_pos, size_blocks}
+use Rattle.orbits.specs.Transposed.{counterpart, size_blocks}
 use Rattle.orbits.specs.Groups.{group_blocks}
 use Rattle.orbits.proofs.Scatter.{permuted-straight}
 use Rattle.audits.specs.declared.Difference.{Difference}
 use Rattle.lists.specs.Lowest.{lowest, Lowest, lowest_is, is_lowest, lowest-same}
-use Rattle.audits.specs.Audit.{differ, reads, reads_another, unlike, first_place, first_order, difference_at, audited}
-use Rattle.audits.specs.Demand.{index_in, none_alike}
-use Rattle.audits.specs.PlaceLaws.{reads-block, own_block}
+use Rattle.audits.specs.Audit.{reads, reads_another, unlike, first_place, first_order, difference_at, audited}
+use Rattle.audits.specs.Demand.{index_in}
 use Rattle.audits.proofs.EarlierLaws.{earlier_tells}
-use Rattle.audits.specs.Kernel.{there, another, position_to, first_position, seen_before, looked, difference_in, BlocksFit, order_below}
+use Rattle.audits.specs.Kernel.{another, position_to, first_position, seen_before, looked, difference_in, order_below}
 use Rattle.audits.specs.Blocks.{Orders, made, AlikeTo, alike-more, place-split, count-bs, at-bs, there_is, another_is, unlike_is}
 
 module _ (S : Shifts) (L : Laws S) (m : ℕ) (os : List (List ℕ)) (t : List ℕ) (O : Orders m os t) (set : List Float) (ls : length set ≡ size S m) where

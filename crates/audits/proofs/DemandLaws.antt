@@ -4,19 +4,13 @@ use Rattle.audits.specs.declared.Difference.{Difference}
 use Rattle.tables.specs.declared.Refusal.{Refusal}
 use Rattle.std.specs.Prelude.{None, Ok, ◌≡◌, refl, true, not, T, eqb, length}
 use Rattle.std.proofs.Math.Path.{sym, ap}
-use Rattle.std.proofs.Common.{◌∙◌, inl, inr, not-suc-le-zero, le_of_suc-le-suc, arith}
-use Rattle.std.proofs.Math.Bool.{Bool, false, cond, false≢true}
-use mathlib.Core.List.{List, [], ◌∷◌}
-use Prim.Native.Nat.{ℕ, zero, suc, ◌<◌}
-use Rattle.std.proofs.Math.Dec.{ltb}
+use Rattle.std.proofs.Common.{◌∙◌}
+use mathlib.Core.List.{List}
+use Prim.Native.Nat.{ℕ}
 use Rattle.std.proofs.Math.ListN.{get_or}
-use lib.Ieee.{Float, nan, binary64, fits, to_bits}
-use Rattle.std.specs.Float.Ieee.Bits.{of_bits-to_bits}
-use borrow.Author.Tests.{eqb-true, eq-eqb, not-false, le-ltb, ltb-false}
-use Rattle.lists.specs.Tests.{some, some_at, some_of, refuted, not-both}
-use Rattle.lists.specs.Members.{In}
+use lib.Ieee.{Float, nan, binary64, to_bits}
 use Rattle.tables.specs.Shifts.{Shifts, Laws}
-use Rattle.places.specs.Places.{Leg, Legs, stored, legs_at, address, place, at, read_out, size, stored-place, stored_opened, opened_legs, place-place, address-place, place-address, address_below}
+use Rattle.places.specs.Places.{stored, legs_at, address, place, at, read_out, stored-place, opened_legs, place-place, address_below}
 use Rattle.places.specs.Permutations.{permute_legs, Group}
 use Rattle.places.specs.Moves.{source, source-stored}
 use Rattle.lists.specs.Lowest.{lowest, lowest_is, is_lowest}

@@ -1,22 +1,17 @@
 -- A block whose group has an earlier block is alike if all earlier places are. Assumes nothing.
-use Rattle.std.specs.Prelude.{◌≡◌, false, List, ℕ, suc, ◌+◌, ◌*◌, ◌/◌, ◌<◌, get_or, Float}
-use Rattle.std.proofs.Math.Path.{refl, sym, ap, ap₂}
+use Rattle.std.specs.Prelude.{◌≡◌, false, List, ℕ, ◌+◌, ◌*◌, ◌<◌, get_or, Float}
+use Rattle.std.proofs.Math.Path.{sym, ap}
 use Rattle.std.proofs.Common.{◌∙◌, mul-le-mul_right, arith}
 use Rattle.std.specs.Float.{nan, binary64}
 use Rattle.std.specs.Float.Ieee.{to_bits}
-use Rattle.lists.specs.Members.{In, in_map, map_in}
-use Rattle.lists.specs.Elements.{straight, pick-straight}
-use Rattle.lists.specs.Digits.{times_power, quotient, remainder, in_row}
+use Rattle.lists.specs.Members.{In}
+use Rattle.lists.specs.Digits.{times_power}
 use Rattle.tables.specs.Shifts.{Shifts, Laws}
-use Rattle.places.specs.Places.{stored, legs_at, address, place, at, read_out, size, in_block, stored_opened, opened_legs, place-place, address-place}
-use Rattle.places.specs.Permutations.{permute_legs, Permutation, Group}
-use Rattle.places.specs.Moves.{source}
-use Rattle.blocks.specs.Permuted.{permuted}
-use Rattle.orbits.specs.Counterparts.{across}
-use Rattle.orbits.specs.Transposed.{counterpart, across_is, permuted_is_below, in_block_pos, size_blocks}
-use Rattle.orbits.specs.Symmetric.{images}
+use Rattle.places.specs.Places.{size, in_block}
+use Rattle.places.specs.Permutations.{Group}
+use Rattle.orbits.specs.Transposed.{counterpart, permuted_is_below}
 use Rattle.orbits.specs.SymmetrizerLaws.{imgs, orbits}
-use Rattle.audits.specs.Audit.{reads, unlike}
+use Rattle.audits.specs.Audit.{unlike}
 use Rattle.audits.specs.Demand.{alike_at, at-alike}
 use Rattle.audits.specs.PlaceLaws.{image_of, reads-image, image_in, in_image, place_in, image_is}
 

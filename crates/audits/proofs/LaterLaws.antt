@@ -1,21 +1,11 @@
 -- The blocks that the walk of fourth order passes are alike if those before them are. Assumes nothing.
-use Rattle.std.specs.Prelude.{◌≡◌, Bool, true, false, ◌||◌, ◌⊎◌, ℕ, ◌+◌, ◌*◌, ◌-◌, ◌/◌, ◌%◌, ◌≤◌, ◌<◌, length, Float}
-use Rattle.std.proofs.Math.Path.{refl, sym, ap₂, subst}
-use Rattle.std.proofs.Common.{ap, ◌∙◌, inl, mul-le-mul, le_refl, arith}
-use Rattle.std.proofs.Math.Logic.{inr}
-use mathlib.Core.List.{List, [], ◌∷◌}
-use Rattle.std.proofs.Math.Nat.{mul-le-mul_right}
-use Rattle.std.proofs.Math.Decide.{ℕ_discrete}
-use Rattle.std.proofs.Math.Dec.{ltb}
-use borrow.Author.Tests.{ltb-true, lt-ltb, le-ltb}
-use Rattle.lists.specs.Tests.{split}
-use Rattle.lists.specs.Members.{In}
-use Rattle.lists.specs.Elements.{Below, pick}
-use Rattle.lists.specs.Digits.{horner, times_power, rest, digits, rest_below, digits-below, horner-digits}
-use Rattle.tables.specs.Shifts.{Shifts, Laws, p2s_at}
+use Rattle.std.specs.Prelude.{◌≡◌, ℕ, ◌+◌, ◌-◌, ◌<◌, Float}
+use Rattle.std.proofs.Math.Path.{subst}
+use Rattle.std.proofs.Common.{arith}
+use mathlib.Core.List.{List}
+use Rattle.lists.specs.Digits.{times_power}
+use Rattle.tables.specs.Shifts.{Shifts, Laws}
 use Rattle.places.specs.Permutations.{perms4, twenty_four_group}
-use Rattle.orbits.specs.Transposed.{counterpart}
-use Rattle.orbits.specs.AtBlockLaws.{counterpart-at, stored-own}
 use Rattle.audits.specs.Blocks.{AlikeTo}
 use Rattle.audits.proofs.PassLaws.{walk, pass-later}
 use Rattle.audits.specs.Later.{Next, falls_later}

@@ -1,6 +1,6 @@
 -- A walk over the blocks of a set passes a block if that is alike where all before it are: because its group has an earlier block. For every rank at once.
 -- Assumes nothing.
-use Rattle.std.specs.Prelude.{◌≡◌, List, ℕ, zero, suc, ◌+◌, ◌*◌, ◌<◌, Float}
+use Rattle.std.specs.Prelude.{◌≡◌, List, ℕ, zero, suc, ◌+◌, ◌<◌, Float}
 use Rattle.std.proofs.Common.{subst, arith}
 use Rattle.lists.specs.Members.{In}
 use Rattle.lists.specs.Digits.{times_power}

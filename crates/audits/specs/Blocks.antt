@@ -1,14 +1,13 @@
 -- The audit block by block: what a look at every block in turn says of the set. For every rank at once. Assumes nothing.
 use Rattle.std.specs.Prelude.{None, Ok, ◌≡◌, refl, Bool, ◌||◌, ◌⊎◌, ℕ, zero, suc, ◌+◌, ◌*◌, ◌-◌, ◌/◌, ◌%◌, ◌≤◌, ◌<◌, Float}
 use Rattle.std.proofs.Math.Path.{sym, ap, ap₂, subst}
-use Rattle.std.proofs.Common.{◌∙◌, inl, inr, div-add-mod', mod-lt, div-lt_iff_lt-mul, arith, ltb-true, lt-ltb}
-use Rattle.std.proofs.Math.Bool.{true, false, cond}
+use Rattle.std.proofs.Common.{◌∙◌, inl, inr, div-add-mod', mod-lt, div-lt_iff_lt-mul, arith}
+use Rattle.std.proofs.Math.Bool.{false}
 use mathlib.Core.List.{List, []}
 use Rattle.std.proofs.Math.Nat.{mul-le-mul_right}
-use Rattle.std.proofs.Math.Dec.{ltb}
 use Rattle.std.proofs.Math.ListN.{length, get_or, length-map}
 use Rattle.std.specs.Float.{nan}
-use Rattle.lists.specs.Tests.{some, some_at, refuted, split}
+use Rattle.lists.specs.Tests.{some}
 use Rattle.lists.specs.Elements.{straight, get_d_map}
 use Rattle.lists.specs.Cases.{lt_or_le}
 use Rattle.lists.specs.Tab.{tab, length-tab, get_or-tab}
@@ -26,7 +25,7 @@ use Rattle.lists.specs.Lowest.{lowest, Lowest, lowest_is, is_lowest, lowest-same
 use Rattle.audits.specs.Audit.{differ, reads, reads_another, unlike, first_place, first_order, difference_at, audited}
 use Rattle.audits.specs.Demand.{index_in, none_alike}
 use Rattle.audits.specs.PlaceLaws.{reads-block, own_block}
-use Rattle.audits.specs.Kernel.{there, another, position_to, first_position, seen_before, looked, difference_in, BlocksFit, order_below}
+use Rattle.audits.specs.Kernel.{there, another, position_to, BlocksFit}
 
 -- the permutations of m + 1 legs, the first of which changes nothing, and their table of positions
 pub record Orders (m : ℕ) (os : List (List ℕ)) (t : List ℕ) : Type 0 where

@@ -16,7 +16,7 @@ use borrow.Author.Tests.{eqb-true, eq-eqb, not-false, le-ltb, ltb-false}
 use Rattle.lists.specs.Tests.{some, some_at, some_of, refuted, not-both}
 use Rattle.lists.specs.Members.{In}
 use Rattle.tables.specs.Shifts.{Shifts, Laws}
-use Rattle.places.specs.Places.{Leg, Legs, stored, legs_at, address, place, at, read_out, size, stored-place, stored_opened, opened_legs, place-place, address-place, place-address, address_below}
+use Rattle.places.specs.Places.{Leg, Legs, stored, legs_at, address, place, at, read_out, size, stored-place, stored_opened, place-place, address-place, place-address}
 use Rattle.places.specs.Permutations.{permute_legs, Group}
 use Rattle.places.specs.Moves.{source, source-stored}
 use Rattle.lists.specs.Lowest.{lowest, lowest_is, is_lowest}

@@ -1,6 +1,6 @@
 -- Blocks that need not be looked at: where two of the last three atoms fall, the block with these two exchanged is an earlier one of the same group.
 -- Assumes nothing.
-use Rattle.std.specs.Prelude.{◌≡◌, Bool, true, false, ◌||◌, ◌⊎◌, ℕ, ◌+◌, ◌*◌, ◌-◌, ◌/◌, ◌%◌, ◌≤◌, ◌<◌, length, Float}
+use Rattle.std.specs.Prelude.{◌≡◌, Bool, true, false, ◌||◌, ◌⊎◌, ℕ, ◌+◌, ◌*◌, ◌-◌, ◌/◌, ◌%◌, ◌≤◌, ◌<◌, length}
 use Rattle.std.proofs.Math.Path.{refl, sym, ap₂, subst}
 use Rattle.std.proofs.Common.{ap, ◌∙◌, inl, mul-le-mul, le_refl, arith}
 use Rattle.std.proofs.Math.Logic.{inr}
@@ -14,10 +14,9 @@ use Rattle.lists.specs.Members.{In}
 use Rattle.lists.specs.Elements.{Below, pick}
 use Rattle.lists.specs.Digits.{horner, times_power, rest, digits, rest_below, digits-below, horner-digits}
 use Rattle.tables.specs.Shifts.{Shifts, Laws, p2s_at}
-use Rattle.places.specs.Permutations.{perms4, twenty_four_group}
+use Rattle.places.specs.Permutations.{perms4}
 use Rattle.orbits.specs.Transposed.{counterpart}
 use Rattle.orbits.specs.AtBlockLaws.{counterpart-at, stored-own}
-use Rattle.audits.specs.Blocks.{AlikeTo}
 
 -- of the last three atoms of block b one is below the one before it
 unfoldable pub falling : ℕ → ℕ → Bool

@@ -2,9 +2,8 @@
 -- Assumes nothing.
 use Rattle.std.specs.Prelude.{◌≡◌, false, List, ℕ, suc, ◌+◌, ◌*◌, ◌/◌, ◌<◌, get_or, Float}
 use Rattle.std.proofs.Math.Path.{refl, sym, ap, ap₂}
-use Rattle.std.proofs.Common.{◌∙◌, mul-le-mul_right, arith}
-use Rattle.std.specs.Float.{nan, binary64}
-use Rattle.std.specs.Float.Ieee.{to_bits}
+use Rattle.std.proofs.Common.{◌∙◌}
+use Rattle.std.specs.Float.{nan}
 use Rattle.lists.specs.Members.{In, in_map, map_in}
 use Rattle.lists.specs.Elements.{straight, pick-straight}
 use Rattle.lists.specs.Digits.{times_power, quotient, remainder, in_row}
@@ -16,9 +15,8 @@ use Rattle.blocks.specs.Permuted.{permuted}
 use Rattle.orbits.specs.Counterparts.{across}
 use Rattle.orbits.specs.Transposed.{counterpart, across_is, permuted_is_below, in_block_pos, size_blocks}
 use Rattle.orbits.specs.Symmetric.{images}
-use Rattle.orbits.specs.SymmetrizerLaws.{imgs, orbits}
-use Rattle.audits.specs.Audit.{reads, unlike}
-use Rattle.audits.specs.Demand.{alike_at, at-alike}
+use Rattle.orbits.specs.SymmetrizerLaws.{imgs}
+use Rattle.audits.specs.Audit.{reads}
 
 module _ (S : Shifts) (L : Laws S) (m : ℕ) (os : List (List ℕ)) (G : Group m os) (set : List Float) where
   -- where the number that a permutation reads stands

@@ -1,5 +1,5 @@
 -- The two blocks of a group from the atoms of one of them, and the table of positions. Assumes nothing.
-use Rattle.std.specs.Prelude.{◌≡◌, refl, List, [], ◌∷◌, ℕ, ◌/◌, ◌%◌, ◌≤◌, ◌<◌, length, get_or}
+use Rattle.std.specs.Prelude.{◌≡◌, refl, List, [], ◌∷◌, ℕ, ◌/◌, ◌%◌, ◌<◌, length, get_or}
 use Rattle.std.proofs.Common.{sym, ap₂, ◌∙◌, arith, lit≤}
 use Rattle.std.proofs.Math.Path.{fun_ext}
 use Rattle.lists.specs.Tab.{tab, tab_from}

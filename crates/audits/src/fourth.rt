@@ -40,14 +40,12 @@ fn next(b: usize, count: usize, n: usize) -> usize
     requires { (b ≤ count) × (count < 4611686018427387904) × (0 < count → 0 < n) }
     ensures { Next n b count result }
 {
-    let mut r = b;
-    while r < count {
+    for r in b..count {
         if !falls(r, n) {
             return r;
         }
-        r += 1;
     }
-    r
+    count
 }
 
 // Block after block, up to the first place at which some permutation reads another number.
@@ -57,6 +55,7 @@ fn scan(fc: &[f64], tables: &ShiftTables) -> Result<Option<Difference>, Refusal>
 {
     let t = addresses();
     let count = row_of(fc.len(), 81);
+    // Not a count: each step goes to the next block whose last three atoms do not fall.
     let mut b = next(0, count, tables.n_satom);
     while b < count {
         let bs = group_blocks(tables, b);

@@ -7,10 +7,8 @@ pub fn counted() -> [i64; 1024]
     ensures { result ≡ countedTo 1024 }
 {
     let mut t = [0i64; 1024];
-    let mut i = 0;
-    while i < 1024 {
+    for i in 0..1024usize {
         t[i] = i as i64;
-        i += 1;
     }
     t
 }

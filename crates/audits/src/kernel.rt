@@ -50,14 +50,12 @@ fn first_unlike(
     requires { BlocksFit (length fc.now) width b bs.now t.now × (i < length bs.now) × (until ≤ width) }
     ensures { result ≡ lowest until (λ k. another width bs.now t.now fc.now b k i) }
 {
-    let mut k = 0;
-    while k < until {
+    for k in 0..until {
         if differ(own(fc, width, b, k), read(fc, bs, t, width, i, k)) {
             return k;
         }
-        k += 1;
     }
-    k
+    until
 }
 
 // The first position of block b at which some permutation reads another number, or width. The first permutation changes nothing.
@@ -66,10 +64,8 @@ fn first_position(fc: &[f64], bs: &[usize], t: &[u8], width: usize, b: usize) ->
     ensures { result ≡ first_position width bs.now t.now fc.now b }
 {
     let mut until = width;
-    let mut i = 1;
-    while i < bs.len() {
+    for i in 1..bs.len() {
         until = first_unlike(fc, bs, t, width, b, i, until);
-        i += 1;
     }
     until
 }
@@ -79,26 +75,22 @@ fn first_order(fc: &[f64], bs: &[usize], t: &[u8], width: usize, b: usize, k: us
     requires { BlocksFit (length fc.now) width b bs.now t.now × (k < width) }
     ensures { result ≡ lowest (length bs.now) (another width bs.now t.now fc.now b k) }
 {
-    let mut i = 0;
-    while i < bs.len() {
+    for i in 0..bs.len() {
         if differ(own(fc, width, b, k), read(fc, bs, t, width, i, k)) {
             return i;
         }
-        i += 1;
     }
-    i
+    bs.len()
 }
 
 // Whether one of the blocks is before b.
 fn seen_before(bs: &[usize], b: usize) -> bool
     ensures { result ≡ seen_before bs.now b }
 {
-    let mut i = 0;
-    while i < bs.len() {
-        if bs[i] < b {
+    for x in bs {
+        if *x < b {
             return true;
         }
-        i += 1;
     }
     false
 }

@@ -45,14 +45,12 @@ pub fn first_difference(a: &[f64], b: &[f64]) -> usize
     requires { length b.now ≡ length a.now }
     ensures { result ≡ first_difference a.now b.now }
 {
-    let mut k = 0;
-    while k < a.len() {
+    for k in 0..a.len() {
         if differ(a[k], b[k]) {
             return k;
         }
-        k += 1;
     }
-    k
+    a.len()
 }
 
 // Whether two sets have the same bits, or the first place at which they differ. The second is to have the length of the first.

@@ -54,14 +54,12 @@ fn scan(fc: &[f64], tables: &ShiftTables, from: usize) -> Result<Option<Differen
 {
     let t = positions();
     let count = row_of(fc.len(), 9);
-    let mut b = from;
-    while b < count {
+    for b in from..count {
         let bs = group_blocks(tables, b);
         let k = look(fc, &bs, &t, 9, b);
         if k < 9 {
             return Ok(Some(difference(fc, &bs, &t, 9, b, k)));
         }
-        b += 1;
     }
     Ok(None)
 }

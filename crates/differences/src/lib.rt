@@ -23,12 +23,9 @@ fn look_place(fc: &[f64], bs: &[usize], t: &[u8], width: usize, b: usize, k: usi
     let here = own(fc, width, b, k);
     let place = index_of(b, width, k);
     let mut seen = c;
-    let mut i = 0;
-    while i < bs.len() {
+    for i in 0..bs.len() {
         let there = read(fc, bs, t, width, i, k);
-        let more = look(index_of(place, bs.len(), i), there - here, seen);
-        seen = more;
-        i += 1;
+        seen = look(index_of(place, bs.len(), i), there - here, seen);
     }
     seen
 }
@@ -40,8 +37,7 @@ pub fn look_block(fc: &[f64], bs: &[usize], t: &[u8], width: usize, b: usize, c:
 {
     let mut seen = c;
     for k in 0..width {
-        let more = look_place(fc, bs, t, width, b, k, seen);
-        seen = more;
+        seen = look_place(fc, bs, t, width, b, k, seen);
     }
     seen
 }

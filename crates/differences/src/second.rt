@@ -29,8 +29,7 @@ fn scan(fc: &[f64], tables: &ShiftTables) -> Seen
     let mut seen = start();
     for b in 0..count {
         let bs = group_blocks(tables, b);
-        let more = look_block(fc, &bs, &t, 9, b, seen);
-        seen = more;
+        seen = look_block(fc, &bs, &t, 9, b, seen);
     }
     seen
 }

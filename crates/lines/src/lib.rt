@@ -27,6 +27,7 @@ pub fn line_sums(
     let mut sums = s;
     for k in 0..count {
         let b = blocks::read9(fc, index_of(k, step, first));
+        // A call's result is not laid straight into an array that lives on: no proof is made for that.
         let next = more(sums, b);
         sums = next;
     }

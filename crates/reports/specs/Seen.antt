@@ -8,7 +8,7 @@ use Rattle.std.proofs.Math.Logic.{inl, ⊎_elim}
 use Prim.Native.Nat.{ℕ, zero, suc, ◌+◌, ◌*◌, ◌<◌}
 use Rattle.std.specs.Float.Ieee.{lt, eq, ne, is_nan, of_bits}
 use Rattle.lists.specs.Tab.{times, times-same, times_nest}
-use Rattle.lists.specs.Tests.{every, every-at, some, split, refuted, some_at, some_of, not-both, or-none, and_false}
+use Rattle.lists.specs.Tests.{every, some, split, refuted, some_at, some_of, not-both, or-none, and_false}
 use Rattle.lists.specs.Cases.{eq_or_ne}
 use Rattle.tables.specs.Conditions.{or_false}
 use Rattle.lists.specs.Floats.{plus_zero}

@@ -3,7 +3,7 @@ use Rattle.reports.specs.declared.Report.{Report}
 use Rattle.tables.specs.declared.Refusal.{Refusal}
 use Rattle.std.specs.Prelude.{Err, Ok, Result, ◌≡◌, List, [], ◌∷◌, ℕ, length, get_or, Float}
 use Rattle.std.proofs.Math.Path.{refl}
-use Rattle.std.proofs.Common.{ap, ◌∙◌, eq-eqb, ne_eqb}
+use Rattle.std.proofs.Common.{◌∙◌, eq-eqb, ne_eqb}
 use Rattle.std.specs.Float.{nan}
 use Rattle.std.specs.Float.Ieee.{sub, binary64}
 use Rattle.tables.specs.Answers.{Answer}

@@ -84,11 +84,8 @@ pub fn look_numbers(x: &[f64], first: usize, c: Seen) -> Seen
     ensures { result ≡ loops.look_numbers first x.now c }
 {
     let mut seen = c;
-    let mut k = 0;
-    while k < x.len() {
-        let more = look(first + k, x[k], seen);
-        seen = more;
-        k += 1;
+    for k in 0..x.len() {
+        seen = look(first + k, x[k], seen);
     }
     seen
 }
@@ -99,11 +96,8 @@ pub fn look_differences(x: &[f64], y: &[f64], first: usize, c: Seen) -> Seen
     ensures { result ≡ loops.look_differences first x.now y.now c }
 {
     let mut seen = c;
-    let mut k = 0;
-    while k < x.len() {
-        let more = look(first + k, x[k] - y[k], seen);
-        seen = more;
-        k += 1;
+    for k in 0..x.len() {
+        seen = look(first + k, x[k] - y[k], seen);
     }
     seen
 }

@@ -12,7 +12,6 @@ ghost use Rattle.orbits.specs.HalfShift.{Trading, PairAt};
 ghost use Rattle.orbits.specs.TrueTransposes.{swapped, legs3, true_transpose_compact_fc3};
 ghost use Rattle.transposes_fc3.specs.Fc3Loops.{Atoms, at3, exchange_at, row_t, slab_t, all_t};
 
-use tables::shift_tables::ShiftTables;
 use crate::exchanging::{exchange0, exchange1, exchange2};
 use lists::clear_bytes;
 use orbits::half_shifts::stays;
@@ -21,9 +20,17 @@ use shifts::judge_compact;
 use tables::Refusal;
 use tables::atoms::{PrimAtom, SuperAtom};
 use tables::limits::LIMIT3;
+use tables::shift_tables::ShiftTables;
 
 // One visit of type 0: block (p, j, k) and its counterpart change places at the lower one of them: i is p's representative.
-fn visit0(fc3: &mut [f64], tables: &ShiftTables, p: PrimAtom, i: SuperAtom, j: SuperAtom, k: SuperAtom)
+fn visit0(
+    fc3: &mut [f64],
+    tables: &ShiftTables,
+    p: PrimAtom,
+    i: SuperAtom,
+    j: SuperAtom,
+    k: SuperAtom,
+)
     requires { PairAt 2 (length fc3.old) (given tables.now) p.0 i.0 j.0 × (k.0 < tables.now.n_satom) }
     ensures { let T = given tables.now in fc3.new ≡ exchange_at false T 0 (at3 T p.0 j.0 k.0) fc3.old }
 {
@@ -35,7 +42,14 @@ fn visit0(fc3: &mut [f64], tables: &ShiftTables, p: PrimAtom, i: SuperAtom, j: S
 }
 
 // One visit of type 1: block (p, j, k) and its counterpart change places, unless they stay or were met at the lower one.
-fn visit1(fc3: &mut [f64], tables: &ShiftTables, half_shifts_stay: bool, p: PrimAtom, j: SuperAtom, k: SuperAtom)
+fn visit1(
+    fc3: &mut [f64],
+    tables: &ShiftTables,
+    half_shifts_stay: bool,
+    p: PrimAtom,
+    j: SuperAtom,
+    k: SuperAtom,
+)
     requires trading { Trading 2 (length fc3.old) (given tables.now) }
     requires atoms { Atoms (given tables.now) p.0 j.0 k.0 }
     ensures { let T = given tables.now in fc3.new ≡ exchange_at half_shifts_stay T 1 (at3 T p.0 j.0 k.0) fc3.old }
@@ -109,7 +123,14 @@ fn row2(fc3: &mut [f64], tables: &ShiftTables, p: PrimAtom, j: SuperAtom)
 }
 
 // Types 1 and 2, which exchange with the last leg.
-fn row_last(fc3: &mut [f64], tables: &ShiftTables, half_shifts_stay: bool, t: usize, p: PrimAtom, j: SuperAtom)
+fn row_last(
+    fc3: &mut [f64],
+    tables: &ShiftTables,
+    half_shifts_stay: bool,
+    t: usize,
+    p: PrimAtom,
+    j: SuperAtom,
+)
     requires trading { Trading 2 (length fc3.old) (given tables.now) }
     requires in_range { (p.0 < tables.now.n_patom) × (j.0 < tables.now.n_satom) × (t < 3) × (t ≡ 0 → ⊥) }
     ensures { fc3.new ≡ row_t half_shifts_stay (given tables.now) t p.0 j.0 fc3.old }
@@ -122,7 +143,14 @@ fn row_last(fc3: &mut [f64], tables: &ShiftTables, half_shifts_stay: bool, t: us
 }
 
 // The blocks (p, j, 0), (p, j, 1), .. by type, each type with a loop of its own: the type is then a constant where the blocks move.
-fn row(fc3: &mut [f64], tables: &ShiftTables, half_shifts_stay: bool, t: usize, p: PrimAtom, j: SuperAtom)
+fn row(
+    fc3: &mut [f64],
+    tables: &ShiftTables,
+    half_shifts_stay: bool,
+    t: usize,
+    p: PrimAtom,
+    j: SuperAtom,
+)
     requires trading { Trading 2 (length fc3.old) (given tables.now) }
     requires in_range { (p.0 < tables.now.n_patom) × (j.0 < tables.now.n_satom) × (t < 3) }
     ensures { fc3.new ≡ row_t half_shifts_stay (given tables.now) t p.0 j.0 fc3.old }
@@ -175,7 +203,12 @@ fn transpose(fc3: &mut [f64], tables: &ShiftTables, half_shifts_stay: bool, t_ty
 }
 
 // Pairs of legs change places: type 0 legs 0 and 1, type 1 legs 0 and 2, type 2 legs 1 and 2. The work bytes come in with anything and are left with zeros.
-pub fn transpose_compact_fc3(fc3: &mut [f64], tables: &ShiftTables, done: &mut [u8], t_type: i64) -> Result<(), Refusal>
+pub fn transpose_compact_fc3(
+    fc3: &mut [f64],
+    tables: &ShiftTables,
+    done: &mut [u8],
+    t_type: i64,
+) -> Result<(), Refusal>
     ensures { (result, fc3.new, done.new) ≡ transpose_compact_fc3 fc3.old (given tables.now) done.old t_type }
 {
     judge_compact(LIMIT3, 2, fc3.len(), 1, done.len(), tables)?;
@@ -185,7 +218,12 @@ pub fn transpose_compact_fc3(fc3: &mut [f64], tables: &ShiftTables, done: &mut [
 }
 
 // The same for every block, those of half shifts too.
-pub fn true_transpose_compact_fc3(fc3: &mut [f64], tables: &ShiftTables, done: &mut [u8], t_type: i64) -> Result<(), Refusal>
+pub fn true_transpose_compact_fc3(
+    fc3: &mut [f64],
+    tables: &ShiftTables,
+    done: &mut [u8],
+    t_type: i64,
+) -> Result<(), Refusal>
     ensures { (result, fc3.new, done.new) ≡ true_transpose_compact_fc3 fc3.old (given tables.now) done.old t_type }
 {
     judge_compact(LIMIT3, 2, fc3.len(), 1, done.len(), tables)?;

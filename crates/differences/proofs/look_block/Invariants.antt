@@ -1,11 +1,7 @@
-use Prim.Native.Nat.{◌-◌, ◌≤◌}
 use mathlib.Core.Path.{◌≡◌}
 use Rattle.lists.specs.Tab.{times}
 use Rattle.differences.specs.Laws.{look_place}
 use Rattle.differences.proofs.look_block.Given as goal
 
 abbrev pub invariant-loop-k : goal.invariant-loop-k
-invariant-loop-k l = (l.k ≤ l.width) × (l.seen ≡ times l.k (look_place l.width l.bs l.t l.fc l.b) l.initial.seen)
-
-abbrev pub decreases-loop-k : goal.decreases-loop-k
-decreases-loop-k l = l.width - l.k
+invariant-loop-k l = l.seen ≡ times l.k (look_place l.width l.bs l.t l.fc l.b) l.initial.seen

@@ -16,7 +16,7 @@ pub index_of-place-requires : goal.index_of-place-requires
 index_of-place-requires c = let h = in_here c.requires.0 c.args.k c.requires.1 in omega (arith, h, c.requires.2)
 
 pub loop-i-init : goal.loop-i-init
-loop-i-init c = (omega arith, times_none _ _)
+loop-i-init c = times_none _ _
 
 pub read-there-requires : goal.read-there-requires
 read-there-requires c =
@@ -32,11 +32,11 @@ loop-i-preserved c =
     let a = c.args in
     let e : c.index_of.result ≡ (a.b * a.width + a.k) * length a.bs.now + l.i = c.index_of.ensures ∙ ap (λ x. x * length a.bs.now + l.i) c.index_of-place.ensures in
     let x : sub binary64 c.read-there.result c.own-here.result ≡ sub binary64 (there a.width a.bs.now a.t.now a.fc.now l.i a.k) (get_or a.fc.now (a.b * a.width + a.k) nan) = ap₂ (sub binary64) c.read-there.ensures c.own-here.ensures in
-    (omega arith, times_more l.i _ _ l.invariant.1 (c.look-more.ensures ∙ ap₂ (λ r x. look r x l.seen) e x))
+    times_more l.i _ _ l.invariant (c.look-seen.ensures ∙ ap₂ (λ r x. look r x l.seen) e x)
 
 pub returns : goal.returns
 unfolding look_place look_at
 returns c =
     let l = c.loop-i in
     let i : l.i ≡ length c.args.bs.now = omega arith in
-    l.invariant.1 ∙ rw i
+    l.invariant ∙ rw i

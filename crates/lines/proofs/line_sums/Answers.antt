@@ -7,7 +7,7 @@ use native.Mathlib.Omega.{arith}
 use Rattle.lines.proofs.line_sums.Goals as goal
 
 pub loop-k-init : goal.loop-k-init
-loop-k-init c = (omega arith, times_none _ _)
+loop-k-init c = times_none _ _
 
 pub index_of-requires : goal.index_of-requires
 index_of-requires c = omega (arith, c.requires.within c.loop-k.k c.loop-k-test.true)
@@ -21,11 +21,11 @@ loop-k-preserved c =
     let l = c.loop-k in
     let a = c.args in
     let e = step_is c.requires l.k c.loop-k-test.true c.index_of.ensures in
-    (omega arith, times_more l.k _ _ l.invariant.1 (c.more-next.ensures ∙ ap (more l.sums) (c.read9-b.ensures ∙ ap (λ b. block 9 b a.fc.now) e)))
+    times_more l.k _ _ l.invariant (c.more-next.ensures ∙ ap (more l.sums) (c.read9-b.ensures ∙ ap (λ b. block 9 b a.fc.now) e))
 
 pub returns : goal.returns
 unfolding line_sums
 returns c =
     let l = c.loop-k in
     let i : l.k ≡ c.args.count = omega arith in
-    l.invariant.1 ∙ rw i
+    l.invariant ∙ rw i

@@ -1,7 +1,8 @@
 use native.Mathlib.Omega.{arith}
-use mathlib.Core.Path.{sym, ◌∙◌}
+use Prim.Native.Nat.{ℕ}
+use mathlib.Core.Path.{◌≡◌, sym, ◌∙◌, subst}
 use borrow.Author.Tests.{not-false}
-use Rattle.audits.specs.Later.{next-none, next_more}
+use Rattle.audits.specs.Later.{Next, next-none, next_more}
 use Rattle.audits.proofs.fourth.next.Goals as goal
 
 pub loop-r-init : goal.loop-r-init
@@ -19,4 +20,7 @@ loop-r-preserved c =
     next_more c.args.n c.args.b c.args.count l.r l.invariant c.loop-r-test.true (sym c.falls.ensures ∙ not-false c.falls.result c.if-not-falls.false-raw)
 
 pub returns : goal.returns
-returns c = c.loop-r.invariant
+returns c =
+    let l = c.loop-r in
+    let e : l.r ≡ c.args.count = omega (arith, c.requires.0) in
+    subst (λ (r : ℕ). Next c.args.n c.args.b c.args.count r) e l.invariant

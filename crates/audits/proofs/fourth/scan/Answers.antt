@@ -2,7 +2,6 @@ use Rattle.std.specs.Prelude.{Ok, Some}
 use Prim.Native.Nat.{ℕ, ◌≤◌, ◌<◌}
 use native.Mathlib.Omega.{arith}
 use mathlib.Core.Path.{ap, ◌∙◌, subst}
-use borrow.Author.Rules.{rules}
 use Rattle.lists.specs.Digits.{times_power}
 use Rattle.tables.specs.Limits.{limit4}
 use Rattle.tables.specs.Compact.{ShiftTables, shifts_of, given}

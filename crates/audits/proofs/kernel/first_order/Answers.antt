@@ -1,7 +1,6 @@
 use Prim.Native.Nat.{◌<◌}
 use native.Mathlib.Omega.{arith}
 use mathlib.Core.Path.{sym, ap₂, ◌∙◌}
-use mathlib.Core.Bool.{false}
 use lib.ListN.{length}
 use borrow.Author.Count.{below_none, below_more}
 use Rattle.audits.specs.Audit.{differ}
@@ -10,7 +9,7 @@ use Rattle.audits.specs.Kernel.{another, readable, in_here}
 use Rattle.audits.proofs.kernel.first_order.Goals as goal
 
 pub loop-i-init : goal.loop-i-init
-loop-i-init c = (omega arith, below_none _)
+loop-i-init c = below_none _
 
 pub own-requires : goal.own-requires
 own-requires c = in_here c.requires.0 c.args.k c.requires.1
@@ -26,15 +25,15 @@ unfolding another
 returns-then-differ c =
     let l = c.loop-i in
     is_lowest (length c.args.bs.now) _ l.i
-    (record { within = l.invariant.0; passes = λ h. sym (c.differ.ensures ∙ ap₂ differ c.own.ensures c.read.ensures) ∙ c.if-differ.true; before = l.invariant.1 })
+    (record { within = omega arith; passes = λ h. sym (c.differ.ensures ∙ ap₂ differ c.own.ensures c.read.ensures) ∙ c.if-differ.true; before = l.invariant })
 
 pub loop-i-preserved : goal.loop-i-preserved
 unfolding another
 loop-i-preserved c =
     let l = c.loop-i in
-    (omega arith, below_more _ l.i l.invariant.1 (sym (c.differ.ensures ∙ ap₂ differ c.own.ensures c.read.ensures) ∙ c.if-differ.false))
+    below_more _ l.i l.invariant (sym (c.differ.ensures ∙ ap₂ differ c.own.ensures c.read.ensures) ∙ c.if-differ.false)
 
 pub returns : goal.returns
 returns c =
     let l = c.loop-i in
-    is_lowest (length c.args.bs.now) _ l.i (record { within = l.invariant.0; passes = λ h. absurd (omega arith); before = l.invariant.1 })
+    is_lowest (length c.args.bs.now) _ _ (record { within = omega arith; passes = λ h. absurd (omega arith); before = λ j h. l.invariant j (omega arith) })

@@ -1,7 +1,6 @@
 use Prim.Native.Nat.{◌<◌}
 use native.Mathlib.Omega.{arith}
 use mathlib.Core.Path.{sym, ap₂, ◌∙◌}
-use mathlib.Core.Bool.{false}
 use borrow.Author.Count.{below_none, below_more}
 use Rattle.audits.specs.Audit.{differ}
 use Rattle.lists.specs.Lowest.{is_lowest}
@@ -9,7 +8,7 @@ use Rattle.audits.specs.Kernel.{another, readable, in_here}
 use Rattle.audits.proofs.kernel.first_unlike.Goals as goal
 
 pub loop-k-init : goal.loop-k-init
-loop-k-init c = (omega arith, below_none _)
+loop-k-init c = below_none _
 
 pub own-requires : goal.own-requires
 own-requires c = in_here c.requires.0 c.loop-k.k (omega (arith, c.requires.2))
@@ -25,15 +24,15 @@ unfolding another
 returns-then-differ c =
     let l = c.loop-k in
     is_lowest c.args.until _ l.k
-    (record { within = l.invariant.0; passes = λ h. sym (c.differ.ensures ∙ ap₂ differ c.own.ensures c.read.ensures) ∙ c.if-differ.true; before = l.invariant.1 })
+    (record { within = omega arith; passes = λ h. sym (c.differ.ensures ∙ ap₂ differ c.own.ensures c.read.ensures) ∙ c.if-differ.true; before = l.invariant })
 
 pub loop-k-preserved : goal.loop-k-preserved
 unfolding another
 loop-k-preserved c =
     let l = c.loop-k in
-    (omega arith, below_more _ l.k l.invariant.1 (sym (c.differ.ensures ∙ ap₂ differ c.own.ensures c.read.ensures) ∙ c.if-differ.false))
+    below_more _ l.k l.invariant (sym (c.differ.ensures ∙ ap₂ differ c.own.ensures c.read.ensures) ∙ c.if-differ.false)
 
 pub returns : goal.returns
 returns c =
     let l = c.loop-k in
-    is_lowest c.args.until _ l.k (record { within = l.invariant.0; passes = λ h. absurd (omega arith); before = l.invariant.1 })
+    is_lowest c.args.until _ _ (record { within = omega arith; passes = λ h. absurd (omega arith); before = λ j h. l.invariant j (omega arith) })

@@ -1,4 +1,3 @@
-use Prim.Native.Nat.{◌-◌}
 use Rattle.tables.specs.Compact.{shifts_of, given}
 use Rattle.places.specs.Permutations.{perms2}
 use Rattle.audits.specs.Blocks.{AlikeTo}
@@ -7,6 +6,3 @@ use Rattle.audits.proofs.second.scan.Given as goal
 abbrev pub invariant-loop-b : goal.invariant-loop-b
 invariant-loop-b l =
     AlikeTo (shifts_of (given l.tables)) 1 perms2 l.fc l.b
-
-abbrev pub decreases-loop-b : goal.decreases-loop-b
-decreases-loop-b l = l.count - l.b

@@ -1,7 +1,6 @@
 use Rattle.std.specs.Prelude.{Ok, Some}
 use Prim.Native.Nat.{ℕ, ◌≤◌, ◌<◌}
 use mathlib.Core.Path.{ap, ◌∙◌, subst}
-use borrow.Author.Rules.{rules}
 use Rattle.lists.specs.Digits.{times_power}
 use Rattle.tables.specs.Limits.{limit3}
 use Rattle.tables.specs.Compact.{ShiftTables, shifts_of, given}

@@ -2,7 +2,6 @@ use Prim.Native.Nat.{ℕ, ◌<◌}
 use native.Mathlib.Omega.{arith}
 use mathlib.Core.Path.{◌≡◌, ap, ◌∙◌, subst}
 use lib.Dec.{lit≤}
-use borrow.Author.Rules.{rules}
 use Rattle.lists.specs.Tab.{times, times_none, times_more}
 use Rattle.lists.specs.Digits.{times_power}
 use Rattle.tables.specs.Limits.{limit2}
@@ -15,7 +14,7 @@ use Rattle.differences.specs.Laws.{block_seen, block_is, blocks-seen}
 use Rattle.differences.proofs.second.scan.Goals as goal
 
 pub loop-b-init : goal.loop-b-init
-loop-b-init c = (omega arith, times_none _ _)
+loop-b-init c = times_none _ _
 
 pub group_blocks-bs-requires : goal.group_blocks-bs-requires
 group_blocks-bs-requires c =
@@ -25,8 +24,8 @@ group_blocks-bs-requires c =
     let hb : c.loop-b.b < times_power a.tables.now.n_satom 1 a.tables.now.n_patom = subst (λ (x : ℕ). c.loop-b.b < x) n c.loop-b-test.true in
     (c.requires.fit, hb)
 
-pub look_block-more-requires : goal.look_block-more-requires
-look_block-more-requires c =
+pub look_block-seen-requires : goal.look_block-seen-requires
+look_block-seen-requires c =
     let a = c.args in
     let R = c.requires in
     let T : ShiftTables = given a.tables.now in
@@ -45,7 +44,7 @@ loop-b-preserved c =
     let n = c.row_of-count.ensures ∙ block-count limit2 1 _ T R 9 in9 in
     let hb : l.b < times_power a.tables.now.n_satom 1 a.tables.now.n_patom = subst (λ (x : ℕ). l.b < x) n c.loop-b-test.true in
     let O = orders c.positions-t.ensures in
-    (omega arith, times_more l.b _ _ l.invariant.1 (c.look_block-more.ensures ∙ block_is (shifts_of T) R.rules 1 perms2 _ O a.fc.now R.set-length 9 in9 l.b hb _ c.group_blocks-bs.ensures l.seen))
+    times_more l.b _ _ l.invariant (c.look_block-seen.ensures ∙ block_is (shifts_of T) R.rules 1 perms2 _ O a.fc.now R.set-length 9 in9 l.b hb _ c.group_blocks-bs.ensures l.seen)
 
 pub returns : goal.returns
 returns c =
@@ -54,4 +53,4 @@ returns c =
     let l = c.loop-b in
     let n = c.row_of-count.ensures ∙ block-count limit2 1 _ T c.requires 9 in9 in
     let i : l.b ≡ c.row_of-count.result = omega arith in
-    blocks-seen (shifts_of T) 1 perms2 a.fc.now 9 l.b in9 (i ∙ n) (l.invariant.1 ∙ ap (times l.b (block_seen (shifts_of T) 1 perms2 a.fc.now 9)) c.start-seen.ensures)
+    blocks-seen (shifts_of T) 1 perms2 a.fc.now 9 l.b in9 (i ∙ n) (l.invariant ∙ ap (times l.b (block_seen (shifts_of T) 1 perms2 a.fc.now 9)) c.start-seen.ensures)

@@ -1,4 +1,3 @@
-use Prim.Native.Nat.{◌-◌, ◌≤◌}
 use mathlib.Core.Path.{◌≡◌}
 use Rattle.lists.specs.Tab.{times}
 use Rattle.tables.specs.Compact.{shifts_of, given}
@@ -8,7 +7,4 @@ use Rattle.differences.proofs.third.scan.Given as goal
 
 abbrev pub invariant-loop-b : goal.invariant-loop-b
 invariant-loop-b l =
-    (l.b ≤ l.count) × (l.seen ≡ times l.b (block_seen (shifts_of (given l.tables)) 2 perms3 l.fc 27) l.initial.seen)
-
-abbrev pub decreases-loop-b : goal.decreases-loop-b
-decreases-loop-b l = l.count - l.b
+    l.seen ≡ times l.b (block_seen (shifts_of (given l.tables)) 2 perms3 l.fc 27) l.initial.seen

@@ -6,17 +6,17 @@ use Rattle.reports.specs.Loops.{look_at}
 use Rattle.reports.proofs.seen.look_numbers.Goals as goal
 
 pub loop-k-init : goal.loop-k-init
-loop-k-init c = (omega arith, times_none _ _)
+loop-k-init c = times_none _ _
 
 pub overflow_add-first : goal.overflow_add-first
 overflow_add-first c = omega arith
 
 pub loop-k-preserved : goal.loop-k-preserved
-loop-k-preserved c = let l = c.loop-k in (omega arith, times_more l.k _ _ l.invariant.1 c.look-more.ensures)
+loop-k-preserved c = let l = c.loop-k in times_more l.k _ _ l.invariant c.look-seen.ensures
 
 pub returns : goal.returns
 unfolding look_at
 returns c =
     let l = c.loop-k in
     let i : l.k ≡ length c.args.x.now = omega arith in
-    l.invariant.1 ∙ rw i
+    l.invariant ∙ rw i
