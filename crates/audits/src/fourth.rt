@@ -7,7 +7,6 @@ ghost use Rattle.audits.specs.Later.{falling, Next};
 ghost use Rattle.audits.specs.Audit.{audited, audit_compact, audit_full};
 ghost use Rattle.audits.specs.Guard.{Ready, full_tables};
 
-use tables::shift_tables::ShiftTables;
 use crate::Difference;
 use crate::guard::counted;
 use crate::kernel::{difference, look};
@@ -18,6 +17,7 @@ use shifts::judge_set;
 use tables::Refusal;
 use tables::limits::LIMIT4;
 use tables::sets::judge_full;
+use tables::shift_tables::ShiftTables;
 
 // Whether one of the last three atoms of block b is below the one before it. The block with these two exchanged is an earlier one of its group then.
 fn falls(b: usize, n: usize) -> bool

@@ -9,7 +9,6 @@ ghost use Rattle.audits.specs.Audit.{audited, audit_compact, audit_full};
 ghost use Rattle.audits.specs.Blocks.{position_table, AlikeTo};
 ghost use Rattle.audits.specs.Guard.{Ready, full_tables};
 
-use tables::shift_tables::ShiftTables;
 use crate::Difference;
 use crate::guard::counted;
 use crate::kernel::{difference, look};
@@ -19,6 +18,7 @@ use tables::Refusal;
 use tables::atoms::{PrimAtom, SuperAtom};
 use tables::limits::LIMIT3;
 use tables::sets::judge_full;
+use tables::shift_tables::ShiftTables;
 
 // The position that each permutation gives to each position of a block, a row for each.
 const POSITIONS: [u8; 162] = [

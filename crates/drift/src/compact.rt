@@ -6,7 +6,6 @@ ghost use Rattle.places.specs.ReadOuts.{stored_in};
 ghost use Rattle.drift.specs.CompactReport.{drift_report_compact_fc2};
 ghost use Rattle.drift.specs.CompactLaws.{Held, compact_row_sums, column_sums, look_rows, look_compact_columns, scanned_compact};
 
-use tables::shift_tables::ShiftTables;
 use crate::seen::{calm, look_line};
 use crate::{DriftReport, conclude};
 use lines::nine::more;
@@ -16,6 +15,7 @@ use shifts::judge_set;
 use tables::Refusal;
 use tables::atoms::SuperAtom;
 use tables::limits::LIMIT2;
+use tables::shift_tables::ShiftTables;
 
 // The sums of row i, over the second atom.
 fn row_sums(fc: &[f64], tables: &ShiftTables, i: usize) -> [[f64; 3]; 3]

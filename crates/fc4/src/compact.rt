@@ -6,13 +6,13 @@ ghost use Rattle.positions.specs.Positions.{address_table};
 ghost use Rattle.fc4.specs.Symmetrize.{set_permutation_symmetry_compact_fc4};
 ghost use Rattle.fc4.specs.Loops.{Ready, visit_at};
 
-use tables::shift_tables::ShiftTables;
 use crate::group::{group_blocks, take};
 use lists::clear_bytes;
 use positions::addresses;
 use shifts::judge_compact;
 use tables::Refusal;
 use tables::limits::LIMIT4;
+use tables::shift_tables::ShiftTables;
 
 // One visit: block b is passed over if its group was met before. Its own mark tells, since the marks of a group are set together.
 fn visit(fc4: &mut [f64], tables: &ShiftTables, done: &mut [u8], t: &[u8; 1944], b: usize)
@@ -38,7 +38,11 @@ fn all_blocks(fc4: &mut [f64], tables: &ShiftTables, done: &mut [u8], t: &[u8; 1
 }
 
 // The set is symmetrized: all 24 permutations of any four legs read out the same number. The done table comes in with anything and is left with zeros.
-pub fn set_permutation_symmetry_compact_fc4(fc4: &mut [f64], tables: &ShiftTables, done: &mut [u8]) -> Result<(), Refusal>
+pub fn set_permutation_symmetry_compact_fc4(
+    fc4: &mut [f64],
+    tables: &ShiftTables,
+    done: &mut [u8],
+) -> Result<(), Refusal>
     ensures { (result, fc4.new, done.new) ≡ set_permutation_symmetry_compact_fc4 fc4.old (given tables.now) done.old }
 {
     judge_compact(LIMIT4, 3, fc4.len(), 3, done.len(), tables)?;

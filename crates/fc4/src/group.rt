@@ -13,13 +13,19 @@ ghost use Rattle.fc4.specs.Mean.{Blocks24};
 ghost use Rattle.fc4.specs.Blocks.{six_from, joined_of};
 ghost use Rattle.fc4.specs.Loops.{Marks24, taken_blocks};
 
-use tables::shift_tables::ShiftTables;
 use crate::groups::work_group;
 use places::{column_of, full4, row_of, stored_block4};
 use tables::atoms::{PrimAtom, SuperAtom};
+use tables::shift_tables::ShiftTables;
 
 // The blocks of the permutations that begin with atom w: the other atoms as xyz, xzy, yxz, yzx, zxy, zyx.
-fn six_from(tables: &ShiftTables, w: SuperAtom, x: SuperAtom, y: SuperAtom, z: SuperAtom) -> [usize; 6]
+fn six_from(
+    tables: &ShiftTables,
+    w: SuperAtom,
+    x: SuperAtom,
+    y: SuperAtom,
+    z: SuperAtom,
+) -> [usize; 6]
     requires { Tables tables.now.n_satom tables.now.s2pp.now tables.now.nsym_list.now tables.now.perms.now × (w.0 < tables.now.n_satom) × (x.0 < tables.now.n_satom) × (y.0 < tables.now.n_satom) × (z.0 < tables.now.n_satom) }
     ensures { result ≡ six_from (stored_in tables.now.n_satom tables.now.s2pp.now tables.now.nsym_list.now tables.now.perms.now) w.0 x.0 y.0 z.0 }
 {

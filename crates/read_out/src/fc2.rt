@@ -6,15 +6,22 @@ ghost use Rattle.read_out.specs.ReadOut.{compact_to_full_fc2};
 ghost use Rattle.read_out.specs.Copies.{Along, copy_legs, copy_rows};
 ghost use Rattle.read_out.specs.Guard.{Reading};
 
-use tables::shift_tables::ShiftTables;
 use crate::judge;
 use places::index_of;
 use tables::Refusal;
 use tables::atoms::{PrimAtom, SuperAtom};
 use tables::limits::LIMIT2;
+use tables::shift_tables::ShiftTables;
 
 // The blocks of one first atom, which are stored for a primitive one; row t has the images of the second atoms.
-fn line(full: &mut [f64], fc2: &[f64], tables: &ShiftTables, t: usize, first: SuperAtom, home: PrimAtom)
+fn line(
+    full: &mut [f64],
+    fc2: &[f64],
+    tables: &ShiftTables,
+    t: usize,
+    first: SuperAtom,
+    home: PrimAtom,
+)
     requires along { Along tables.now.n_satom t tables.now.perms.now }
     requires blocks_in { BlocksIn tables.now.n_satom 9 1 first.0 (length full.old) × BlocksIn tables.now.n_satom 9 1 home.0 (length fc2.now) }
     ensures { full.new ≡ copy_legs tables.now.perms.now tables.now.n_satom 9 t 1 first.0 home.0 fc2.now full.old }
@@ -42,7 +49,11 @@ fn rows(full: &mut [f64], fc2: &[f64], tables: &ShiftTables)
 }
 
 // Writes the full set that a compact set stands for. What was in the full slice does not matter.
-pub fn compact_to_full_fc2(full: &mut [f64], fc2: &[f64], tables: &ShiftTables) -> Result<(), Refusal>
+pub fn compact_to_full_fc2(
+    full: &mut [f64],
+    fc2: &[f64],
+    tables: &ShiftTables,
+) -> Result<(), Refusal>
     ensures { (result, full.new) ≡ compact_to_full_fc2 full.old fc2.now (given tables.now) }
 {
     judge(LIMIT2, 1, full.len(), fc2.len(), tables)?;

@@ -6,12 +6,12 @@ ghost use Rattle.read_out.specs.ReadOut.{compact_to_full_fc3};
 ghost use Rattle.read_out.specs.Copies.{Along, copy_legs, copy_rows};
 ghost use Rattle.read_out.specs.Guard.{Reading};
 
-use tables::shift_tables::ShiftTables;
 use crate::judge;
 use places::index_of;
 use tables::Refusal;
 use tables::atoms::SuperAtom;
 use tables::limits::LIMIT3;
+use tables::shift_tables::ShiftTables;
 
 // The blocks of one atom more: to and from number the atoms before it in the full set and in the compact one, row t has its images.
 fn line(full: &mut [f64], fc3: &[f64], tables: &ShiftTables, t: usize, to: usize, from: usize)
@@ -56,7 +56,11 @@ fn rows(full: &mut [f64], fc3: &[f64], tables: &ShiftTables)
 }
 
 // Writes the full set that a compact set stands for. What was in the full slice does not matter.
-pub fn compact_to_full_fc3(full: &mut [f64], fc3: &[f64], tables: &ShiftTables) -> Result<(), Refusal>
+pub fn compact_to_full_fc3(
+    full: &mut [f64],
+    fc3: &[f64],
+    tables: &ShiftTables,
+) -> Result<(), Refusal>
     ensures { (result, full.new) ≡ compact_to_full_fc3 full.old fc3.now (given tables.now) }
 {
     judge(LIMIT3, 2, full.len(), fc3.len(), tables)?;

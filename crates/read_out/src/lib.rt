@@ -10,11 +10,17 @@ ghost use Rattle.std.specs.Prelude.{◌≡◌, ◌≤◌};
 ghost use Rattle.tables.specs.Compact.{given};
 ghost use Rattle.read_out.specs.ReadOut.{judged_read_out};
 
-use tables::shift_tables::ShiftTables;
 use tables::Refusal;
+use tables::shift_tables::ShiftTables;
 
 // The guard of a compact set judges all but the full slice. A wrong length of that is refusal 2, unless a count is above its limit.
-pub fn judge(limit: usize, m: usize, full_len: usize, set_len: usize, tables: &ShiftTables) -> Result<(), Refusal>
+pub fn judge(
+    limit: usize,
+    m: usize,
+    full_len: usize,
+    set_len: usize,
+    tables: &ShiftTables,
+) -> Result<(), Refusal>
     requires { (limit ≤ 1024) × (m ≤ 3) }
     ensures { result ≡ judged_read_out limit m full_len set_len (given tables.now) }
 {

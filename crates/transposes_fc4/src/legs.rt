@@ -13,12 +13,12 @@ ghost use Rattle.positions.specs.Positions.{address_table};
 ghost use Rattle.transposes_fc4.specs.Rows.{first_pairs, pair_rows, pair_row, taken_to};
 ghost use Rattle.transposes_fc4.specs.Loops.{Swap, at4, read_out_in, trade_at, line4, plane4, pairs4};
 
-use tables::shift_tables::ShiftTables;
 use crate::exchanging::exchange;
 use orbits::half_shifts::stays;
 use places::{block4, column_of, index_of, row_of, stored_block4};
 use positions::{addresses, entry};
 use tables::atoms::{PrimAtom, SuperAtom};
+use tables::shift_tables::ShiftTables;
 
 // Positions of the 27 pairs of numbers of a block that change places where its first two directions do, and of their partners 27 places on: (0, 1, c, d),
 // (0, 2, c, d) and (1, 2, c, d), and (1, 0, c, d), (2, 0, c, d) and (2, 1, c, d).
@@ -109,18 +109,41 @@ fn atom_at(w: &[usize; 4], o: &[usize; 4], k: usize) -> SuperAtom
 }
 
 // The counterpart of block (p, j, k, l): the read-out block of its atoms in the order o. i is p's representative.
-pub fn counterpart_of(tables: &ShiftTables, o: &[usize; 4], i: SuperAtom, j: SuperAtom, k: SuperAtom, l: SuperAtom) -> usize
+pub fn counterpart_of(
+    tables: &ShiftTables,
+    o: &[usize; 4],
+    i: SuperAtom,
+    j: SuperAtom,
+    k: SuperAtom,
+    l: SuperAtom,
+) -> usize
     requires { Tables tables.now.n_satom tables.now.s2pp.now tables.now.nsym_list.now tables.now.perms.now × Permutation 3 o.now × Below tables.now.n_satom (i.0 ∷ (j.0 ∷ (k.0 ∷ (l.0 ∷ [])))) }
     ensures { result
         ≡ read_out_in tables.now.n_satom tables.now.s2pp.now tables.now.nsym_list.now tables.now.perms.now o.now
         (i.0 ∷ (j.0 ∷ (k.0 ∷ (l.0 ∷ [])))) }
 {
     let w = [i.0, j.0, k.0, l.0];
-    stored_block4(tables, atom_at(&w, o, 0), atom_at(&w, o, 1), atom_at(&w, o, 2), atom_at(&w, o, 3))
+    stored_block4(
+        tables,
+        atom_at(&w, o, 0),
+        atom_at(&w, o, 1),
+        atom_at(&w, o, 2),
+        atom_at(&w, o, 3),
+    )
 }
 
 // Block (p, j, k, l) and its counterpart: i is p's representative.
-fn trade(fc4: &mut [f64], tables: &ShiftTables, o: &[usize; 4], m: &[u8; 54], p: PrimAtom, i: SuperAtom, j: SuperAtom, k: SuperAtom, l: SuperAtom)
+fn trade(
+    fc4: &mut [f64],
+    tables: &ShiftTables,
+    o: &[usize; 4],
+    m: &[u8; 54],
+    p: PrimAtom,
+    i: SuperAtom,
+    j: SuperAtom,
+    k: SuperAtom,
+    l: SuperAtom,
+)
     requires pair_at { PairAt 3 (length fc4.old) (given tables.now) p.0 i.0 j.0 × Swap o.now m.now }
     requires in_range { (k.0 < tables.now.n_satom) × (l.0 < tables.now.n_satom) }
     ensures { let T = given tables.now in fc4.new ≡ trade_at false o.now T (at4 T p.0 j.0 k.0 l.0) fc4.old }
@@ -133,7 +156,16 @@ fn trade(fc4: &mut [f64], tables: &ShiftTables, o: &[usize; 4], m: &[u8; 54], p:
 }
 
 // The blocks (p, j, k, 0), (p, j, k, 1), ..
-fn line(fc4: &mut [f64], tables: &ShiftTables, o: &[usize; 4], m: &[u8; 54], p: PrimAtom, i: SuperAtom, j: SuperAtom, k: SuperAtom)
+fn line(
+    fc4: &mut [f64],
+    tables: &ShiftTables,
+    o: &[usize; 4],
+    m: &[u8; 54],
+    p: PrimAtom,
+    i: SuperAtom,
+    j: SuperAtom,
+    k: SuperAtom,
+)
     requires pair_at { PairAt 3 (length fc4.old) (given tables.now) p.0 i.0 j.0 × Swap o.now m.now }
     requires in_range { k.0 < tables.now.n_satom }
     ensures { fc4.new ≡ line4 false o.now (given tables.now) (p.0 * tables.now.n_satom + j.0) k.0 fc4.old }
@@ -144,7 +176,15 @@ fn line(fc4: &mut [f64], tables: &ShiftTables, o: &[usize; 4], m: &[u8; 54], p: 
 }
 
 // The blocks of pair (p, j).
-fn plane(fc4: &mut [f64], tables: &ShiftTables, o: &[usize; 4], m: &[u8; 54], p: PrimAtom, i: SuperAtom, j: SuperAtom)
+fn plane(
+    fc4: &mut [f64],
+    tables: &ShiftTables,
+    o: &[usize; 4],
+    m: &[u8; 54],
+    p: PrimAtom,
+    i: SuperAtom,
+    j: SuperAtom,
+)
     requires { PairAt 3 (length fc4.old) (given tables.now) p.0 i.0 j.0 × Swap o.now m.now }
     ensures { fc4.new ≡ plane4 false o.now (given tables.now) (p.0 * tables.now.n_satom + j.0) fc4.old }
 {
@@ -154,7 +194,14 @@ fn plane(fc4: &mut [f64], tables: &ShiftTables, o: &[usize; 4], m: &[u8; 54], p:
 }
 
 // Pair q: its atoms are a block's of second order.
-fn pair(fc4: &mut [f64], tables: &ShiftTables, half_shifts_stay: bool, o: &[usize; 4], m: &[u8; 54], q: usize)
+fn pair(
+    fc4: &mut [f64],
+    tables: &ShiftTables,
+    half_shifts_stay: bool,
+    o: &[usize; 4],
+    m: &[u8; 54],
+    q: usize,
+)
     requires { Trading 3 (length fc4.old) (given tables.now) × (q < tables.now.n_patom * tables.now.n_satom) × Swap o.now m.now }
     ensures { fc4.new ≡ plane4 half_shifts_stay o.now (given tables.now) q fc4.old }
 {
@@ -170,7 +217,13 @@ fn pair(fc4: &mut [f64], tables: &ShiftTables, half_shifts_stay: bool, o: &[usiz
 }
 
 // All pairs.
-fn pairs(fc4: &mut [f64], tables: &ShiftTables, half_shifts_stay: bool, o: &[usize; 4], m: &[u8; 54])
+fn pairs(
+    fc4: &mut [f64],
+    tables: &ShiftTables,
+    half_shifts_stay: bool,
+    o: &[usize; 4],
+    m: &[u8; 54],
+)
     requires { Trading 3 (length fc4.old) (given tables.now) × Swap o.now m.now }
     ensures { fc4.new ≡ pairs4 half_shifts_stay o.now (given tables.now) fc4.old }
 {
@@ -180,7 +233,13 @@ fn pairs(fc4: &mut [f64], tables: &ShiftTables, half_shifts_stay: bool, o: &[usi
 }
 
 // Legs a and b of every number, two different ones, change places, but for blocks that stay.
-pub fn exchange_legs(fc4: &mut [f64], tables: &ShiftTables, half_shifts_stay: bool, leg_a: usize, leg_b: usize)
+pub fn exchange_legs(
+    fc4: &mut [f64],
+    tables: &ShiftTables,
+    half_shifts_stay: bool,
+    leg_a: usize,
+    leg_b: usize,
+)
     requires { Trading 3 (length fc4.old) (given tables.now) × (leg_a < 4) × (leg_b < 4) × (leg_a ≡ leg_b → ⊥) }
     ensures { fc4.new ≡ pairs4 half_shifts_stay (exchanging 3 leg_a leg_b) (given tables.now) fc4.old }
 {

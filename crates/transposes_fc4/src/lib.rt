@@ -12,12 +12,12 @@ ghost use Rattle.transposes_fc4.specs.Fc4.{transposed_by4, transpose_compact_fc4
 ghost use Rattle.orbits.specs.HalfShift.{Trading};
 ghost use Rattle.orbits.specs.TrueTransposes.{swapped, legs4, true_transpose_compact_fc4};
 
-use tables::shift_tables::ShiftTables;
 use crate::legs::exchange_legs;
 use lists::clear_bytes;
 use shifts::judge_compact;
 use tables::Refusal;
 use tables::limits::LIMIT4;
+use tables::shift_tables::ShiftTables;
 
 // Type 0 exchanges pairs 0 and 1 of (atom, direction); any other type changes nothing.
 fn by_type(fc4: &mut [f64], tables: &ShiftTables, half_shifts_stay: bool, t_type: i64)
@@ -30,7 +30,12 @@ fn by_type(fc4: &mut [f64], tables: &ShiftTables, half_shifts_stay: bool, t_type
 }
 
 // The first two legs of each number change places. The work slice is not needed here; it is left with zeros.
-pub fn transpose_compact_fc4(fc4: &mut [f64], tables: &ShiftTables, done: &mut [u8], t_type: i64) -> Result<(), Refusal>
+pub fn transpose_compact_fc4(
+    fc4: &mut [f64],
+    tables: &ShiftTables,
+    done: &mut [u8],
+    t_type: i64,
+) -> Result<(), Refusal>
     ensures { (result, fc4.new, done.new) ≡ transpose_compact_fc4 fc4.old (given tables.now) done.old t_type }
 {
     judge_compact(LIMIT4, 3, fc4.len(), 1, done.len(), tables)?;
@@ -40,7 +45,12 @@ pub fn transpose_compact_fc4(fc4: &mut [f64], tables: &ShiftTables, done: &mut [
 }
 
 // The same for every block, those of half shifts too.
-pub fn true_transpose_compact_fc4(fc4: &mut [f64], tables: &ShiftTables, done: &mut [u8], t_type: i64) -> Result<(), Refusal>
+pub fn true_transpose_compact_fc4(
+    fc4: &mut [f64],
+    tables: &ShiftTables,
+    done: &mut [u8],
+    t_type: i64,
+) -> Result<(), Refusal>
     ensures { (result, fc4.new, done.new) ≡ true_transpose_compact_fc4 fc4.old (given tables.now) done.old t_type }
 {
     judge_compact(LIMIT4, 3, fc4.len(), 1, done.len(), tables)?;

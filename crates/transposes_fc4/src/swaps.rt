@@ -7,11 +7,11 @@ ghost use Rattle.orbits.specs.TrueTransposes.{swapped};
 ghost use Rattle.transposes_fc4.specs.Swaps.{swap_pairs_compact_fc4};
 ghost use Rattle.transposes_fc4.specs.Guard.{with_bad_leg, with_legs};
 
-use tables::shift_tables::ShiftTables;
 use crate::legs::exchange_legs;
 use lists::clear_bytes;
 use shifts::judge_compact;
 use tables::limits::LIMIT4;
+use tables::shift_tables::ShiftTables;
 use tables::{Refusal, number};
 
 // Whether one of two legs is above 3.
@@ -64,7 +64,13 @@ fn swap(fc4: &mut [f64], tables: &ShiftTables, leg_a: usize, leg_b: usize)
 
 // Two of the four pairs (atom, direction) of every number change places, half shifts or not. With equal legs nothing moves. The work slice is not
 // needed here; it is left with zeros.
-pub fn swap_pairs_compact_fc4(fc4: &mut [f64], tables: &ShiftTables, done: &mut [u8], leg_a: usize, leg_b: usize) -> Result<(), Refusal>
+pub fn swap_pairs_compact_fc4(
+    fc4: &mut [f64],
+    tables: &ShiftTables,
+    done: &mut [u8],
+    leg_a: usize,
+    leg_b: usize,
+) -> Result<(), Refusal>
     ensures { (result, fc4.new, done.new) ≡ swap_pairs_compact_fc4 fc4.old (given tables.now) done.old leg_a leg_b }
 {
     let t = judge_compact(LIMIT4, 3, fc4.len(), 1, done.len(), tables);
