@@ -1,6 +1,6 @@
 -- Groups of atoms of which two are the same: three different blocks, each of two permutations; and of one atom three times: one block. Where two
 -- positions of a mean go to one place, the later one holds, so that the blocks hold the means with the later of the two for both. Assumes nothing.
-use Rattle.std.specs.Prelude.{◌≡◌, List, [], ◌∷◌, ℕ, ◌+◌, ◌*◌, ◌≤◌, length, Float}
+use Rattle.std.specs.Prelude.{◌≡◌, List, [], ◌∷◌, ℕ, ◌+◌, ◌*◌, ◌≤◌, ◌<◌, length, Float}
 use Rattle.std.proofs.Math.Path.{refl, ap, ap₂}
 use Rattle.std.proofs.Common.{sym, ◌∙◌, lit<}
 use borrow.Author.Tests.{eq-eqb, ne_eqb}

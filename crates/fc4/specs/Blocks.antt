@@ -1,5 +1,5 @@
 -- The 24 blocks of a group from the atoms of one of them: four times six, by the atom that comes first. Assumes nothing.
-use Rattle.std.specs.Prelude.{◌≡◌, ℕ, ◌*◌, ◌/◌, ◌%◌, ◌<◌, length, get_or}
+use Rattle.std.specs.Prelude.{◌≡◌, ℕ, ◌*◌, ◌/◌, ◌%◌, ◌≤◌, ◌<◌, length, get_or}
 use Rattle.std.proofs.Math.Path.{refl, sym, ap, fun_ext}
 use Rattle.std.proofs.Common.{ap₂, ◌∙◌, arith, lit≤}
 use mathlib.Core.List.{List, [], ◌∷◌}

@@ -9,6 +9,7 @@ use Rattle.tables.specs.Conditions.{any_above, any_wrong, not_above}
 use Rattle.tables.specs.Shifts.{Shifts, Laws, ruled}
 use Rattle.tables.specs.Compact.{ShiftTables, shifts_of, table_lengths, tables_out_of_range, judged_entries, judged_tables, judged_compact}
 use Rattle.tables.proofs.CompactLaws.{done_compact}
+use Rattle.tables.specs.Lengths.{set_blocks, set_length}
 use Rattle.tables.specs.Limits.{limit4}
 use Rattle.orbits.specs.HalfShift.{Trading, trading}
 use Rattle.orbits.specs.TrueTransposes.{swapped}

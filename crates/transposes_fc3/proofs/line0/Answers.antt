@@ -7,11 +7,6 @@ use Rattle.transposes_fc3.proofs.line0.Goals as goal
 pub loop-k-init : goal.loop-k-init
 loop-k-init c = times_none _ _
 
-pub visit0-requires : goal.visit0-requires
-visit0-requires c =
-    let l = c.loop-k in
-    (rw l.auto.fc3 c.requires, omega arith)
-
 pub loop-k-preserved : goal.loop-k-preserved
 loop-k-preserved c =
     let l = c.loop-k in

@@ -7,10 +7,6 @@ use Rattle.transposes_fc3.proofs.row1.Goals as goal
 pub loop-k-init : goal.loop-k-init
 loop-k-init c = times_none _ _
 
-pub visit1-requires : goal.visit1-requires
-visit1-requires c =
-    let l = c.loop-k in record { trading = rw l.auto.fc3 c.requires.trading; atoms = (c.requires.in_range.0, c.requires.in_range.1, omega arith) }
-
 pub loop-k-preserved : goal.loop-k-preserved
 loop-k-preserved c =
     let l = c.loop-k in

@@ -8,10 +8,6 @@ pub loop-k-init : goal.loop-k-init
 loop-k-init c =
     idle_2 _ c.requires.trading.sound c.args.p.0 c.args.j.0 c.requires.in_range.0 c.requires.in_range.1 c.args.fc3.now
 
-pub visit2-requires : goal.visit2-requires
-visit2-requires c =
-    let l = c.loop-k in record { trading = rw l.auto.fc3 c.requires.trading; atoms = ((c.requires.in_range.0, c.requires.in_range.1, omega arith), l.auto.k) }
-
 pub loop-k-preserved : goal.loop-k-preserved
 loop-k-preserved c =
     let l = c.loop-k in

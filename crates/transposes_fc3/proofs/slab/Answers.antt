@@ -7,10 +7,6 @@ use Rattle.transposes_fc3.proofs.slab.Goals as goal
 pub loop-j-init : goal.loop-j-init
 loop-j-init c = times_none _ _
 
-pub row-requires : goal.row-requires
-row-requires c =
-    let l = c.loop-j in record { trading = rw l.auto.fc3 c.requires.trading; in_range = (c.requires.in_range.0, omega arith, c.requires.in_range.1) }
-
 pub loop-j-preserved : goal.loop-j-preserved
 loop-j-preserved c =
     let l = c.loop-j in

@@ -7,10 +7,6 @@ use Rattle.transposes_fc3.proofs.slabs.Goals as goal
 pub loop-p-init : goal.loop-p-init
 loop-p-init c = times_none _ _
 
-pub slab-requires : goal.slab-requires
-slab-requires c =
-    let l = c.loop-p in record { trading = rw l.auto.fc3 c.requires.trading; in_range = (omega arith, c.requires.in_range) }
-
 pub loop-p-preserved : goal.loop-p-preserved
 loop-p-preserved c =
     let l = c.loop-p in

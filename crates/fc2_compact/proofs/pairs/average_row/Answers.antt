@@ -1,5 +1,3 @@
-use mathlib.Core.Path.{◌≡◌, ◌∙◌}
-use native.Mathlib.Omega.{arith}
 use Rattle.lists.specs.Tab.{times_none, times_more}
 use Rattle.fc2_compact.specs.Code.{ready_at, p2s-read}
 use Rattle.fc2_compact.proofs.pairs.average_row.Goals as goal
@@ -19,10 +17,3 @@ pub loop-j-preserved : goal.loop-j-preserved
 loop-j-preserved c =
     let l = c.loop-j in
     times_more l.j _ _ l.invariant c.average_visit.ensures
-
-pub returns : goal.returns
-returns c =
-    let l = c.loop-j in
-    let a = c.args in
-    let e : l.j ≡ a.tables.now.n_satom = omega arith in
-    l.invariant ∙ rw e

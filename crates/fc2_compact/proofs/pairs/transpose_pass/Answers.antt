@@ -1,16 +1,11 @@
 use mathlib.Core.Path.{◌≡◌, ◌∙◌}
 use native.Mathlib.Omega.{arith}
 use Rattle.lists.specs.Tab.{times_none, times_more}
-use Rattle.fc2_compact.specs.Code.{ready-same, transpose_all}
+use Rattle.fc2_compact.specs.Code.{transpose_all}
 use Rattle.fc2_compact.proofs.pairs.transpose_pass.Goals as goal
 
 pub loop-p-init : goal.loop-p-init
 loop-p-init c = times_none _ _
-
-pub transpose_row-requires : goal.transpose_row-requires
-transpose_row-requires c =
-    let l = c.loop-p in
-    (ready-same l.auto.fc c.requires, c.loop-p-test.true)
 
 pub loop-p-preserved : goal.loop-p-preserved
 loop-p-preserved c =

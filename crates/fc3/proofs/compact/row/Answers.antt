@@ -7,10 +7,6 @@ use Rattle.fc3.proofs.compact.row.Goals as goal
 pub loop-k-init : goal.loop-k-init
 loop-k-init c = times_none _ _
 
-pub visit-requires : goal.visit-requires
-visit-requires c =
-    let l = c.loop-k in record { ready = rw (l.auto.fc3, l.auto.done) c.requires.ready; atoms = (c.requires.in_range.0, c.requires.in_range.1, omega arith) }
-
 pub loop-k-preserved : goal.loop-k-preserved
 loop-k-preserved c =
     let l = c.loop-k in

@@ -7,10 +7,6 @@ use Rattle.fc3.proofs.compact.slab.Goals as goal
 pub loop-j-init : goal.loop-j-init
 loop-j-init c = times_none _ _
 
-pub row-requires : goal.row-requires
-row-requires c =
-    let l = c.loop-j in record { ready = rw (l.auto.fc3, l.auto.done) c.requires.ready; in_range = (c.requires.in_range, omega arith) }
-
 pub loop-j-preserved : goal.loop-j-preserved
 loop-j-preserved c =
     let l = c.loop-j in

@@ -7,10 +7,6 @@ use Rattle.fc3.proofs.compact.slabs.Goals as goal
 pub loop-p-init : goal.loop-p-init
 loop-p-init c = times_none _ _
 
-pub slab-requires : goal.slab-requires
-slab-requires c =
-    let l = c.loop-p in record { ready = rw (l.auto.fc3, l.auto.done) c.requires; in_range = omega arith }
-
 pub loop-p-preserved : goal.loop-p-preserved
 loop-p-preserved c =
     let l = c.loop-p in

@@ -1,6 +1,6 @@
 use Prim.Native.Nat.{◌+◌}
 use native.Mathlib.Omega.{arith}
-use mathlib.Core.Path.{◌≡◌, ◌∙◌}
+use mathlib.Core.Path.{◌≡◌}
 use Rattle.lists.specs.Tab.{times-at, times-from}
 use Rattle.fc3.specs.FullLoops.{group_at, line_of, first-turn}
 use Rattle.fc3.proofs.full.line_rising.Goals as goal
@@ -8,19 +8,11 @@ use Rattle.fc3.proofs.full.line_rising.Goals as goal
 pub loop-c-init : goal.loop-c-init
 loop-c-init c = times-at _ _ _
 
-pub group_rising-requires : goal.group_rising-requires
-group_rising-requires c =
-    let l = c.loop-c in
-    (rw (l.auto.fc3 ∙ c.group_last.auto.fc3) c.requires.0, c.requires.1, omega arith, omega arith)
-
 pub loop-c-preserved : goal.loop-c-preserved
 loop-c-preserved c =
     let l = c.loop-c in
     let a = c.args in
     times-from (a.b.0 + 1) l.c (group_at a.num_atom a.a.0 a.b.0) _ l.auto.c l.invariant c.group_rising.ensures
-
-pub shape_of-fc3 : goal.shape_of-fc3
-shape_of-fc3 c = c.loop-c.auto.fc3 ∙ c.group_last.auto.fc3
 
 pub returns : goal.returns
 unfolding line_of

@@ -1,6 +1,6 @@
 use Prim.Native.Nat.{◌+◌}
 use native.Mathlib.Omega.{arith}
-use mathlib.Core.Path.{◌≡◌, ◌∙◌}
+use mathlib.Core.Path.{◌≡◌}
 use Rattle.lists.specs.Tab.{times-at, times-from}
 use Rattle.fc3.specs.FullLoops.{line_of, lines_of, first-turn}
 use Rattle.fc3.proofs.full.lines.Goals as goal
@@ -8,19 +8,11 @@ use Rattle.fc3.proofs.full.lines.Goals as goal
 pub loop-b-init : goal.loop-b-init
 loop-b-init c = times-at _ _ _
 
-pub line_rising-requires : goal.line_rising-requires
-line_rising-requires c =
-    let l = c.loop-b in
-    (rw (l.auto.fc3 ∙ c.line_same.auto.fc3) c.requires.0, omega arith, omega arith)
-
 pub loop-b-preserved : goal.loop-b-preserved
 loop-b-preserved c =
     let l = c.loop-b in
     let a = c.args in
     times-from (a.a.0 + 1) l.b (line_of a.num_atom a.a.0) _ l.auto.b l.invariant c.line_rising.ensures
-
-pub shape_of-fc3 : goal.shape_of-fc3
-shape_of-fc3 c = c.loop-b.auto.fc3 ∙ c.line_same.auto.fc3
 
 pub returns : goal.returns
 unfolding lines_of

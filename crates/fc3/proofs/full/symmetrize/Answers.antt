@@ -8,11 +8,6 @@ use Rattle.fc3.proofs.full.symmetrize.Goals as goal
 pub loop-a-init : goal.loop-a-init
 loop-a-init c = times_none _ _
 
-pub lines-requires : goal.lines-requires
-lines-requires c =
-    let l = c.loop-a in
-    (rw l.auto.fc3 c.requires, omega arith)
-
 pub loop-a-preserved : goal.loop-a-preserved
 loop-a-preserved c =
     let l = c.loop-a in

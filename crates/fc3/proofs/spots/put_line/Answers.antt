@@ -30,11 +30,6 @@ bounds-v-k c =
     let (e, h) = dirs_are c.args.l c.args.m t.n h2 h3 (omega arith) c.dir3-k.ensures in
     omega (arith, h)
 
-pub put_spots-requires : goal.put_spots-requires
-put_spots-requires c =
-    let l = c.loop-n in
-    (l.invariant.0, c.requires.1, c.requires.2, c.requires.3, omega arith)
-
 pub loop-n-preserved : goal.loop-n-preserved
 loop-n-preserved c =
     let l = c.loop-n in

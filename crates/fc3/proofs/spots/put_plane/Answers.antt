@@ -7,11 +7,6 @@ use Rattle.fc3.proofs.spots.put_plane.Goals as goal
 pub loop-m-init : goal.loop-m-init
 loop-m-init c = (c.requires.0, times_none _ _)
 
-pub put_line-requires : goal.put_line-requires
-put_line-requires c =
-    let l = c.loop-m in
-    (l.invariant.0, c.requires.1, c.requires.2, omega arith)
-
 pub loop-m-preserved : goal.loop-m-preserved
 loop-m-preserved c =
     let l = c.loop-m in

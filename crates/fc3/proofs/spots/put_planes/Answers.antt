@@ -9,11 +9,6 @@ use Rattle.fc3.proofs.spots.put_planes.Goals as goal
 pub loop-l-init : goal.loop-l-init
 loop-l-init c = (c.requires.0, times_none _ _)
 
-pub put_plane-requires : goal.put_plane-requires
-put_plane-requires c =
-    let l = c.loop-l in
-    (l.invariant.0, c.requires.1, omega arith)
-
 pub loop-l-preserved : goal.loop-l-preserved
 loop-l-preserved c =
     let l = c.loop-l in

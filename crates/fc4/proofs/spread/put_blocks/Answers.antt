@@ -9,7 +9,7 @@ use Rattle.fc4.specs.Spread.{sources_below, made_of, is_made, passed_over, put_b
 use Rattle.fc4.proofs.spread.put_blocks.Goals as goal
 
 pub loop-s-init : goal.loop-s-init
-loop-s-init c = (omega arith, refl, times_none _ _)
+loop-s-init c = (omega arith, times_none _ _)
 
 -- the source of a place is a position of the block
 pub bounds-v-q : goal.bounds-v-q
@@ -34,8 +34,7 @@ loop-s-preserved c =
     let made : p.block ≡ made_of c.args.bs.now c.args.v b =
     is_made c.args.bs.now c.args.v b c.sources-m.result p.block c.sources-m.ensures p.invariant.0 (λ j h. p.invariant.1 j (omega arith)) in (
       n.to,
-      w.auto.fc ∙ l.invariant.1,
-      times_more l.s _ _ l.invariant.2 (w.ensures ∙ ap (λ y. put_block 81 b y l.fc4) made)
+      times_more l.s _ _ l.invariant.1 (w.ensures ∙ ap (λ y. put_block 81 b y l.fc4) made)
           ∙ sym (passed_over c.args.bs.now c.args.v c.args.fc4.now (l.s + 1) c.next_block-s.result n.from n.passed),
     )
 
@@ -44,4 +43,4 @@ unfolding put_blocks
 returns c =
     let l = c.loop-s in
     let e : l.s ≡ 24 = omega arith in
-    (rw e at l.invariant.2) ∙ blocks_are c.args.bs.now c.args.v c.args.fc4.now c.requires.0.count
+    (rw e at l.invariant.1) ∙ blocks_are c.args.bs.now c.args.v c.args.fc4.now c.requires.0.count

@@ -13,7 +13,7 @@ invariant-loop-k l =
 
 abbrev pub invariant-loop-s : goal.invariant-loop-s
 invariant-loop-s l =
-    (l.s ≤ 24) × (length l.fc4 ≡ length l.initial.fc4) × (l.fc4 ≡ times l.s (λ s. put_block 81 (get_or l.bs s 0) (made_of l.bs l.v (get_or l.bs s 0))) l.initial.fc4)
+    (l.s ≤ 24) × (l.fc4 ≡ times l.s (λ s. put_block 81 (get_or l.bs s 0) (made_of l.bs l.v (get_or l.bs s 0))) l.initial.fc4)
 
 abbrev pub decreases-loop-s : goal.decreases-loop-s
 decreases-loop-s l = 24 - l.s

@@ -7,10 +7,6 @@ use Rattle.transposes_fc4.proofs.legs.line.Goals as goal
 pub loop-l-init : goal.loop-l-init
 loop-l-init c = times_none _ _
 
-pub trade-requires : goal.trade-requires
-trade-requires c =
-    record { pair_at = (rw c.loop-l.auto.fc4 c.requires.pair_at.0, c.requires.pair_at.1); in_range = (c.requires.in_range, omega arith) }
-
 pub loop-l-preserved : goal.loop-l-preserved
 loop-l-preserved c =
     let l = c.loop-l in

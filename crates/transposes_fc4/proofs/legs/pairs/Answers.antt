@@ -2,18 +2,11 @@ use Prim.Native.Nat.{◌*◌}
 use native.Mathlib.Omega.{arith}
 use mathlib.Core.Path.{◌≡◌, ◌∙◌}
 use Rattle.lists.specs.Tab.{times_none, times_more}
-use Rattle.transposes_fc4.specs.Loops.{pairs4, pairs_small}
+use Rattle.transposes_fc4.specs.Loops.{pairs4}
 use Rattle.transposes_fc4.proofs.legs.pairs.Goals as goal
-
-pub overflow_mul-q-end : goal.overflow_mul-q-end
-overflow_mul-q-end c = omega (arith, pairs_small _ c.requires.0.sound)
 
 pub loop-q-init : goal.loop-q-init
 loop-q-init c = times_none _ _
-
-pub pair-requires : goal.pair-requires
-pair-requires c =
-    (rw c.loop-q.auto.fc4 c.requires.0, omega arith, c.requires.1)
 
 pub loop-q-preserved : goal.loop-q-preserved
 loop-q-preserved c =

@@ -7,10 +7,6 @@ use Rattle.transposes_fc4.proofs.legs.plane.Goals as goal
 pub loop-k-init : goal.loop-k-init
 loop-k-init c = times_none _ _
 
-pub line-requires : goal.line-requires
-line-requires c =
-    record { pair_at = (rw c.loop-k.auto.fc4 c.requires.0, c.requires.1); in_range = omega arith }
-
 pub loop-k-preserved : goal.loop-k-preserved
 loop-k-preserved c =
     let l = c.loop-k in
