@@ -27,14 +27,14 @@ pub fn stays(
         return false;
     }
     let i = p2s_at(p2s, p);
-    if i.0 == j.0 {
+    if i == j {
         return false;
     }
     let home = s2pp_at(s2pp, j);
-    if home.0 != p.0 {
+    if home != p {
         return false;
     }
     let row = nsym_at(nsym_list, j);
     let image = perms_at(perms, n_satom, row, i);
-    image.0 == j.0
+    image == j
 }
