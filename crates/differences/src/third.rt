@@ -7,7 +7,6 @@ ghost use Rattle.audits.specs.Guard.{Ready, full_tables};
 ghost use Rattle.differences.specs.Difference.{difference_report_compact, difference_report_full};
 ghost use Rattle.differences.specs.Laws.{all_seen};
 
-use tables::shift_tables::ShiftTables;
 use crate::look_block;
 use audits::guard::counted;
 use audits::third::{group_blocks, positions};
@@ -18,6 +17,7 @@ use shifts::judge_set;
 use tables::Refusal;
 use tables::limits::LIMIT3;
 use tables::sets::judge_full;
+use tables::shift_tables::ShiftTables;
 
 // Block after block.
 fn scan(fc: &[f64], tables: &ShiftTables) -> Seen

@@ -19,8 +19,8 @@ use tables::shift_tables::ShiftTables;
 
 // The sums of row i, over the second atom.
 fn row_sums(fc: &[f64], tables: &ShiftTables, i: usize) -> [[f64; 3]; 3]
-    requires { Held (length fc.now) tables.now.n_satom tables.now.s2pp.now tables.now.nsym_list.now tables.now.perms.now × (i < tables.now.n_satom) }
-    ensures { result ≡ compact_row_sums fc.now (stored_in tables.now.n_satom tables.now.s2pp.now tables.now.nsym_list.now tables.now.perms.now) tables.now.n_satom i }
+    requires { let T = given tables.now in Held (length fc.now) T.n_satom T.s2pp T.nsym_list T.perms × (i < T.n_satom) }
+    ensures { let T = given tables.now in result ≡ compact_row_sums fc.now (stored_in T.n_satom T.s2pp T.nsym_list T.perms) T.n_satom i }
 {
     let mut sums = [[0.0f64; 3]; 3];
     for j in 0..tables.n_satom {
@@ -34,8 +34,8 @@ fn row_sums(fc: &[f64], tables: &ShiftTables, i: usize) -> [[f64; 3]; 3]
 
 // The sums of column j, over the first atom.
 fn column_sums(fc: &[f64], tables: &ShiftTables, j: usize) -> [[f64; 3]; 3]
-    requires { Held (length fc.now) tables.now.n_satom tables.now.s2pp.now tables.now.nsym_list.now tables.now.perms.now × (j < tables.now.n_satom) }
-    ensures { result ≡ column_sums fc.now (stored_in tables.now.n_satom tables.now.s2pp.now tables.now.nsym_list.now tables.now.perms.now) tables.now.n_satom j }
+    requires { let T = given tables.now in Held (length fc.now) T.n_satom T.s2pp T.nsym_list T.perms × (j < T.n_satom) }
+    ensures { let T = given tables.now in result ≡ column_sums fc.now (stored_in T.n_satom T.s2pp T.nsym_list T.perms) T.n_satom j }
 {
     let mut sums = [[0.0f64; 3]; 3];
     for i in 0..tables.n_satom {
@@ -48,8 +48,8 @@ fn column_sums(fc: &[f64], tables: &ShiftTables, j: usize) -> [[f64; 3]; 3]
 }
 
 fn look_rows(fc: &[f64], tables: &ShiftTables, c: Seen) -> Seen
-    requires { Held (length fc.now) tables.now.n_satom tables.now.s2pp.now tables.now.nsym_list.now tables.now.perms.now }
-    ensures { result ≡ look_rows fc.now (stored_in tables.now.n_satom tables.now.s2pp.now tables.now.nsym_list.now tables.now.perms.now) tables.now.n_satom c }
+    requires { let T = given tables.now in Held (length fc.now) T.n_satom T.s2pp T.nsym_list T.perms }
+    ensures { let T = given tables.now in result ≡ look_rows fc.now (stored_in T.n_satom T.s2pp T.nsym_list T.perms) T.n_satom c }
 {
     let mut seen = c;
     for i in 0..tables.n_satom {
@@ -63,8 +63,8 @@ fn look_rows(fc: &[f64], tables: &ShiftTables, c: Seen) -> Seen
 }
 
 fn look_columns(fc: &[f64], tables: &ShiftTables, c: Seen) -> Seen
-    requires { Held (length fc.now) tables.now.n_satom tables.now.s2pp.now tables.now.nsym_list.now tables.now.perms.now }
-    ensures { result ≡ look_compact_columns fc.now (stored_in tables.now.n_satom tables.now.s2pp.now tables.now.nsym_list.now tables.now.perms.now) tables.now.n_satom c }
+    requires { let T = given tables.now in Held (length fc.now) T.n_satom T.s2pp T.nsym_list T.perms }
+    ensures { let T = given tables.now in result ≡ look_compact_columns fc.now (stored_in T.n_satom T.s2pp T.nsym_list T.perms) T.n_satom c }
 {
     let mut seen = c;
     for j in 0..tables.n_satom {
@@ -79,8 +79,8 @@ fn look_columns(fc: &[f64], tables: &ShiftTables, c: Seen) -> Seen
 
 // All sums, the rows' and then the columns'.
 fn scan(fc: &[f64], tables: &ShiftTables) -> Seen
-    requires { Held (length fc.now) tables.now.n_satom tables.now.s2pp.now tables.now.nsym_list.now tables.now.perms.now }
-    ensures { result ≡ scanned_compact fc.now (stored_in tables.now.n_satom tables.now.s2pp.now tables.now.nsym_list.now tables.now.perms.now) tables.now.n_satom }
+    requires { let T = given tables.now in Held (length fc.now) T.n_satom T.s2pp T.nsym_list T.perms }
+    ensures { let T = given tables.now in result ≡ scanned_compact fc.now (stored_in T.n_satom T.s2pp T.nsym_list T.perms) T.n_satom }
 {
     let rows = look_rows(fc, tables, start());
     look_columns(fc, tables, rows)

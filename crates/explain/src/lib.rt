@@ -35,7 +35,7 @@ pub struct Explanation {
 
 // 1: the first count that is above the limit.
 fn first_above(tables: &ShiftTables) -> usize
-    ensures { result ≡ first_above limit2 (tables.now.n_satom ∷ (tables.now.n_patom ∷ (tables.now.num_trans ∷ []))) }
+    ensures { let T = given tables.now in result ≡ first_above limit2 (T.n_satom ∷ (T.n_patom ∷ (T.num_trans ∷ []))) }
 {
     if tables.n_satom > LIMIT2 {
         return 0;

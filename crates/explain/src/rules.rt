@@ -10,7 +10,7 @@ use tables::shift_tables::ShiftTables;
 
 // Whether row t sends atom a where row u sends atom b.
 fn meet(tables: &ShiftTables, t: usize, a: usize, u: usize, b: usize) -> bool
-    requires { TablesFit 1024 (given tables.now) × (t < tables.now.num_trans) × (a < tables.now.n_satom) × (u < tables.now.num_trans) × (b < tables.now.n_satom) }
+    requires { let T = given tables.now in TablesFit 1024 T × (t < T.num_trans) × (a < T.n_satom) × (u < T.num_trans) × (b < T.n_satom) }
     ensures { let T = given tables.now in result ≡ eqb (row (shifts_of T) t a) (row (shifts_of T) u b) }
 {
     let x = tables.perms_at(t, SuperAtom(a));
@@ -47,7 +47,7 @@ fn has_null(tables: &ShiftTables) -> bool
 
 // Whether row u after row t is row v.
 fn is_after(tables: &ShiftTables, t: usize, u: usize, v: usize) -> bool
-    requires { TablesFit 1024 (given tables.now) × (t < tables.now.num_trans) × (u < tables.now.num_trans) × (v < tables.now.num_trans) }
+    requires { let T = given tables.now in TablesFit 1024 T × (t < T.num_trans) × (u < T.num_trans) × (v < T.num_trans) }
     ensures { result ≡ is_after (shifts_of (given tables.now)) t u v }
 {
     for a in 0..tables.n_satom {

@@ -17,14 +17,14 @@ pub fn stays(tables: &ShiftTables, half_shifts_stay: bool, p: PrimAtom, j: Super
         return false;
     }
     let i = tables.p2s_at(p);
-    if i.0 == j.0 {
+    if i == j {
         return false;
     }
     let home = tables.s2pp_at(j);
-    if home.0 != p.0 {
+    if home != p {
         return false;
     }
     let row = tables.nsym_at(j);
     let image = tables.perms_at(row, i);
-    image.0 == j.0
+    image == j
 }

@@ -2,6 +2,7 @@
 // A block of numbers is named by its number; crate blocks reads and writes it by that.
 #![tactic(auto)]
 
+ghost use Rattle.tables.specs.Compact.{given};
 ghost use Rattle.std.specs.Prelude.{◌≡◌, [], ◌∷◌, ◌+◌, ◌*◌, ◌/◌, ◌%◌, ◌≤◌, ◌<◌};
 ghost use Rattle.lists.specs.Digits.{horner};
 ghost use Rattle.places.specs.ReadOuts.{Tables, stored_in};
@@ -100,8 +101,8 @@ pub fn dir3(a: usize, b: usize, c: usize) -> usize
 
 // Where the block of atoms i and j is stored: at s2pp[i] and where row nsym_list[i] sends j.
 pub fn stored_block2(tables: &ShiftTables, i: SuperAtom, j: SuperAtom) -> usize
-    requires { Tables tables.now.n_satom tables.now.s2pp.now tables.now.nsym_list.now tables.now.perms.now × (i.0 < tables.now.n_satom) × (j.0 < tables.now.n_satom) }
-    ensures { result ≡ stored_in tables.now.n_satom tables.now.s2pp.now tables.now.nsym_list.now tables.now.perms.now i.0 (j.0 ∷ []) }
+    requires { let T = given tables.now in Tables T.n_satom T.s2pp T.nsym_list T.perms × (i.0 < T.n_satom) × (j.0 < T.n_satom) }
+    ensures { let T = given tables.now in result ≡ stored_in T.n_satom T.s2pp T.nsym_list T.perms i.0 (j.0 ∷ []) }
 {
     let t = tables.nsym_at(i);
     block2(tables.s2pp_at(i), tables.perms_at(t, j), tables.n_satom)
@@ -109,8 +110,8 @@ pub fn stored_block2(tables: &ShiftTables, i: SuperAtom, j: SuperAtom) -> usize
 
 // The same for atoms i, j and k, of which the row sends the last two.
 pub fn stored_block3(tables: &ShiftTables, i: SuperAtom, j: SuperAtom, k: SuperAtom) -> usize
-    requires { Tables tables.now.n_satom tables.now.s2pp.now tables.now.nsym_list.now tables.now.perms.now × (i.0 < tables.now.n_satom) × (j.0 < tables.now.n_satom) × (k.0 < tables.now.n_satom) }
-    ensures { result ≡ stored_in tables.now.n_satom tables.now.s2pp.now tables.now.nsym_list.now tables.now.perms.now i.0 (j.0 ∷ k.0 ∷ []) }
+    requires { let T = given tables.now in Tables T.n_satom T.s2pp T.nsym_list T.perms × (i.0 < T.n_satom) × (j.0 < T.n_satom) × (k.0 < T.n_satom) }
+    ensures { let T = given tables.now in result ≡ stored_in T.n_satom T.s2pp T.nsym_list T.perms i.0 (j.0 ∷ k.0 ∷ []) }
 {
     let t = tables.nsym_at(i);
     block3(
@@ -129,8 +130,8 @@ pub fn stored_block4(
     k: SuperAtom,
     l: SuperAtom,
 ) -> usize
-    requires { Tables tables.now.n_satom tables.now.s2pp.now tables.now.nsym_list.now tables.now.perms.now × (i.0 < tables.now.n_satom) × (j.0 < tables.now.n_satom) × (k.0 < tables.now.n_satom) × (l.0 < tables.now.n_satom) }
-    ensures { result ≡ stored_in tables.now.n_satom tables.now.s2pp.now tables.now.nsym_list.now tables.now.perms.now i.0 (j.0 ∷ k.0 ∷ l.0 ∷ []) }
+    requires { let T = given tables.now in Tables T.n_satom T.s2pp T.nsym_list T.perms × (i.0 < T.n_satom) × (j.0 < T.n_satom) × (k.0 < T.n_satom) × (l.0 < T.n_satom) }
+    ensures { let T = given tables.now in result ≡ stored_in T.n_satom T.s2pp T.nsym_list T.perms i.0 (j.0 ∷ k.0 ∷ l.0 ∷ []) }
 {
     let t = tables.nsym_at(i);
     block4(

@@ -22,9 +22,9 @@ fn line(
     first: SuperAtom,
     home: PrimAtom,
 )
-    requires along { Along tables.now.n_satom t tables.now.perms.now }
+    requires along { let T = given tables.now in Along T.n_satom t T.perms }
     requires blocks_in { BlocksIn tables.now.n_satom 9 1 first.0 (length full.old) × BlocksIn tables.now.n_satom 9 1 home.0 (length fc2.now) }
-    ensures { full.new ≡ copy_legs tables.now.perms.now tables.now.n_satom 9 t 1 first.0 home.0 fc2.now full.old }
+    ensures { let T = given tables.now in full.new ≡ copy_legs T.perms T.n_satom 9 t 1 first.0 home.0 fc2.now full.old }
 {
     for j in 0..tables.n_satom {
         let image = tables.perms_at(t, SuperAtom(j));
@@ -37,9 +37,9 @@ fn line(
 
 // The blocks of every first atom i: its row is nsym_list[i], and they are stored from s2pp[i] on.
 fn rows(full: &mut [f64], fc2: &[f64], tables: &ShiftTables)
-    requires { Reading 1 9 (length full.old) (length fc2.now) tables.now.n_satom tables.now.s2pp.now tables.now.nsym_list.now tables.now.perms.now }
-    ensures { full.new
-        ≡ copy_rows tables.now.s2pp.now tables.now.nsym_list.now tables.now.perms.now tables.now.n_satom 9 1 fc2.now full.old }
+    requires { let T = given tables.now in Reading 1 9 (length full.old) (length fc2.now) T.n_satom T.s2pp T.nsym_list T.perms }
+    ensures { let T = given tables.now in full.new
+        ≡ copy_rows T.s2pp T.nsym_list T.perms T.n_satom 9 1 fc2.now full.old }
 {
     for i in 0..tables.n_satom {
         let t = tables.nsym_at(SuperAtom(i));

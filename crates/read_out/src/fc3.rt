@@ -15,9 +15,9 @@ use tables::shift_tables::ShiftTables;
 
 // The blocks of one atom more: to and from number the atoms before it in the full set and in the compact one, row t has its images.
 fn line(full: &mut [f64], fc3: &[f64], tables: &ShiftTables, t: usize, to: usize, from: usize)
-    requires along { Along tables.now.n_satom t tables.now.perms.now }
+    requires along { let T = given tables.now in Along T.n_satom t T.perms }
     requires blocks_in { BlocksIn tables.now.n_satom 27 1 to (length full.old) × BlocksIn tables.now.n_satom 27 1 from (length fc3.now) }
-    ensures { full.new ≡ copy_legs tables.now.perms.now tables.now.n_satom 27 t 1 to from fc3.now full.old }
+    ensures { let T = given tables.now in full.new ≡ copy_legs T.perms T.n_satom 27 t 1 to from fc3.now full.old }
 {
     for k in 0..tables.n_satom {
         let image = tables.perms_at(t, SuperAtom(k));
@@ -30,9 +30,9 @@ fn line(full: &mut [f64], fc3: &[f64], tables: &ShiftTables, t: usize, to: usize
 
 // The blocks of two atoms more.
 fn plane(full: &mut [f64], fc3: &[f64], tables: &ShiftTables, t: usize, to: usize, from: usize)
-    requires along { Along tables.now.n_satom t tables.now.perms.now }
+    requires along { let T = given tables.now in Along T.n_satom t T.perms }
     requires blocks_in { BlocksIn tables.now.n_satom 27 2 to (length full.old) × BlocksIn tables.now.n_satom 27 2 from (length fc3.now) }
-    ensures { full.new ≡ copy_legs tables.now.perms.now tables.now.n_satom 27 t 2 to from fc3.now full.old }
+    ensures { let T = given tables.now in full.new ≡ copy_legs T.perms T.n_satom 27 t 2 to from fc3.now full.old }
 {
     for j in 0..tables.n_satom {
         let image = tables.perms_at(t, SuperAtom(j));
@@ -44,9 +44,9 @@ fn plane(full: &mut [f64], fc3: &[f64], tables: &ShiftTables, t: usize, to: usiz
 
 // The blocks of every first atom i: its row is nsym_list[i], and they are stored from s2pp[i] on.
 fn rows(full: &mut [f64], fc3: &[f64], tables: &ShiftTables)
-    requires { Reading 2 27 (length full.old) (length fc3.now) tables.now.n_satom tables.now.s2pp.now tables.now.nsym_list.now tables.now.perms.now }
-    ensures { full.new
-        ≡ copy_rows tables.now.s2pp.now tables.now.nsym_list.now tables.now.perms.now tables.now.n_satom 27 2 fc3.now full.old }
+    requires { let T = given tables.now in Reading 2 27 (length full.old) (length fc3.now) T.n_satom T.s2pp T.nsym_list T.perms }
+    ensures { let T = given tables.now in full.new
+        ≡ copy_rows T.s2pp T.nsym_list T.perms T.n_satom 27 2 fc3.now full.old }
 {
     for i in 0..tables.n_satom {
         let t = tables.nsym_at(SuperAtom(i));

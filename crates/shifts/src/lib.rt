@@ -17,7 +17,7 @@ mod rules;
 
 // 1: whether a count is above the limit.
 fn any_above(limit: usize, tables: &ShiftTables) -> bool
-    ensures { result ≡ any_above limit (tables.now.n_satom ∷ (tables.now.n_patom ∷ (tables.now.num_trans ∷ []))) }
+    ensures { let T = given tables.now in result ≡ any_above limit (T.n_satom ∷ (T.n_patom ∷ (T.num_trans ∷ []))) }
 {
     if tables.n_satom > limit {
         return true;
@@ -63,7 +63,7 @@ fn any_out(tables: &ShiftTables) -> bool
 
 // 3 and 6, of tables that passed 1 and 2.
 fn judge_entries(tables: &ShiftTables) -> Result<(), Refusal>
-    requires in_range { (tables.now.n_satom ≤ 1024) × (tables.now.n_patom ≤ 1024) × (tables.now.num_trans ≤ 1024) }
+    requires in_range { let T = given tables.now in (T.n_satom ≤ 1024) × (T.n_patom ≤ 1024) × (T.num_trans ≤ 1024) }
     requires in_range_2 { any_wrong (table_lengths (given tables.now)) ≡ false }
     ensures { result ≡ judged_entries (given tables.now) }
 {

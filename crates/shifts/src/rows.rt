@@ -10,20 +10,20 @@ use tables::shift_tables::ShiftTables;
 
 // Whether row u after row t sends atom a where row v sends it.
 fn agrees_at(tables: &ShiftTables, t: usize, u: usize, v: usize, a: SuperAtom) -> bool
-    requires { Rows tables.now.n_satom tables.now.num_trans tables.now.perms.now × (t < tables.now.num_trans) × (u < tables.now.num_trans) × (v < tables.now.num_trans) × (a.0 < tables.now.n_satom) }
-    ensures { Tells result (image tables.now.perms.now tables.now.n_satom u (image tables.now.perms.now tables.now.n_satom t a.0) ≡ image tables.now.perms.now tables.now.n_satom v a.0) }
+    requires { let T = given tables.now in Rows T.n_satom T.num_trans T.perms × (t < T.num_trans) × (u < T.num_trans) × (v < T.num_trans) × (a.0 < T.n_satom) }
+    ensures { let T = given tables.now in Tells result (image T.perms T.n_satom u (image T.perms T.n_satom t a.0) ≡ image T.perms T.n_satom v a.0) }
 {
     let b = tables.perms_at(u, tables.perms_at(t, a));
     let d = tables.perms_at(v, a);
     b == d
 }
 
-// The same for four atoms, without a branch between them.
+// The same for four atoms, without a branch between them: the check of all tables takes a tenth longer one atom at a time.
 fn agrees_at_four(tables: &ShiftTables, t: usize, u: usize, v: usize, a: usize) -> bool
-    requires { Rows tables.now.n_satom tables.now.num_trans tables.now.perms.now × (t < tables.now.num_trans) × (u < tables.now.num_trans) × (v < tables.now.num_trans) × (a + 3 < tables.now.n_satom) }
-    ensures { Tells result ((k : ℕ)
+    requires { let T = given tables.now in Rows T.n_satom T.num_trans T.perms × (t < T.num_trans) × (u < T.num_trans) × (v < T.num_trans) × (a + 3 < T.n_satom) }
+    ensures { let T = given tables.now in Tells result ((k : ℕ)
         → k < 4
-        → image tables.now.perms.now tables.now.n_satom u (image tables.now.perms.now tables.now.n_satom t (a + k)) ≡ image tables.now.perms.now tables.now.n_satom v (a + k)) }
+        → image T.perms T.n_satom u (image T.perms T.n_satom t (a + k)) ≡ image T.perms T.n_satom v (a + k)) }
 {
     let p = agrees_at(tables, t, u, v, SuperAtom(a));
     let q = agrees_at(tables, t, u, v, SuperAtom(a + 1));
@@ -34,11 +34,11 @@ fn agrees_at_four(tables: &ShiftTables, t: usize, u: usize, v: usize, a: usize) 
 
 // The same for the atoms from the given one on.
 fn agrees_from(tables: &ShiftTables, t: usize, u: usize, v: usize, start: usize) -> bool
-    requires { Rows tables.now.n_satom tables.now.num_trans tables.now.perms.now × (t < tables.now.num_trans) × (u < tables.now.num_trans) × (v < tables.now.num_trans) × (start ≤ tables.now.n_satom) }
-    ensures { Tells result ((k : ℕ)
+    requires { let T = given tables.now in Rows T.n_satom T.num_trans T.perms × (t < T.num_trans) × (u < T.num_trans) × (v < T.num_trans) × (start ≤ T.n_satom) }
+    ensures { let T = given tables.now in Tells result ((k : ℕ)
         → start ≤ k
-        → k < tables.now.n_satom
-        → image tables.now.perms.now tables.now.n_satom u (image tables.now.perms.now tables.now.n_satom t k) ≡ image tables.now.perms.now tables.now.n_satom v k) }
+        → k < T.n_satom
+        → image T.perms T.n_satom u (image T.perms T.n_satom t k) ≡ image T.perms T.n_satom v k) }
 {
     for a in start..tables.n_satom {
         if !agrees_at(tables, t, u, v, SuperAtom(a)) {
@@ -50,8 +50,8 @@ fn agrees_from(tables: &ShiftTables, t: usize, u: usize, v: usize, start: usize)
 
 // Whether row u after row t is row v.
 fn is_after(tables: &ShiftTables, t: usize, u: usize, v: usize) -> bool
-    requires { Rows tables.now.n_satom tables.now.num_trans tables.now.perms.now × (t < tables.now.num_trans) × (u < tables.now.num_trans) × (v < tables.now.num_trans) }
-    ensures { Tells result (Composed tables.now.n_satom tables.now.perms.now t u v) }
+    requires { let T = given tables.now in Rows T.n_satom T.num_trans T.perms × (t < T.num_trans) × (u < T.num_trans) × (v < T.num_trans) }
+    ensures { let T = given tables.now in Tells result (Composed T.n_satom T.perms t u v) }
 {
     let fours = tables.n_satom / 4;
     for f in 0..fours {
@@ -70,9 +70,9 @@ fn row_after(
     r: usize,
     u: usize,
 ) -> usize
-    requires { Marked tables.now.n_satom tables.now.num_trans tables.now.perms.now base.0 sent.now × (r < tables.now.num_trans) × (u < tables.now.num_trans) }
-    ensures { (result < tables.now.num_trans)
-        × (get_or sent.now (image tables.now.perms.now tables.now.n_satom u (image tables.now.perms.now tables.now.n_satom r base.0)) 0 ≡ result + 1) }
+    requires { let T = given tables.now in Marked T.n_satom T.num_trans T.perms base.0 sent.now × (r < T.num_trans) × (u < T.num_trans) }
+    ensures { let T = given tables.now in (result < T.num_trans)
+        × (get_or sent.now (image T.perms T.n_satom u (image T.perms T.n_satom r base.0)) 0 ≡ result + 1) }
 {
     sender(sent, tables.perms_at(u, tables.perms_at(r, base)))
 }
@@ -87,12 +87,12 @@ fn learn_after(
     r: usize,
     known: &mut [usize; 1024],
 ) -> bool
-    requires rows { Marked tables.now.n_satom tables.now.num_trans tables.now.perms.now base.0 sent.now × (r < tables.now.num_trans) × (u < tables.now.num_trans) }
-    requires made { Made tables.now.n_satom tables.now.num_trans tables.now.perms.now gens.now u
-        × Made tables.now.n_satom tables.now.num_trans tables.now.perms.now gens.now r
-        × Known tables.now.n_satom tables.now.num_trans tables.now.perms.now gens.now known.old }
-    ensures { Known tables.now.n_satom tables.now.num_trans tables.now.perms.now gens.now known.new
-        × (Closed tables.now.n_satom tables.now.num_trans tables.now.perms.now → result ≡ true) }
+    requires rows { let T = given tables.now in Marked T.n_satom T.num_trans T.perms base.0 sent.now × (r < T.num_trans) × (u < T.num_trans) }
+    requires made { let T = given tables.now in Made T.n_satom T.num_trans T.perms gens.now u
+        × Made T.n_satom T.num_trans T.perms gens.now r
+        × Known T.n_satom T.num_trans T.perms gens.now known.old }
+    ensures { let T = given tables.now in Known T.n_satom T.num_trans T.perms gens.now known.new
+        × (Closed T.n_satom T.num_trans T.perms → result ≡ true) }
 {
     let v = row_after(tables, base, sent, r, u);
     if known[v] != 0 {
@@ -116,12 +116,12 @@ fn spread(
     u: usize,
     known: &mut [usize; 1024],
 ) -> bool
-    requires rows { Marked tables.now.n_satom tables.now.num_trans tables.now.perms.now base.0 sent.now × (null < tables.now.num_trans) × (u < tables.now.num_trans) }
-    requires made { Made tables.now.n_satom tables.now.num_trans tables.now.perms.now gens.now u
-        × Made tables.now.n_satom tables.now.num_trans tables.now.perms.now gens.now null
-        × Known tables.now.n_satom tables.now.num_trans tables.now.perms.now gens.now known.old }
-    ensures { Known tables.now.n_satom tables.now.num_trans tables.now.perms.now gens.now known.new
-        × (Closed tables.now.n_satom tables.now.num_trans tables.now.perms.now → result ≡ true) }
+    requires rows { let T = given tables.now in Marked T.n_satom T.num_trans T.perms base.0 sent.now × (null < T.num_trans) × (u < T.num_trans) }
+    requires made { let T = given tables.now in Made T.n_satom T.num_trans T.perms gens.now u
+        × Made T.n_satom T.num_trans T.perms gens.now null
+        × Known T.n_satom T.num_trans T.perms gens.now known.old }
+    ensures { let T = given tables.now in Known T.n_satom T.num_trans T.perms gens.now known.new
+        × (Closed T.n_satom T.num_trans T.perms → result ≡ true) }
 {
     let mut r = null;
     for _ in 0..tables.num_trans {
@@ -150,12 +150,12 @@ fn learn(
     known: &mut [usize; 1024],
     gens: &mut [u8; 1024],
 ) -> bool
-    requires rows { Marked tables.now.n_satom tables.now.num_trans tables.now.perms.now base.0 sent.now × (null < tables.now.num_trans) × (u < tables.now.num_trans) }
-    requires made { Made tables.now.n_satom tables.now.num_trans tables.now.perms.now gens.old null
-        × Known tables.now.n_satom tables.now.num_trans tables.now.perms.now gens.old known.old
+    requires rows { let T = given tables.now in Marked T.n_satom T.num_trans T.perms base.0 sent.now × (null < T.num_trans) × (u < T.num_trans) }
+    requires made { let T = given tables.now in Made T.n_satom T.num_trans T.perms gens.old null
+        × Known T.n_satom T.num_trans T.perms gens.old known.old
         × (length gens.old ≡ 1024) }
-    ensures { Learnt tables.now.n_satom tables.now.num_trans tables.now.perms.now u gens.old gens.new known.new
-        × (Closed tables.now.n_satom tables.now.num_trans tables.now.perms.now → result ≡ true) }
+    ensures { let T = given tables.now in Learnt T.n_satom T.num_trans T.perms u gens.old gens.new known.new
+        × (Closed T.n_satom T.num_trans T.perms → result ≡ true) }
 {
     if known[u] != 0 {
         return true;
@@ -172,12 +172,12 @@ fn learn_all(
     null: usize,
     gens: &mut [u8; 1024],
 ) -> bool
-    requires { Marked tables.now.n_satom tables.now.num_trans tables.now.perms.now base.0 sent.now
-        × (null < tables.now.num_trans)
-        × ((gens : List ℕ) → Made tables.now.n_satom tables.now.num_trans tables.now.perms.now gens null)
+    requires { let T = given tables.now in Marked T.n_satom T.num_trans T.perms base.0 sent.now
+        × (null < T.num_trans)
+        × ((gens : List ℕ) → Made T.n_satom T.num_trans T.perms gens null)
         × (length gens.now ≡ 1024) }
-    ensures { (result ≡ true → (u : ℕ) → u < tables.now.num_trans → Made tables.now.n_satom tables.now.num_trans tables.now.perms.now gens.new u)
-        × (Closed tables.now.n_satom tables.now.num_trans tables.now.perms.now → result ≡ true) }
+    ensures { let T = given tables.now in (result ≡ true → (u : ℕ) → u < T.num_trans → Made T.n_satom T.num_trans T.perms gens.new u)
+        × (Closed T.n_satom T.num_trans T.perms → result ≡ true) }
 {
     let mut known = [0usize; 1024];
     known[null] = tables.num_trans + 1;
@@ -200,8 +200,8 @@ fn sender(sent: &[usize; 1024], a: SuperAtom) -> usize
 
 // Whether row g sends atom a to an atom of the same primitive atom, and to the same row's as the first representative's image beside a.
 fn keeps_row(tables: &ShiftTables, sent: &[usize; 1024], g: usize, a: SuperAtom) -> bool
-    requires { Sent tables.now.n_satom tables.now.num_trans tables.now.n_patom tables.now.perms.now tables.now.p2s.now tables.now.s2pp.now sent.now × (g < tables.now.num_trans) × (a.0 < tables.now.n_satom) }
-    ensures { Tells result (KeepsAt tables.now.n_satom tables.now.perms.now tables.now.p2s.now tables.now.s2pp.now sent.now g a.0) }
+    requires { let T = given tables.now in Sent T.n_satom T.num_trans T.n_patom T.perms T.p2s T.s2pp sent.now × (g < T.num_trans) × (a.0 < T.n_satom) }
+    ensures { let T = given tables.now in Tells result (KeepsAt T.n_satom T.perms T.p2s T.s2pp sent.now g a.0) }
 {
     let b = tables.perms_at(g, a);
     let p = tables.s2pp_at(a);
@@ -216,8 +216,8 @@ fn keeps_row(tables: &ShiftTables, sent: &[usize; 1024], g: usize, a: SuperAtom)
 
 // Whether row g sends the images of the representatives under one row to their images under one row.
 fn keeps_rows(tables: &ShiftTables, sent: &[usize; 1024], g: usize) -> bool
-    requires { Sent tables.now.n_satom tables.now.num_trans tables.now.n_patom tables.now.perms.now tables.now.p2s.now tables.now.s2pp.now sent.now × (g < tables.now.num_trans) }
-    ensures { Tells result ((a : ℕ) → a < tables.now.n_satom → KeepsAt tables.now.n_satom tables.now.perms.now tables.now.p2s.now tables.now.s2pp.now sent.now g a) }
+    requires { let T = given tables.now in Sent T.n_satom T.num_trans T.n_patom T.perms T.p2s T.s2pp sent.now × (g < T.num_trans) }
+    ensures { let T = given tables.now in Tells result ((a : ℕ) → a < T.n_satom → KeepsAt T.n_satom T.perms T.p2s T.s2pp sent.now g a) }
 {
     for a in 0..tables.n_satom {
         if !keeps_row(tables, sent, g, SuperAtom(a)) {
@@ -229,10 +229,10 @@ fn keeps_rows(tables: &ShiftTables, sent: &[usize; 1024], g: usize) -> bool
 
 // Row s from the right, as a table.
 fn shift_right(tables: &ShiftTables, sent: &[usize; 1024], s: usize, right: &mut [usize; 1024])
-    requires { Sent tables.now.n_satom tables.now.num_trans tables.now.n_patom tables.now.perms.now tables.now.p2s.now tables.now.s2pp.now sent.now × (s < tables.now.num_trans) × (length right.old ≡ 1024) }
-    ensures { ((a : ℕ)
-        → a < tables.now.n_satom
-        → get_or right.new a 0 ≡ right_of tables.now.perms.now tables.now.n_satom tables.now.p2s.now tables.now.s2pp.now sent.now s a)
+    requires { let T = given tables.now in Sent T.n_satom T.num_trans T.n_patom T.perms T.p2s T.s2pp sent.now × (s < T.num_trans) × (length right.old ≡ 1024) }
+    ensures { let T = given tables.now in ((a : ℕ)
+        → a < T.n_satom
+        → get_or right.new a 0 ≡ right_of T.perms T.n_satom T.p2s T.s2pp sent.now s a)
         × (length right.new ≡ 1024) }
 {
     for a in 0..tables.n_satom {
@@ -253,8 +253,8 @@ fn shifted(right: &[usize; 1024], a: SuperAtom) -> SuperAtom
 
 // Whether row g and a shift from the right may be taken in either order.
 fn commutes(tables: &ShiftTables, g: usize, right: &[usize; 1024]) -> bool
-    requires { Rows tables.now.n_satom tables.now.num_trans tables.now.perms.now × (g < tables.now.num_trans) × ((a : ℕ) → a < tables.now.n_satom → get_or right.now a 0 < tables.now.n_satom) }
-    ensures { Tells result (Commutes tables.now.n_satom tables.now.perms.now g (λ a. get_or right.now a 0)) }
+    requires { let T = given tables.now in Rows T.n_satom T.num_trans T.perms × (g < T.num_trans) × ((a : ℕ) → a < T.n_satom → get_or right.now a 0 < T.n_satom) }
+    ensures { let T = given tables.now in Tells result (Commutes T.n_satom T.perms g (λ a. get_or right.now a 0)) }
 {
     for a in 0..tables.n_satom {
         let b = tables.perms_at(g, SuperAtom(a));
@@ -273,8 +273,8 @@ fn generator_commutes(
     g: usize,
     right: &[usize; 1024],
 ) -> bool
-    requires { Rows tables.now.n_satom tables.now.num_trans tables.now.perms.now × (g < tables.now.num_trans) × ((a : ℕ) → a < tables.now.n_satom → get_or right.now a 0 < tables.now.n_satom) }
-    ensures { Tells result ((get_or gens.now g 0 ≡ 0 → ⊥) → Commutes tables.now.n_satom tables.now.perms.now g (λ a. get_or right.now a 0)) }
+    requires { let T = given tables.now in Rows T.n_satom T.num_trans T.perms × (g < T.num_trans) × ((a : ℕ) → a < T.n_satom → get_or right.now a 0 < T.n_satom) }
+    ensures { let T = given tables.now in Tells result ((get_or gens.now g 0 ≡ 0 → ⊥) → Commutes T.n_satom T.perms g (λ a. get_or right.now a 0)) }
 {
     if gens[g] == 0 {
         return true;
@@ -284,11 +284,11 @@ fn generator_commutes(
 
 // The same of every generator.
 fn all_commute(tables: &ShiftTables, gens: &[u8; 1024], right: &[usize; 1024]) -> bool
-    requires { Rows tables.now.n_satom tables.now.num_trans tables.now.perms.now × ((a : ℕ) → a < tables.now.n_satom → get_or right.now a 0 < tables.now.n_satom) }
-    ensures { Tells result ((g : ℕ)
-        → g < tables.now.num_trans
+    requires { let T = given tables.now in Rows T.n_satom T.num_trans T.perms × ((a : ℕ) → a < T.n_satom → get_or right.now a 0 < T.n_satom) }
+    ensures { let T = given tables.now in Tells result ((g : ℕ)
+        → g < T.num_trans
         → (get_or gens.now g 0 ≡ 0 → ⊥)
-        → Commutes tables.now.n_satom tables.now.perms.now g (λ a. get_or right.now a 0)) }
+        → Commutes T.n_satom T.perms g (λ a. get_or right.now a 0)) }
 {
     for g in 0..tables.num_trans {
         if !generator_commutes(tables, gens, g, right) {
@@ -306,10 +306,10 @@ fn is_settled(
     s: usize,
     right: &mut [usize; 1024],
 ) -> bool
-    requires { Sent tables.now.n_satom tables.now.num_trans tables.now.n_patom tables.now.perms.now tables.now.p2s.now tables.now.s2pp.now sent.now × (s < tables.now.num_trans) × (length right.old ≡ 1024) }
-    ensures { (length right.new ≡ 1024)
+    requires { let T = given tables.now in Sent T.n_satom T.num_trans T.n_patom T.perms T.p2s T.s2pp sent.now × (s < T.num_trans) × (length right.old ≡ 1024) }
+    ensures { let T = given tables.now in (length right.new ≡ 1024)
         × Tells result ((get_or gens.now s 0 ≡ 0 → ⊥)
-        → Settled tables.now.n_satom tables.now.num_trans tables.now.perms.now tables.now.p2s.now tables.now.s2pp.now sent.now gens.now s) }
+        → Settled T.n_satom T.num_trans T.perms T.p2s T.s2pp sent.now gens.now s) }
 {
     if gens[s] == 0 {
         return true;
@@ -323,11 +323,11 @@ fn is_settled(
 
 // The same of every row.
 fn all_settled(tables: &ShiftTables, sent: &[usize; 1024], gens: &[u8; 1024]) -> bool
-    requires { Sent tables.now.n_satom tables.now.num_trans tables.now.n_patom tables.now.perms.now tables.now.p2s.now tables.now.s2pp.now sent.now }
-    ensures { Tells result ((s : ℕ)
-        → s < tables.now.num_trans
+    requires { let T = given tables.now in Sent T.n_satom T.num_trans T.n_patom T.perms T.p2s T.s2pp sent.now }
+    ensures { let T = given tables.now in Tells result ((s : ℕ)
+        → s < T.num_trans
         → (get_or gens.now s 0 ≡ 0 → ⊥)
-        → Settled tables.now.n_satom tables.now.num_trans tables.now.perms.now tables.now.p2s.now tables.now.s2pp.now sent.now gens.now s) }
+        → Settled T.n_satom T.num_trans T.perms T.p2s T.s2pp sent.now gens.now s) }
 {
     let mut right = [0usize; 1024];
     for s in 0..tables.num_trans {
@@ -341,8 +341,8 @@ fn all_settled(tables: &ShiftTables, sent: &[usize; 1024], gens: &[u8; 1024]) ->
 // One row after another is a row. Every row is compared whole with one row after another once, when it becomes known; the rest is looked at
 // for the generators only.
 pub fn rows_closed(tables: &ShiftTables, sent: &[usize; 1024]) -> bool
-    requires { Sent tables.now.n_satom tables.now.num_trans tables.now.n_patom tables.now.perms.now tables.now.p2s.now tables.now.s2pp.now sent.now }
-    ensures { Tells result (Closed tables.now.n_satom tables.now.num_trans tables.now.perms.now) }
+    requires { let T = given tables.now in Sent T.n_satom T.num_trans T.n_patom T.perms T.p2s T.s2pp sent.now }
+    ensures { let T = given tables.now in Tells result (Closed T.n_satom T.num_trans T.perms) }
 {
     let first = tables.p2s_at(PrimAtom(0));
     let mut gens = [0u8; 1024];

@@ -1,4 +1,4 @@
-use mathlib.Core.Path.{◌≡◌, refl, ap, ◌∙◌}
+use mathlib.Core.Path.{◌≡◌, ap, ◌∙◌}
 use Prim.Native.Nat.{◌+◌, ◌*◌}
 use native.Mathlib.Omega.{arith}
 use Rattle.lists.specs.Tab.{times_none, times_more}
@@ -13,7 +13,7 @@ pub read9-r-requires : goal.read9-r-requires
 read9-r-requires c = c.requires.rotation_fits
 
 pub loop-other-init : goal.loop-other-init
-loop-other-init c = (omega arith, refl, times_none _ _)
+loop-other-init c = times_none _ _
 
 pub perms_at-image-requires : goal.perms_at-image-requires
 perms_at-image-requires c = (c.requires.image c.loop-other.other (omega arith)).0
@@ -38,11 +38,11 @@ loop-other-preserved c =
     let k : c.coefficients2-c.result ≡ coefficients m 2 9 = c.coefficients2-c.ensures ∙ ap (λ x. coefficients x 2 9) (c.transposed9.ensures ∙ ap transposed9 c.read9-r.ensures) in
     let r : c.add_block.new.fc2 ≡ add_block (rotated m 2) (a.todo_first * a.num_pos + l.other) (a.done_first * a.num_pos + index_at a.permutations.now (a.s * a.num_pos + l.other)) l.fc2 =
     c.add_block.ensures m k ∙ rw (c.index_of-target.ensures, c.index_of-source.ensures, c.perms_at-image.ensures) in
-    (omega arith, c.add_block.auto.fc2 ∙ l.invariant.1, times_more l.other _ _ l.invariant.2 r)
+    times_more l.other _ _ l.invariant r
 
 pub returns : goal.returns
 unfolding add_row
 returns c =
     let l = c.loop-other in
     let i : l.other ≡ c.args.num_pos = omega arith in
-    l.invariant.2 ∙ rw i
+    l.invariant ∙ rw i

@@ -1,6 +1,5 @@
 use mathlib.Core.Path.{◌≡◌}
-use Prim.Native.Nat.{◌+◌, ◌-◌, ◌*◌, ◌≤◌}
-use lib.ListN.{length}
+use Prim.Native.Nat.{◌+◌, ◌*◌}
 use Rattle.lists.specs.Tab.{times}
 use Rattle.blocks.specs.Block.{block}
 use Rattle.tables.specs.Conditions.{index_at}
@@ -11,8 +10,4 @@ use Rattle.distribute.proofs.fc2.add_row.Given as goal
 
 abbrev pub invariant-loop-other : goal.invariant-loop-other
 invariant-loop-other l =
-    (l.other ≤ l.num_pos) × (length l.fc2 ≡ length l.initial.fc2)
-    × (l.fc2 ≡ times l.other (λ o. add_block (rotated (transposed9 (block 9 l.s l.r_carts)) 2) (l.todo_first * l.num_pos + o) (l.done_first * l.num_pos + index_at l.permutations (l.s * l.num_pos + o))) l.initial.fc2)
-
-abbrev pub decreases-loop-other : goal.decreases-loop-other
-decreases-loop-other l = l.num_pos - l.other
+    l.fc2 ≡ times l.other (λ o. add_block (rotated (transposed9 (block 9 l.s l.r_carts)) 2) (l.todo_first * l.num_pos + o) (l.done_first * l.num_pos + index_at l.permutations (l.s * l.num_pos + o))) l.initial.fc2

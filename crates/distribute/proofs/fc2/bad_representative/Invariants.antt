@@ -1,7 +1,5 @@
 use mathlib.Core.Path.{◌≡◌}
 use mathlib.Core.Bool.{false, not}
-use Prim.Native.Nat.{◌-◌, ◌≤◌}
-use lib.ListN.{length}
 use Rattle.lists.specs.Tests.{some}
 use Rattle.distribute.specs.Fc2.{represented}
 use Rattle.distribute.proofs.fc2.bad_representative.Given as goal

@@ -1,14 +1,11 @@
 use mathlib.Core.Path.{◌≡◌}
-use Prim.Native.Nat.{◌-◌, ◌≤◌}
-use lib.ListN.{length}
 use Rattle.lists.specs.Tab.{times}
 use Rattle.distribute.specs.Fc2.{distribute_atom}
 use Rattle.distribute.proofs.fc2.distribute_atoms.Given as goal
 
 abbrev pub invariant-loop-i : goal.invariant-loop-i
 invariant-loop-i l =
-    (l.i ≤ length l.atom_list) × (length l.fc2 ≡ length l.initial.fc2)
-    × (l.fc2
+    l.fc2
     ≡ times l.i
     (distribute_atom
     (record {
@@ -20,8 +17,4 @@ invariant-loop-i l =
       map_syms = l.map_syms;
       num_pos = l.num_pos;
     }))
-    l.initial.fc2)
-
-abbrev pub decreases-loop-i : goal.decreases-loop-i
-decreases-loop-i l =
-    length l.atom_list - l.i
+    l.initial.fc2

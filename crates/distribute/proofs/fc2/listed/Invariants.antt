@@ -1,8 +1,6 @@
 use mathlib.Core.Path.{◌≡◌}
 use mathlib.Core.Bool.{false}
-use Prim.Native.Nat.{◌-◌, ◌≤◌}
 use lib.Dec.{eqb}
-use lib.ListN.{length}
 use Rattle.lists.specs.Tests.{some}
 use Rattle.tables.specs.Conditions.{index_at}
 use Rattle.distribute.proofs.fc2.listed.Given as goal

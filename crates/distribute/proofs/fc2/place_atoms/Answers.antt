@@ -1,10 +1,10 @@
 use mir.Syntax.{w64}
 use mir.Val.{to_z, SFits}
 use mir.ValLaws.{to_z-of_z}
-use mathlib.Core.Path.{◌≡◌, refl}
+use mathlib.Core.Path.{◌≡◌}
 use Prim.Native.Nat.{◌<◌}
 use native.Mathlib.Omega.{arith}
-use lib.ListN.{length, length-set}
+use lib.ListN.{length}
 use lib.IntN.{pos}
 use borrow.Author.Count.{below_none}
 use Rattle.tables.specs.Conditions.{read}
@@ -13,7 +13,7 @@ use borrow.Author.Rules.{rules}
 use Rattle.distribute.proofs.fc2.place_atoms.Goals as goal
 
 pub loop-i-init : goal.loop-i-init
-loop-i-init c = (omega arith, refl, below_none _)
+loop-i-init c = below_none _
 
 pub entry-atom-requires : goal.entry-atom-requires
 entry-atom-requires c = (read c.requires.index_table c.loop-i.i (omega arith)).0
@@ -40,14 +40,11 @@ loop-i-preserved c =
     let a = c.args in
     let f : SFits w64 (pos l.i) = record { sfits = omega (arith, c.requires.atom_list_len_bound) } in
     let z : to_z w64 l.i ≡ pos l.i = to_z-of_z w64 (pos l.i) f in
-    let k = (read c.requires.index_table l.i (omega arith)).1 in (
-      omega arith,
-      simp length-set l.invariant.1,
-      rw (z, c.entry-atom.ensures) (placed-more a.atom_list.now l.i l.atom_list_reverse (rw l.invariant.1 k) l.invariant.2),
-    )
+    let k = (read c.requires.index_table l.i (omega arith)).1 in
+    rw (z, c.entry-atom.ensures) (placed-more a.atom_list.now l.i l.atom_list_reverse (rw l.auto.atom_list_reverse k) l.invariant)
 
 pub returns : goal.returns
 returns c =
     let l = c.loop-i in
     let e : l.i ≡ length c.args.atom_list.now = omega arith in
-    rw e at l.invariant.2
+    rw e at l.invariant

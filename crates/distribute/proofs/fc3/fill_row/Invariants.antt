@@ -1,7 +1,6 @@
 use mathlib.Core.Path.{◌≡◌}
 use mathlib.Core.List.{List}
-use Prim.Native.Nat.{◌+◌, ◌-◌, ◌*◌, ◌≤◌}
-use lib.ListN.{length}
+use Prim.Native.Nat.{◌+◌, ◌*◌}
 use lib.Ieee.{Float}
 use Rattle.lists.specs.Tab.{times}
 use Rattle.tables.specs.Conditions.{index_at}
@@ -11,9 +10,5 @@ use Rattle.distribute.proofs.fc3.fill_row.Given as goal
 
 abbrev pub invariant-loop-i : goal.invariant-loop-i
 invariant-loop-i l =
-    (l.i ≤ l.num_atom) × (length l.fc3 ≡ length l.initial.fc3)
-    × ((m : List Float) → l.c ≡ coefficients m 3 27
-    → l.fc3 ≡ times l.i (λ i. move l.atom_mapping l.num_atom 27 (rotated m 3) 0 (l.target * l.num_atom + i) (l.source * l.num_atom + index_at l.atom_mapping i)) l.initial.fc3)
-
-abbrev pub decreases-loop-i : goal.decreases-loop-i
-decreases-loop-i l = l.num_atom - l.i
+    (m : List Float) → l.c ≡ coefficients m 3 27
+    → l.fc3 ≡ times l.i (λ i. move l.atom_mapping l.num_atom 27 (rotated m 3) 0 (l.target * l.num_atom + i) (l.source * l.num_atom + index_at l.atom_mapping i)) l.initial.fc3

@@ -1,4 +1,4 @@
-use mathlib.Core.Path.{◌≡◌, refl, ◌∙◌}
+use mathlib.Core.Path.{◌≡◌, ◌∙◌}
 use mathlib.Core.List.{List}
 use Prim.Native.Nat.{◌+◌, ◌*◌, ◌<◌}
 use native.Mathlib.Omega.{arith}
@@ -11,7 +11,7 @@ use Rattle.blocks.specs.Inside.{inside-atom, inside-block, inside-small}
 use Rattle.distribute.proofs.fc4.fill_row.Goals as goal
 
 pub loop-i-init : goal.loop-i-init
-loop-i-init c = (omega arith, refl, λ m e. times_none _ _)
+loop-i-init c = λ m e. times_none _ _
 
 pub entry-image-requires : goal.entry-image-requires
 entry-image-requires c = (read c.requires.index_table c.loop-i.i (omega arith)).0
@@ -38,7 +38,7 @@ fill_block-requires c =
     let a = c.args in
     let i = (read c.requires.index_table l.i (omega arith)).1 in
     let g : c.entry-image.result < a.num_atom = omega (arith, c.entry-image.ensures) in
-    rw (c.index_of-t.ensures, c.index_of-s.ensures, l.invariant.1) (
+    rw (c.index_of-t.ensures, c.index_of-s.ensures, l.auto.fc4) (
       inside-block a.num_atom 81 (a.target * a.num_atom + l.i) _ (inside-atom a.num_atom 81 0 a.target _ l.i (omega arith) c.requires.blocks_in.0),
       inside-block a.num_atom 81 (a.source * a.num_atom + c.entry-image.result) _ (inside-atom a.num_atom 81 0 a.source _ c.entry-image.result g c.requires.blocks_in.1),
     )
@@ -51,11 +51,11 @@ loop-i-preserved c =
     let r : (m : List Float) → a.c.now ≡ coefficients m 4 81
     → c.fill_block.new.fc4 ≡ move a.atom_mapping.now a.num_atom 81 (rotated m 4) 0 (a.target * a.num_atom + l.i) (a.source * a.num_atom + index_at a.atom_mapping.now l.i) l.fc4 = λ m q.
     c.fill_block.ensures m q ∙ rw (c.index_of-t.ensures, c.index_of-s.ensures, c.entry-image.ensures) in
-    (omega arith, c.fill_block.auto.fc4 ∙ l.invariant.1, λ m q. times_more l.i _ _ (l.invariant.2 m q) (r m q))
+    λ m q. times_more l.i _ _ (l.invariant m q) (r m q)
 
 pub returns : goal.returns
 unfolding move
 returns c =
     let l = c.loop-i in
     let i : l.i ≡ c.args.num_atom = omega arith in
-    λ m e. l.invariant.2 m e ∙ rw i
+    λ m e. l.invariant m e ∙ rw i
