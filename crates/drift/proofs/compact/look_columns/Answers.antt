@@ -14,8 +14,8 @@ loop-j-init c = (omega arith, times_none _ _)
 pub column_sums-s-requires : goal.column_sums-s-requires
 column_sums-s-requires c = (c.requires, c.loop-j-test.true)
 
-pub overflow_add-n : goal.overflow_add-n
-overflow_add-n c = let g = c.requires.tables.satoms in omega arith
+pub overflow_add-tables : goal.overflow_add-tables
+overflow_add-tables c = let g = c.requires.tables.satoms in omega arith
 
 pub look_line-more-requires : goal.look_line-more-requires
 look_line-more-requires c = let g = c.requires.tables.satoms in omega arith

@@ -27,7 +27,7 @@ scan-seen-requires c =
 pub conclude-requires : goal.conclude-requires
 conclude-requires c = let z = c.if-num_atom-eq0.false in omega arith
 
-pub returns : goal.returns-else-num_atom-eq0
+pub returns : goal.returns
 returns c =
     let a = c.args in
     ap Ok c.conclude.ensures
