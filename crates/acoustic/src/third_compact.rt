@@ -51,7 +51,7 @@ fn judge_lengths(set_len: usize, done_len: usize, drift_len: usize, tables: &Shi
     ensures { result ≡ judged_work limit3 2 set_len done_len drift_len (given tables.now) }
 {
     let a = judge_compact(LIMIT3, 2, set_len, 2, done_len, tables);
-    if tables::number(a) == 1 {
+    if tables::is_above_limit(a) {
         return a;
     }
     if drift_len == set_blocks(tables.n_patom, tables.n_satom, 1) * 27 {

@@ -70,7 +70,7 @@ pub fn judge(
     requires { (number_of a ≡ 1 → ⊥) → n ≤ 1024 }
     ensures { result ≡ earlier_of a (judged_operations n num_rot carts_len operations.now) }
 {
-    if number(a) == 1 {
+    if tables::is_above_limit(a) {
         return a;
     }
     let b = judge_operations(n, num_rot, carts_len, operations);

@@ -25,7 +25,7 @@ pub fn judge(
     ensures { result ≡ judged_read_out limit m full_len set_len (given tables.now) }
 {
     let a = shifts::judge_set(limit, m, set_len, tables);
-    if tables::number(a) == 1 {
+    if tables::is_above_limit(a) {
         return a;
     }
     if full_len == tables::sets::set_length(tables.n_satom, tables.n_satom, m) {

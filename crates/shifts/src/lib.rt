@@ -125,7 +125,7 @@ pub fn judge_compact(
     ensures { result ≡ judged_compact limit m set_len k work_len (given tables.now) }
 {
     let a = judge_set(limit, m, set_len, tables);
-    if tables::number(a) == 1 {
+    if tables::is_above_limit(a) {
         return a;
     }
     if work_len == set_blocks(tables.n_patom, tables.n_satom, k) {

@@ -4,6 +4,7 @@
 
 ghost use Rattle.std.specs.Prelude.{◌≡◌};
 ghost use Rattle.tables.specs.Answers.{refusal_number, number_of};
+ghost use Rattle.tables.specs.Conditions.{Tells};
 
 pub mod atoms;
 pub mod index;
@@ -68,4 +69,11 @@ pub fn number(a: Result<(), Refusal>) -> u8
         Ok(()) => 0,
         Err(r) => u8::from(r),
     }
+}
+
+// Whether a call is refused for a count above its limit: nothing else of it is judged then.
+pub fn is_above_limit(a: Result<(), Refusal>) -> bool
+    ensures { Tells result (number_of a ≡ 1) }
+{
+    matches!(a, Err(Refusal::CountAboveLimit))
 }

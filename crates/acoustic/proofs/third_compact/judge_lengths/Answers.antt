@@ -5,24 +5,25 @@ use native.Mathlib.Omega.{arith}
 use lib.Dec.{lit≤}
 use Rattle.tables.specs.Compact.{ShiftTables, given}
 use Rattle.acoustic.specs.Calls.{above_too, few-atoms, right_too, wrong-more, drift27, few27}
+use Rattle.lists.specs.Tests.{not-both}
 use Rattle.acoustic.proofs.third_compact.judge_lengths.Goals as goal
 
 pub judge_compact-a-requires : goal.judge_compact-a-requires
 judge_compact-a-requires c = (lit≤ tt, lit≤ tt, lit≤ tt)
 
-pub returns-then-number-eq1 : goal.returns-then-number-eq1
-returns-then-number-eq1 c =
+pub returns-then-is_above_limit : goal.returns-then-is_above_limit
+returns-then-is_above_limit c =
     let a = c.args in
     let T : ShiftTables = given a.tables.now in
     let j = c.judge_compact-a in
-    above_too 256 2 a.set_len a.done_len a.drift_len T j.result j.ensures (sym c.number.ensures ∙ c.if-number-eq1.true)
+    above_too 256 2 a.set_len a.done_len a.drift_len T j.result j.ensures (c.is_above_limit.ensures.0 c.if-is_above_limit.true)
 
 pub set_blocks-requires : goal.set_blocks-requires
 set_blocks-requires c =
     let a = c.args in
     let T : ShiftTables = given a.tables.now in
     let j = c.judge_compact-a in
-    let few = few-atoms 256 2 a.set_len a.done_len 0 T j.result j.ensures (λ e. c.if-number-eq1.false (c.number.ensures ∙ e)) in
+    let few = few-atoms 256 2 a.set_len a.done_len 0 T j.result j.ensures (λ e. not-both (c.is_above_limit.ensures.1 e) c.if-is_above_limit.false) in
     (le_trans few.1 (lit≤ tt), le_trans few.0 (lit≤ tt), lit≤ tt)
 
 pub overflow_mul-set_blocks : goal.overflow_mul-set_blocks
@@ -30,7 +31,7 @@ overflow_mul-set_blocks c =
     let a = c.args in
     let T : ShiftTables = given a.tables.now in
     let j = c.judge_compact-a in
-    let few = few-atoms 256 2 a.set_len a.done_len 0 T j.result j.ensures (λ e. c.if-number-eq1.false (c.number.ensures ∙ e)) in
+    let few = few-atoms 256 2 a.set_len a.done_len 0 T j.result j.ensures (λ e. not-both (c.is_above_limit.ensures.1 e) c.if-is_above_limit.false) in
     let g = few27 a.tables.now.n_patom a.tables.now.n_satom (le_trans few.1 (lit≤ tt)) (le_trans few.0 (lit≤ tt)) in
     omega (arith, g, c.set_blocks.ensures)
 
@@ -46,5 +47,5 @@ returns c =
     let a = c.args in
     let T : ShiftTables = given a.tables.now in
     let j = c.judge_compact-a in
-    wrong-more 256 2 a.set_len a.done_len a.drift_len T j.result j.ensures (λ e. c.if-number-eq1.false (c.number.ensures ∙ e))
+    wrong-more 256 2 a.set_len a.done_len a.drift_len T j.result j.ensures (λ e. not-both (c.is_above_limit.ensures.1 e) c.if-is_above_limit.false)
     (λ e. c.if-drift_len-set_blocks.false (e ∙ sym (ap (λ x. x * 27) c.set_blocks.ensures ∙ drift27 a.tables.now.n_patom a.tables.now.n_satom)))
