@@ -15,10 +15,8 @@ ghost use Rattle.acoustic.specs.Laws.{scaled, less};
 pub fn scale_all(s: &mut [f64], x: f64)
     ensures { s.new ≡ scaled s.old x }
 {
-    let mut k = 0;
-    while k < s.len() {
+    for k in 0..s.len() {
         s[k] = s[k] * x;
-        k += 1;
     }
 }
 
@@ -27,9 +25,7 @@ pub fn take_all(s: &mut [f64], d: &[f64])
     requires { length d.now ≡ length s.old }
     ensures { s.new ≡ less s.old d.now }
 {
-    let mut k = 0;
-    while k < d.len() {
+    for k in 0..d.len() {
         s[k] = s[k] - d[k];
-        k += 1;
     }
 }

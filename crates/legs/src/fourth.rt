@@ -65,8 +65,7 @@ fn look_leg(fc: &[f64], tables: &ShiftTables, e: usize, seen0: Seen) -> Seen
     for t in 0..count {
         let sums = leg_sums(fc, tables, 3 - e, t);
         let first = index_of(index_of(e, count, t), 81, 0);
-        let more = look_numbers(&sums, first, seen);
-        seen = more;
+        seen = look_numbers(&sums, first, seen);
     }
     seen
 }
@@ -78,8 +77,7 @@ fn scan(fc: &[f64], tables: &ShiftTables) -> Seen
 {
     let mut seen = start();
     for e in 0..4usize {
-        let more = look_leg(fc, tables, e, seen);
-        seen = more;
+        seen = look_leg(fc, tables, e, seen);
     }
     seen
 }

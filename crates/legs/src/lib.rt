@@ -15,9 +15,7 @@ pub fn add_all(s: &mut [f64], b: &[f64])
     requires { length b.now ≡ length s.old }
     ensures { s.new ≡ tab (length s.old) (λ k. add binary64 (get_or s.old k nan) (get_or b.now k nan)) }
 {
-    let mut k = 0;
-    while k < b.len() {
+    for k in 0..b.len() {
         s[k] = s[k] + b[k];
-        k += 1;
     }
 }

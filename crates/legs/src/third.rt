@@ -58,8 +58,7 @@ fn look_leg(fc: &[f64], tables: &ShiftTables, e: usize, seen0: Seen) -> Seen
     for t in 0..count {
         let sums = leg_sums(fc, tables, 2 - e, t);
         let first = index_of(index_of(e, count, t), 27, 0);
-        let more = look_numbers(&sums, first, seen);
-        seen = more;
+        seen = look_numbers(&sums, first, seen);
     }
     seen
 }
@@ -71,8 +70,7 @@ fn scan(fc: &[f64], tables: &ShiftTables) -> Seen
 {
     let mut seen = start();
     for e in 0..3usize {
-        let more = look_leg(fc, tables, e, seen);
-        seen = more;
+        seen = look_leg(fc, tables, e, seen);
     }
     seen
 }

@@ -2,9 +2,10 @@
 // recorder's plain model.
 use capi_cells::gf_compute_permutation;
 use replays::Tally;
-use replays::records::{wide, word_of};
-use replays::steps::{after, count_of, ends, size};
-use replays::values::{floats, mix_integers, mix_slots};
+use replays::cursor::Cursor;
+use replays::records::{float, wide, word_of};
+use replays::steps::{count_of, ends, part};
+use replays::values::{mix_integers, mix_slots};
 use std::io;
 use std::io::Write;
 
@@ -23,7 +24,7 @@ fn answer(
     wide(gf_compute_permutation(
         slots,
         lattice,
-        replays::records::float(word_of(r, 12)),
+        float(word_of(r, 12)),
         &r[f..g],
         pos,
         rot_pos,
@@ -42,14 +43,13 @@ fn compare(
     rot_pos: &mut [f64],
     pair: &mut [usize],
 ) -> Tally {
-    let a = after(13, lattice.len());
-    let b = after(a, pos.len());
-    floats(r, 13, lattice);
-    floats(r, a, pos);
-    floats(r, b, rot_pos);
+    let mut words = Cursor { record: r, at: 13 };
+    words.floats(lattice);
+    words.floats(pos);
+    words.floats(rot_pos);
     let m = answer(r, slots, lattice, pos, rot_pos, pair);
     let got = [m, mix_integers(slots, 0), mix_slots(pair, 0)];
-    replays::compared(t, r, m, &got)
+    t.compared(r, m, &got)
 }
 
 // The record r. The slots and the pair hold 7 before the call.
@@ -59,26 +59,21 @@ pub fn step(t: Tally, r: &[u8]) -> Tally {
     let mut pos = [0.0f64; 192];
     let mut rot_pos = [0.0f64; 192];
     let mut pair = [7usize; 3];
-    let a = size(word_of(r, 5), 64);
-    let b = size(word_of(r, 6), 192);
-    let c = size(word_of(r, 7), 192);
-    let d = size(word_of(r, 8), 10);
-    let e = size(word_of(r, 10), 3);
     compare(
         t,
         r,
-        &mut slots[0..a],
-        &mut lattice[0..d],
-        &mut pos[0..b],
-        &mut rot_pos[0..c],
-        &mut pair[0..e],
+        part(r, 5, &mut slots),
+        part(r, 8, &mut lattice),
+        part(r, 6, &mut pos),
+        part(r, 7, &mut rot_pos),
+        part(r, 10, &mut pair),
     )
 }
 
 // True is 0, false 64, or 69 where it names a pair.
 pub fn report<W: Write>(out: &mut W, t: Tally) -> io::Result<()> {
     let a = t.answers;
-    replays::report(out, b"matching", t)?;
+    t.report(out, b"matching")?;
     replays::line(out, b"false: ", a[64])?;
     replays::line(out, b"false, with a pair: ", a[69])
 }

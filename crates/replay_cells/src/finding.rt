@@ -2,9 +2,10 @@
 // which group is: there the record says which slots are near each position, and what comes back has to be one.
 use capi_cells::capi_finding::gf_find_permutation;
 use replays::Tally;
-use replays::records::{differs, integer_word, wide, word_of};
-use replays::steps::{after, count_of, ends, is, plus, size, some};
-use replays::values::{floats, mix_bytes, mix_integers};
+use replays::cursor::Cursor;
+use replays::records::{differs, float, integer_word, wide, word_of};
+use replays::steps::{after, count_of, ends, part, plus, size};
+use replays::values::{mix_bytes, mix_integers};
 use std::io;
 use std::io::Write;
 
@@ -19,82 +20,45 @@ fn near(r: &[u8], at: usize, w: u64, j: usize) -> u64 {
 
 // How many slots do not hold a position that is near.
 fn not_near(r: &[u8], at: usize, slots: &[i64]) -> u64 {
-    let mut d = 0;
-    let mut j = 0;
-    while j < slots.len() {
-        let w = integer_word(slots[j]);
-        d = plus(d, differs(near(r, at, w, j), 1));
-        j += 1;
-    }
-    d
+    let held = slots.iter().enumerate();
+    held.filter(|(j, x)| near(r, at, integer_word(**x), *j) != 1)
+        .count() as u64
 }
 
 // How many slots hold position i.
 fn holders(slots: &[i64], i: usize) -> u64 {
-    let mut d = 0;
-    let mut j = 0;
-    while j < slots.len() {
-        let w = integer_word(slots[j]);
-        d = plus(d, is(w, i as u64));
-        j += 1;
-    }
-    d
+    slots
+        .iter()
+        .filter(|x| integer_word(**x) == i as u64)
+        .count() as u64
 }
 
 // How many positions are not in just one slot.
 fn not_placed(slots: &[i64]) -> u64 {
-    let mut d = 0;
-    let mut i = 0;
-    while i < slots.len() {
-        d = plus(d, differs(holders(slots, i), 1));
-        i += 1;
-    }
-    d
+    (0..slots.len()).filter(|i| holders(slots, *i) != 1).count() as u64
 }
 
 // How many marks are m.
 fn marks_that_are(marks: &[u8], m: u64) -> u64 {
-    let mut d = 0;
-    let mut i = 0;
-    while i < marks.len() {
-        d = plus(d, is(wide(marks[i]), m));
-        i += 1;
-    }
-    d
-}
-
-fn near_if(mark: u64, r: &[u8], at: usize, i: usize, j: usize) -> u64 {
-    if mark == 1 {
-        return near(r, at, i as u64, j);
-    }
-    0
+    marks.iter().filter(|x| wide(**x) == m).count() as u64
 }
 
 // To how many marked positions slot j is near.
 fn marked_near(r: &[u8], at: usize, marks: &[u8], j: usize) -> u64 {
     let mut d = 0;
-    let mut i = 0;
-    while i < marks.len() {
-        d = plus(d, near_if(wide(marks[i]), r, at, i, j));
-        i += 1;
+    for (i, mark) in marks.iter().enumerate() {
+        if *mark == 1 {
+            d = plus(d, near(r, at, i as u64, j));
+        }
     }
     d
 }
 
 // How many slots are near a marked position.
 fn reached(r: &[u8], at: usize, marks: &[u8]) -> u64 {
-    let mut d = 0;
-    let mut j = 0;
-    while j < marks.len() {
-        d = plus(d, some(marked_near(r, at, marks, j)));
-        j += 1;
-    }
-    d
-}
-
-// 0 if a is below b, else 1.
-fn not_below(a: u64, b: u64) -> u64 {
-    if a < b { 0 } else { 1 }
+    (0..marks.len())
+        .filter(|j| marked_near(r, at, marks, *j) != 0)
+        .count() as u64
 }
 
 // What is left of the slots: their sum, or where any bijection of near pairs may come back how much they are short of one.
@@ -110,7 +74,7 @@ fn marks_left(r: &[u8], at: usize, marks: &[u8]) -> u64 {
     if word_of(r, 4) == 2 {
         let members = marks_that_are(marks, 1);
         let others = marks_that_are(marks, 0);
-        let short = not_below(reached(r, at, marks), members);
+        let short = u64::from(reached(r, at, marks) >= members);
         return plus(short, differs(plus(members, others), marks.len() as u64));
     }
     mix_bytes(marks, 0)
@@ -132,7 +96,7 @@ fn answer(
         slots,
         marks,
         lattice,
-        replays::records::float(word_of(r, 13)),
+        float(word_of(r, 13)),
         &r[f..g],
         pos,
         rot_pos,
@@ -161,7 +125,7 @@ fn compare(
 ) -> Tally {
     let a = answer(r, slots, marks, lattice, pos, rot_pos);
     let got = [a, slots_left(r, at, slots), marks_left(r, at, marks)];
-    replays::compared(t, r, kind(r, a), &got)
+    t.compared(r, kind(r, a), &got)
 }
 
 // The record r, with room for its slices.
@@ -174,13 +138,11 @@ fn fill_and_compare(
     pos: &mut [f64],
     rot_pos: &mut [f64],
 ) -> Tally {
-    let a = after(14, lattice.len());
-    let b = after(a, pos.len());
-    let c = after(b, rot_pos.len());
-    floats(r, 14, lattice);
-    floats(r, a, pos);
-    floats(r, b, rot_pos);
-    compare(t, r, c, slots, marks, lattice, pos, rot_pos)
+    let mut words = Cursor { record: r, at: 14 };
+    words.floats(lattice);
+    words.floats(pos);
+    words.floats(rot_pos);
+    compare(t, r, words.at, slots, marks, lattice, pos, rot_pos)
 }
 
 // The record r. The slots and the marks hold 7 before the call.
@@ -190,26 +152,21 @@ pub fn step(t: Tally, r: &[u8]) -> Tally {
     let mut lattice = [0.0f64; 16];
     let mut pos = [0.0f64; 48];
     let mut rot_pos = [0.0f64; 48];
-    let a = size(word_of(r, 6), 16);
-    let b = size(word_of(r, 7), 16);
-    let c = size(word_of(r, 8), 16);
-    let d = size(word_of(r, 10), 48);
-    let e = size(word_of(r, 11), 48);
     fill_and_compare(
         t,
         r,
-        &mut slots[0..a],
-        &mut marks[0..b],
-        &mut lattice[0..c],
-        &mut pos[0..d],
-        &mut rot_pos[0..e],
+        part(r, 6, &mut slots),
+        part(r, 7, &mut marks),
+        part(r, 8, &mut lattice),
+        part(r, 10, &mut pos),
+        part(r, 11, &mut rot_pos),
     )
 }
 
 // A call that finds no match is 72.
 pub fn report<W: Write>(out: &mut W, t: Tally) -> io::Result<()> {
     let a = t.answers;
-    replays::report_with(out, b"finding", t, plus(a[0], a[127]))?;
+    t.report_with(out, b"finding", plus(a[0], a[127]))?;
     replays::line(out, b"by chains: ", a[127])?;
     replays::line(out, b"no match: ", a[72])
 }

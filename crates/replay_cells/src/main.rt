@@ -9,69 +9,14 @@ mod finding;
 mod rounding;
 mod shift_tables;
 
-use replays::Tally;
-use replays::steps::first;
+use replays::pages::replay;
 use std::io;
-use std::io::Read;
-
-// What the records of a page are.
-const SHIFT_TABLES: u64 = 1;
-
-const CELLS: u64 = 2;
-
-const FINDING: u64 = 3;
-
-// The record r.
-fn step(part: u64, t: Tally, r: &[u8]) -> Tally {
-    if part == SHIFT_TABLES {
-        return shift_tables::step(t, r);
-    }
-    if part == CELLS {
-        return cells::step(t, r);
-    }
-    finding::step(t, r)
-}
-
-// The records of a page, after those of the pages before.
-fn replay(part: u64, s: &[u8], so_far: Tally) -> Tally {
-    let mut t = so_far;
-    let n = replays::records::count(s);
-    let mut at = first(s);
-    let mut i = 0;
-    while i < n {
-        let e = replays::records::end(s, at);
-        let more = step(part, t, &s[at..e]);
-        t = more;
-        at = e;
-        i += 1;
-    }
-    t
-}
-
-fn read_page<R: Read>(part: u64, so_far: Tally, input: &mut R) -> io::Result<Tally> {
-    let mut page = replays::pages::empty_page();
-    let n = replays::pages::read_page(input, &mut page)?;
-    Ok(replay(part, &page[..n], so_far))
-}
-
-// The records of the next n pages.
-fn pages<R: Read>(part: u64, n: usize, input: &mut R) -> io::Result<Tally> {
-    let mut t = replays::none();
-    for _ in 0..n {
-        t = read_page(part, t, input)?;
-    }
-    Ok(t)
-}
 
 fn main(rt: HostRuntime) -> io::Result<()> {
     let mut input = rt.reader();
     let mut out = io::writer(&rt);
     rounding::run(&mut out, &mut input)?;
-    replays::report(
-        &mut out,
-        b"shift tables",
-        pages(SHIFT_TABLES, 3, &mut input)?,
-    )?;
-    cells::report(&mut out, pages(CELLS, 4, &mut input)?)?;
-    finding::report(&mut out, pages(FINDING, 4, &mut input)?)
+    replay(&mut input, 3, shift_tables::step)?.report(&mut out, b"shift tables")?;
+    cells::report(&mut out, replay(&mut input, 4, cells::step)?)?;
+    finding::report(&mut out, replay(&mut input, 4, finding::step)?)
 }

@@ -4,12 +4,14 @@
 ghost use Rattle.std.specs.Prelude.{◌+◌, ◌*◌, ◌-◌, ◌≤◌, length};
 
 use capi_cells::{gf_nint, gf_round, gf_sqrt};
+use common::float_word;
+use replays::records::{differs, float, integer_word, mix, word};
 use replays::steps::plus;
 use std::io;
 use std::io::{Read, Write};
 
 // What was compared so far: records, those whose rounding or root is NaN, differences, checksum.
-#[derive(Clone, Copy)]
+#[derive(Clone, Copy, Default)]
 struct Tally {
     seen: u64,
     round_nan: u64,
@@ -20,41 +22,25 @@ struct Tally {
     sum: u64,
 }
 
-fn is_nan(x: f64) -> u64 {
-    if x != x { 1 } else { 0 }
-}
-
 // The record at `at`.
 fn step(t: Tally, s: &[u8], at: usize) -> Tally
     requires { at + 32 ≤ length s.now }
 {
-    let b = replays::records::word(s, at);
-    let x = replays::records::float(b);
+    let b = word(s, at);
+    let x = float(b);
     let round = gf_round(x);
     let sqrt = gf_sqrt(x);
-    let n = replays::records::integer_word(gf_nint(x));
-    let r = common::float_word(round);
-    let q = common::float_word(sqrt);
+    let n = integer_word(gf_nint(x));
+    let r = float_word(round);
+    let q = float_word(sqrt);
     Tally {
         seen: plus(t.seen, 1),
-        round_nan: plus(t.round_nan, is_nan(round)),
-        sqrt_nan: plus(t.sqrt_nan, is_nan(sqrt)),
-        nint: plus(
-            t.nint,
-            replays::records::differs(n, replays::records::word(s, at + 8)),
-        ),
-        round: plus(
-            t.round,
-            replays::records::differs(r, replays::records::word(s, at + 16)),
-        ),
-        sqrt: plus(
-            t.sqrt,
-            replays::records::differs(q, replays::records::word(s, at + 24)),
-        ),
-        sum: replays::records::mix(
-            replays::records::mix(replays::records::mix(replays::records::mix(t.sum, b), n), r),
-            q,
-        ),
+        round_nan: plus(t.round_nan, u64::from(round.is_nan())),
+        sqrt_nan: plus(t.sqrt_nan, u64::from(sqrt.is_nan())),
+        nint: plus(t.nint, differs(n, word(s, at + 8))),
+        round: plus(t.round, differs(r, word(s, at + 16))),
+        sqrt: plus(t.sqrt, differs(q, word(s, at + 24))),
+        sum: mix(mix(mix(mix(t.sum, b), n), r), q),
     }
 }
 
@@ -66,7 +52,7 @@ fn count(s: &[u8]) -> usize
         return 0;
     }
     let room = (s.len() - 8) / 32;
-    let said = replays::records::word(s, 0);
+    let said = word(s, 0);
     if said > room as u64 {
         return 0;
     }
@@ -74,21 +60,9 @@ fn count(s: &[u8]) -> usize
 }
 
 fn replay(s: &[u8]) -> Tally {
-    let mut t = Tally {
-        seen: 0,
-        round_nan: 0,
-        sqrt_nan: 0,
-        nint: 0,
-        round: 0,
-        sqrt: 0,
-        sum: 0,
-    };
-    let n = count(s);
-    let mut i = 0;
-    while i < n {
-        let more = step(t, s, 8 + 32 * i);
-        t = more;
-        i += 1;
+    let mut t = Tally::default();
+    for i in 0..count(s) {
+        t = step(t, s, 8 + 32 * i);
     }
     t
 }

@@ -2,84 +2,71 @@
 use capi_cells::capi_explaining::gf_explain_shift_tables;
 use capi_cells::gf_check_shift_tables;
 use replays::Tally;
-use replays::records::wide;
-use replays::steps::{count_of, size, table};
-use replays::values::mix_slots;
+use replays::records::{wide, word_of};
+use replays::shift_tables::ShiftTables;
+use replays::steps::{count_of, part, size};
+use replays::values::{integers, mix_slots};
 
 // The verdict of the guard of compact calls, for a set and a work slice of second order.
-fn judge(r: &[u8], p2s: &[i64], s2pp: &[i64], nsym_list: &[i64], perms: &[i64]) -> u64 {
-    let limit = size(replays::records::word_of(r, 5), 1024);
+fn judge(r: &[u8], t: ShiftTables) -> u64 {
+    let limit = size(word_of(r, 5), 1024);
     let a = shifts::judge_compact(
         limit,
         1,
         count_of(r, 6),
         1,
         count_of(r, 7),
-        p2s,
-        s2pp,
-        nsym_list,
-        perms,
-        count_of(r, 9),
-        count_of(r, 10),
-        count_of(r, 11),
+        t.p2s,
+        t.s2pp,
+        t.nsym_list,
+        t.perms,
+        t.n_satom,
+        t.n_patom,
+        t.num_trans,
     );
     wide(tables::number(a))
 }
 
 // The verdict on the tables alone, through its C name.
-fn check(r: &[u8], p2s: &[i64], s2pp: &[i64], nsym_list: &[i64], perms: &[i64]) -> u64 {
-    let a = gf_check_shift_tables(
-        p2s,
-        s2pp,
-        nsym_list,
-        perms,
-        count_of(r, 9),
-        count_of(r, 10),
-        count_of(r, 11),
-    );
-    wide(a)
+fn check(t: ShiftTables) -> u64 {
+    wide(gf_check_shift_tables(
+        t.p2s,
+        t.s2pp,
+        t.nsym_list,
+        t.perms,
+        t.n_satom,
+        t.n_patom,
+        t.num_trans,
+    ))
 }
 
-// Why the tables are refused, in slots that hold 7 before: the answer's number, and the checksum of the slots.
-fn explain(
-    r: &[u8],
-    p2s: &[i64],
-    s2pp: &[i64],
-    nsym_list: &[i64],
-    perms: &[i64],
-    place: &mut [usize],
-) -> [u64; 2] {
-    let a = gf_explain_shift_tables(
-        p2s,
-        s2pp,
-        nsym_list,
-        perms,
+// Why the tables are refused, in slots that hold 7 before: the answer's number.
+fn explain(t: ShiftTables, place: &mut [usize]) -> u64 {
+    wide(gf_explain_shift_tables(
+        t.p2s,
+        t.s2pp,
+        t.nsym_list,
+        t.perms,
         place,
-        count_of(r, 9),
-        count_of(r, 10),
-        count_of(r, 11),
-    );
-    [wide(a), mix_slots(place, 0)]
+        t.n_satom,
+        t.n_patom,
+        t.num_trans,
+    ))
 }
 
-// The tables are one after another: perms, p2s, s2pp, nsym_list.
-fn verdicts(r: &[u8], all: &[i64], place: &mut [usize]) -> [u64; 4] {
-    let perms = table(r, 12, 0, all);
-    let p2s = table(r, 12, 1, all);
-    let s2pp = table(r, 12, 2, all);
-    let nsym_list = table(r, 12, 3, all);
-    let a = judge(r, p2s, s2pp, nsym_list, perms);
-    let b = check(r, p2s, s2pp, nsym_list, perms);
-    let e = explain(r, p2s, s2pp, nsym_list, perms, place);
-    [a, b, e[0], e[1]]
+// What the calls gave: the numbers of the three answers, and the checksum of the slots.
+fn verdicts(r: &[u8], t: ShiftTables, place: &mut [usize]) -> [u64; 4] {
+    let a = judge(r, t);
+    let b = check(t);
+    let e = explain(t, place);
+    [a, b, e, mix_slots(place, 0)]
 }
 
 // The record r. There is room for 256 entries of perms and 65 of each other table.
 pub fn step(t: Tally, r: &[u8]) -> Tally {
     let mut all = [0i64; 451];
     let mut place = [7usize; 6];
-    replays::values::integers(r, 16, &mut all);
-    let n = size(replays::records::word_of(r, 8), 6);
-    let got = verdicts(r, &all, &mut place[0..n]);
-    replays::compared(t, r, got[0], &got)
+    integers(r, 16, &mut all);
+    let got = verdicts(r, ShiftTables::of(r, 9, 12, &all), part(r, 8, &mut place));
+    t.compared(r, got[0], &got)
 }

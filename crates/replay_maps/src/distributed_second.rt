@@ -1,8 +1,9 @@
 // What the Rust answered for distribute_fc2.
 use capi_fc2::gf_distribute_fc2;
+use replays::Tally;
 use replays::records::{wide, word_of};
-use replays::steps::{count_of, plus, size, table};
-use replays::{Tally, values};
+use replays::steps::{count_of, part, plus, table};
+use replays::values::{fill, fill_integers, integers, mix_floats, mix_integers};
 
 // The call on the tables of the record. The answer's number.
 fn call(r: &[u8], set: &mut [f64], reverse: &mut [i64], r_carts: &[f64], all: &[i64]) -> u64 {
@@ -39,15 +40,11 @@ fn run(
     all: &[i64],
 ) -> [u64; 3] {
     let seed = word_of(r, 4);
-    values::fill(set, seed, word_of(r, 5));
-    values::fill_integers(reverse, plus(seed, 1));
-    values::fill(r_carts, plus(seed, 2), word_of(r, 6));
+    fill(set, seed, word_of(r, 5));
+    fill_integers(reverse, plus(seed, 1));
+    fill(r_carts, plus(seed, 2), word_of(r, 6));
     let a = call(r, set, reverse, r_carts, all);
-    [
-        a,
-        values::mix_floats(set, 0),
-        values::mix_integers(reverse, 0),
-    ]
+    [a, mix_floats(set, 0), mix_integers(reverse, 0)]
 }
 
 // The record r, with room for its set. There is room for 2,560 entries of its tables.
@@ -55,16 +52,13 @@ pub fn step(t: Tally, r: &[u8], set: &mut [f64]) -> Tally {
     let mut all = [0i64; 2560];
     let mut reverse = [0i64; 64];
     let mut r_carts = [0.0f64; 64];
-    values::integers(r, 18, &mut all);
-    let n = size(word_of(r, 7), set.len());
-    let m = size(word_of(r, 8), 64);
-    let k = size(word_of(r, 9), 64);
+    integers(r, 18, &mut all);
     let got = run(
         r,
-        &mut set[0..n],
-        &mut reverse[0..m],
-        &mut r_carts[0..k],
+        part(r, 7, set),
+        part(r, 8, &mut reverse),
+        part(r, 9, &mut r_carts),
         &all,
     );
-    replays::compared(t, r, got[0], &got)
+    t.compared(r, got[0], &got)
 }

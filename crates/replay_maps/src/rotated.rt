@@ -2,8 +2,9 @@
 use capi_fc3::gf_rotate_delta_fc2s;
 use capi_fc4::gf_rotate_delta_fc3s;
 use replays::Tally;
-use replays::records::wide;
-use replays::steps::{count_of, plus, size};
+use replays::records::{wide, word_of};
+use replays::steps::{count_of, part, plus};
+use replays::values::{fill, integers, mix_floats};
 
 // The call that the record names. The answer's number.
 fn call(
@@ -46,20 +47,16 @@ fn call(
 
 // What the set and the work slice hold before the call.
 fn prepare(r: &[u8], set: &mut [f64], rot_delta: &mut [f64]) {
-    let seed = replays::records::word_of(r, 5);
-    replays::values::fill(set, plus(seed, 3), replays::records::word_of(r, 6));
-    replays::values::fill(rot_delta, plus(seed, 4), replays::records::word_of(r, 6));
+    let seed = word_of(r, 5);
+    fill(set, plus(seed, 3), word_of(r, 6));
+    fill(rot_delta, plus(seed, 4), word_of(r, 6));
 }
 
 // What inv_u and site_sym_cart hold.
 fn matrices(r: &[u8], inv_u: &mut [f64], site_sym_cart: &mut [f64]) {
-    let seed = replays::records::word_of(r, 5);
-    replays::values::fill(inv_u, plus(seed, 1), replays::records::word_of(r, 7));
-    replays::values::fill(
-        site_sym_cart,
-        plus(seed, 2),
-        replays::records::word_of(r, 7),
-    );
+    let seed = word_of(r, 5);
+    fill(inv_u, plus(seed, 1), word_of(r, 7));
+    fill(site_sym_cart, plus(seed, 2), word_of(r, 7));
 }
 
 // Reads the map, makes the other slices, which are as long as the record says, and calls.
@@ -72,14 +69,10 @@ fn answer(
     site_sym_cart: &mut [f64],
     rot_map_syms: &mut [i64],
 ) -> u64 {
-    replays::values::fill(
-        delta,
-        replays::records::word_of(r, 5),
-        replays::records::word_of(r, 6),
-    );
+    fill(delta, word_of(r, 5), word_of(r, 6));
     matrices(r, inv_u, site_sym_cart);
     prepare(r, set, rot_delta);
-    replays::values::integers(r, 17, rot_map_syms);
+    integers(r, 17, rot_map_syms);
     call(r, set, rot_delta, delta, inv_u, site_sym_cart, rot_map_syms)
 }
 
@@ -89,33 +82,25 @@ fn work_out(r: &[u8], set: &mut [f64], rot_delta: &mut [f64]) -> u64 {
     let mut inv_u = [0.0f64; 128];
     let mut site_sym_cart = [0.0f64; 128];
     let mut rot_map_syms = [0i64; 128];
-    let a = size(replays::records::word_of(r, 9), 4096);
-    let b = size(replays::records::word_of(r, 10), 128);
-    let c = size(replays::records::word_of(r, 11), 128);
-    let d = size(replays::records::word_of(r, 12), 128);
     answer(
         r,
         set,
         rot_delta,
-        &mut delta[0..a],
-        &mut inv_u[0..b],
-        &mut site_sym_cart[0..c],
-        &mut rot_map_syms[0..d],
+        part(r, 9, &mut delta),
+        part(r, 10, &mut inv_u),
+        part(r, 11, &mut site_sym_cart),
+        part(r, 12, &mut rot_map_syms),
     )
 }
 
 // What the call of the record gave: the number of its answer, and the checksums of the set and of the work slice.
 fn run(r: &[u8], set: &mut [f64], rot_delta: &mut [f64]) -> [u64; 3] {
     let a = work_out(r, set, rot_delta);
-    let s = replays::values::mix_floats(set, 0);
-    let w = replays::values::mix_floats(rot_delta, 0);
-    [a, s, w]
+    [a, mix_floats(set, 0), mix_floats(rot_delta, 0)]
 }
 
 // The record r, with room for its set and its work slice.
 pub fn step(t: Tally, r: &[u8], set: &mut [f64], work: &mut [f64]) -> Tally {
-    let n = size(replays::records::word_of(r, 8), set.len());
-    let m = size(replays::records::word_of(r, 13), work.len());
-    let got = run(r, &mut set[0..n], &mut work[0..m]);
-    replays::compared(t, r, got[0], &got)
+    let got = run(r, part(r, 8, set), part(r, 13, work));
+    t.compared(r, got[0], &got)
 }

@@ -9,45 +9,12 @@ mod crystal_calls;
 mod deviation_calls;
 mod reported;
 
-use replays::Tally;
-use replays::steps::first;
+use replays::pages::replay;
 use std::io;
-use std::io::Read;
-
-// The records of a page, after those of the pages before.
-fn replay(s: &[u8], so_far: Tally) -> Tally {
-    let mut t = so_far;
-    let n = replays::records::count(s);
-    let mut at = first(s);
-    let mut i = 0;
-    while i < n {
-        let e = replays::records::end(s, at);
-        let more = reported::step(t, &s[at..e]);
-        t = more;
-        at = e;
-        i += 1;
-    }
-    t
-}
-
-fn read_page<R: Read>(so_far: Tally, input: &mut R) -> io::Result<Tally> {
-    let mut page = replays::pages::empty_page();
-    let n = replays::pages::read_page(input, &mut page)?;
-    Ok(replay(&page[..n], so_far))
-}
-
-// The records of the next n pages.
-fn pages<R: Read>(n: usize, input: &mut R) -> io::Result<Tally> {
-    let mut t = replays::none();
-    for _ in 0..n {
-        t = read_page(t, input)?;
-    }
-    Ok(t)
-}
 
 fn main(rt: HostRuntime) -> io::Result<()> {
     let mut input = rt.reader();
     let mut out = io::writer(&rt);
-    reported::report_audits(&mut out, pages(3, &mut input)?)?;
-    reported::report(&mut out, pages(10, &mut input)?)
+    reported::report_audits(&mut out, replay(&mut input, 3, reported::step)?)?;
+    reported::report(&mut out, replay(&mut input, 10, reported::step)?)
 }

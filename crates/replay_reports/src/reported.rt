@@ -1,7 +1,9 @@
 // Audits, comparisons of two sets and reports, recorded from the sentences that they are asked for in.
+use crate::{audit_calls, crystal_calls, deviation_calls};
 use replays::Tally;
-use replays::records::word_of;
-use replays::steps::{after, count_of, size, tables_end};
+use replays::records::{float, wide, word_of};
+use replays::shift_tables::ShiftTables;
+use replays::steps::{after, count_of, part, size, table, tables_end};
 use replays::values::{fill, floats, integers, mix_floats, mix_slots};
 use std::io;
 use std::io::Write;
@@ -10,8 +12,7 @@ use std::io::Write;
 fn put(r: &[u8], k: usize, set: &mut [f64]) {
     let at = count_of(r, k);
     if at < set.len() {
-        let x = replays::records::float(word_of(r, after(k, 1)));
-        set[at] = x;
+        set[at] = float(word_of(r, after(k, 1)));
     }
 }
 
@@ -25,10 +26,8 @@ fn made(r: &[u8], set: &mut [f64]) {
     fill(set, word_of(r, 8), word_of(r, 9));
     let from = after(matrices_at(r), count_of(r, 20));
     let n = size(word_of(r, 10), 200);
-    let mut i = 0;
-    while i < n {
+    for i in 0..n {
         put(r, after(from, 2 * i), set);
-        i += 1;
     }
 }
 
@@ -44,40 +43,23 @@ fn prepare(r: &[u8], fc: &mut [f64]) {
 // The crystal report that the record names. There is room for 48 numbers of matrices.
 fn crystal(r: &[u8], fc: &[f64], all: &[i64], place: &mut [usize], numbers: &mut [f64]) -> u8 {
     let mut m = [0.0f64; 48];
-    let n = size(word_of(r, 20), 48);
     floats(r, matrices_at(r), &mut m);
-    crate::crystal_calls::call(r, fc, all, &m[0..n], place, numbers)
+    let t = ShiftTables::of(r, 5, 14, all);
+    let maps = table(r, 14, 4, all);
+    crystal_calls::call(r, fc, t, maps, part(r, 20, &mut m), place, numbers)
 }
 
 // The call that the record names. There is room for 160 entries of its tables, which are one after another: perms, p2s, s2pp, nsym_list and
-// the operations.
+// the operations. The number of the call is only matched, here and where it ends, so no type of its own stands for it.
 fn call(r: &[u8], fc: &[f64], other: &[f64], place: &mut [usize], numbers: &mut [f64]) -> u8 {
     let mut all = [0i64; 160];
     integers(r, 22, &mut all);
-    let k = word_of(r, 4);
-    if k < 20 {
-        return crate::audit_calls::call(r, fc, other, &all, place, numbers);
+    let t = ShiftTables::of(r, 5, 14, &all);
+    match word_of(r, 4) {
+        0..=19 => audit_calls::call(r, fc, other, t, place, numbers),
+        41..=59 => crystal(r, fc, &all, place, numbers),
+        _ => deviation_calls::call(r, fc, other, t, place, numbers),
     }
-    if 40 < k && k < 60 {
-        return crystal(r, fc, &all, place, numbers);
-    }
-    crate::deviation_calls::call(r, fc, other, &all, place, numbers)
-}
-
-// What the call of the record gave: the number of its answer, and the checksums of the slots.
-fn run(
-    r: &[u8],
-    fc: &mut [f64],
-    other: &mut [f64],
-    place: &mut [usize],
-    numbers: &mut [f64],
-) -> [u64; 3] {
-    prepare(r, fc);
-    made(r, other);
-    let a = replays::records::wide(call(r, fc, other, place, numbers));
-    let p = mix_slots(place, 0);
-    let n = mix_floats(numbers, 0);
-    [a, p, n]
 }
 
 // The record r. The slots hold 7 before the call.
@@ -86,24 +68,21 @@ pub fn step(t: Tally, r: &[u8]) -> Tally {
     let mut other = [0.0f64; 800];
     let mut place = [7usize; 7];
     let mut numbers = [7.0f64; 3];
-    let a = size(word_of(r, 11), 10400);
-    let b = size(word_of(r, 12), 800);
-    let c = size(word_of(r, 13), 7);
-    let d = size(word_of(r, 19), 3);
-    let got = run(
-        r,
-        &mut fc[0..a],
-        &mut other[0..b],
-        &mut place[0..c],
-        &mut numbers[0..d],
-    );
-    replays::compared(t, r, got[0], &got)
+    let fc = part(r, 11, &mut fc);
+    let other = part(r, 12, &mut other);
+    let place = part(r, 13, &mut place);
+    let numbers = part(r, 19, &mut numbers);
+    prepare(r, fc);
+    made(r, other);
+    let a = wide(call(r, fc, other, place, numbers));
+    let got = [a, mix_slots(place, 0), mix_floats(numbers, 0)];
+    t.compared(r, a, &got)
 }
 
 // A set that is alike is 73, one that is not 74.
 pub fn report_audits<W: Write>(out: &mut W, t: Tally) -> io::Result<()> {
     let a = t.answers;
-    replays::report(out, b"audits", t)?;
+    t.report(out, b"audits")?;
     replays::line(out, b"alike: ", a[73])?;
     replays::line(out, b"unlike: ", a[74])
 }
@@ -111,7 +90,7 @@ pub fn report_audits<W: Write>(out: &mut W, t: Tally) -> io::Result<()> {
 // Still is 65, worst 66, no number 67.
 pub fn report<W: Write>(out: &mut W, t: Tally) -> io::Result<()> {
     let a = t.answers;
-    replays::report(out, b"reports", t)?;
+    t.report(out, b"reports")?;
     replays::line(out, b"still: ", a[65])?;
     replays::line(out, b"worst: ", a[66])?;
     replays::line(out, b"no number: ", a[67])

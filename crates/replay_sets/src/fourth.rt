@@ -3,33 +3,38 @@ use capi_fc4::{
     gf_set_permutation_symmetry_compact_fc4, gf_set_permutation_symmetry_fc4,
     gf_transpose_compact_fc4,
 };
-use replays::steps::{count_of, table};
+use replays::records::{integer, word_of};
+use replays::shift_tables::ShiftTables;
+use replays::steps::count_of;
+use replays::values::integers;
 
-// The compact call that the record names. The answer's number. The tables are one after another: perms, p2s, s2pp, nsym_list.
-fn compact(r: &[u8], set: &mut [f64], done: &mut [u8], all: &[i64]) -> u8 {
-    let n_satom = count_of(r, 11);
-    let n_patom = count_of(r, 12);
-    let num_trans = count_of(r, 13);
-    let perms = table(r, 14, 0, all);
-    let p2s = table(r, 14, 1, all);
-    let s2pp = table(r, 14, 2, all);
-    let nsym_list = table(r, 14, 3, all);
+// The compact call that the record names. The answer's number.
+fn compact(r: &[u8], set: &mut [f64], done: &mut [u8], t: ShiftTables) -> u8 {
     if count_of(r, 4) == 4 {
         return gf_set_permutation_symmetry_compact_fc4(
-            set, p2s, s2pp, nsym_list, perms, done, n_satom, n_patom, num_trans,
+            set,
+            t.p2s,
+            t.s2pp,
+            t.nsym_list,
+            t.perms,
+            done,
+            t.n_satom,
+            t.n_patom,
+            t.num_trans,
         );
     }
+    let t_type = integer(word_of(r, 6));
     gf_transpose_compact_fc4(
         set,
-        p2s,
-        s2pp,
-        nsym_list,
-        perms,
+        t.p2s,
+        t.s2pp,
+        t.nsym_list,
+        t.perms,
         done,
-        n_satom,
-        n_patom,
-        num_trans,
-        replays::records::integer(replays::records::word_of(r, 6)),
+        t.n_satom,
+        t.n_patom,
+        t.num_trans,
+        t_type,
     )
 }
 
@@ -39,6 +44,6 @@ pub fn call(r: &[u8], set: &mut [f64], done: &mut [u8]) -> u8 {
         return gf_set_permutation_symmetry_fc4(set, done, count_of(r, 11));
     }
     let mut all = [0i64; 451];
-    replays::values::integers(r, 18, &mut all);
-    compact(r, set, done, &all)
+    integers(r, 18, &mut all);
+    compact(r, set, done, ShiftTables::of(r, 11, 14, &all))
 }

@@ -6,13 +6,16 @@ ghost use Rattle.std.specs.Io.KnownBytes.{Appends};
 ghost use Rattle.replays.specs.Report.{line_text, first_line_text, report_text};
 ghost use Rattle.replays.specs.Tally.{no_record, counted_at, tally, differences, mixed_numbers, compare};
 
+use crate::records::{differs, mix, mix_words, word_of};
 use crate::steps::{plus, some};
 use std::io;
 use std::io::Write;
 
+pub mod cursor;
 pub mod pages;
 pub mod records;
 pub mod sets;
+pub mod shift_tables;
 pub mod steps;
 pub mod values;
 
@@ -25,16 +28,63 @@ pub struct Tally {
     pub sum: u64,
 }
 
-// Nothing was compared.
-pub fn none() -> Tally
-    ensures { result ≡ no_record }
-{
-    let answers = [0u64; 128];
-    Tally {
-        seen: 0,
-        differ: 0,
-        answers: answers,
-        sum: 0,
+impl Tally {
+    // Nothing was compared.
+    pub fn none() -> Tally
+        ensures { result ≡ no_record }
+    {
+        Tally {
+            seen: 0,
+            differ: 0,
+            answers: [0; 128],
+            sum: 0,
+        }
+    }
+
+    // One record more, with the number of its answer and of its differences; sum is the checksum after it.
+    pub fn tallied(self, answer: u64, differences: u64, sum: u64) -> Tally
+        ensures { result ≡ tally self answer differences sum }
+    {
+        Tally {
+            seen: plus(self.seen, 1),
+            differ: plus(self.differ, some(differences)),
+            answers: counted(self.answers, answer),
+            sum: sum,
+        }
+    }
+
+    // The record r too, of whose words those from number 1 on were worked out: `got`, with the answer's number among them.
+    pub fn compared(self, r: &[u8], answer: u64, got: &[u64]) -> Tally
+        ensures { result ≡ compare self r.now answer got.now }
+    {
+        let d = different(r, got);
+        let head = mix_numbers(got, mix(self.sum, word_of(r, 0)));
+        let sum = mix_words(r, 1 + got.len(), r.len() / 8, head);
+        self.tallied(answer, d, sum)
+    }
+
+    // The report, with the same lines for every call; `well` calls ended well.
+    pub fn report_with<W: Write>(self, out: &mut W, title: &[u8], well: u64) -> io::Result<()>
+        ensures { OnOk result (Appends (W.contents out.old) (W.contents out.new) (report_text title.now self well)) }
+    {
+        let a = self.answers;
+        first_line(out, title, self.seen, self.differ)?;
+        line(out, b"ended well: ", well)?;
+        line(out, b"refused, 1: ", a[1])?;
+        line(out, b"refused, 2: ", a[2])?;
+        line(out, b"refused, 3: ", a[3])?;
+        line(out, b"refused, 4: ", a[4])?;
+        line(out, b"refused, 5: ", a[5])?;
+        line(out, b"refused, 6: ", a[6])?;
+        line(out, b"checksum ", self.sum)
+    }
+
+    // The report where 0 alone is the number of a call that ended well.
+    pub fn report<W: Write>(self, out: &mut W, title: &[u8]) -> io::Result<()>
+        ensures { OnOk result (Appends (W.contents out.old) (W.contents out.new) (report_text title.now self (slice_index self.answers 0))) }
+    {
+        let a = self.answers;
+        self.report_with(out, title, a[0])
     }
 }
 
@@ -52,32 +102,13 @@ pub fn counted(counts: [u64; 128], k: u64) -> [u64; 128]
     c
 }
 
-// One record more, with the number of its answer and of its differences; sum is the checksum after it.
-pub fn tallied(t: Tally, answer: u64, differences: u64, sum: u64) -> Tally
-    ensures { result ≡ tally t answer differences sum }
-{
-    let before = t.answers;
-    let answers = counted(before, answer);
-    Tally {
-        seen: plus(t.seen, 1),
-        differ: plus(t.differ, some(differences)),
-        answers: answers,
-        sum: sum,
-    }
-}
-
 // How many of `got` differ from the words of the record from number 1 on.
 fn different(r: &[u8], got: &[u64]) -> u64
     ensures { result ≡ differences r.now got.now }
 {
     let mut d = 0;
-    let mut i = 0;
-    while i < got.len() {
-        d = plus(
-            d,
-            crate::records::differs(got[i], crate::records::word_of(r, 1 + i)),
-        );
-        i += 1;
+    for (i, x) in got.iter().enumerate() {
+        d = plus(d, differs(*x, word_of(r, 1 + i)));
     }
     d
 }
@@ -86,26 +117,7 @@ fn different(r: &[u8], got: &[u64]) -> u64
 fn mix_numbers(got: &[u64], h: u64) -> u64
     ensures { result ≡ mixed_numbers got.now h }
 {
-    let mut g = h;
-    let mut i = 0;
-    while i < got.len() {
-        g = crate::records::mix(g, got[i]);
-        i += 1;
-    }
-    g
-}
-
-// The record r too, of whose words those from number 1 on were worked out: `got`, with the answer's number among them.
-pub fn compared(t: Tally, r: &[u8], answer: u64, got: &[u64]) -> Tally
-    ensures { result ≡ compare t r.now answer got.now }
-{
-    let d = different(r, got);
-    let head = mix_numbers(
-        got,
-        crate::records::mix(t.sum, crate::records::word_of(r, 0)),
-    );
-    let sum = crate::records::mix_words(r, 1 + got.len(), r.len() / 8, head);
-    tallied(t, answer, d, sum)
+    got.iter().fold(h, |g, x| mix(g, *x))
 }
 
 // A line of the report.
@@ -122,29 +134,4 @@ pub fn first_line<W: Write>(out: &mut W, title: &[u8], seen: u64, differ: u64) -
 {
     out.write_all(title)?;
     writeln!(out, ": {seen} compared, {differ} differ")
-}
-
-// The report, with the same lines for every call; `well` calls ended well.
-pub fn report_with<W: Write>(out: &mut W, title: &[u8], t: Tally, well: u64) -> io::Result<()>
-    ensures { OnOk result (Appends (W.contents out.old) (W.contents out.new) (report_text title.now t well)) }
-{
-    let a = t.answers;
-    first_line(out, title, t.seen, t.differ)?;
-    line(out, b"ended well: ", well)?;
-    line(out, b"refused, 1: ", a[1])?;
-    line(out, b"refused, 2: ", a[2])?;
-    line(out, b"refused, 3: ", a[3])?;
-    line(out, b"refused, 4: ", a[4])?;
-    line(out, b"refused, 5: ", a[5])?;
-    line(out, b"refused, 6: ", a[6])?;
-    line(out, b"checksum ", t.sum)
-}
-
-// The report where 0 alone is the number of a call that ended well.
-pub fn report<W: Write>(out: &mut W, title: &[u8], t: Tally) -> io::Result<()>
-    ensures { OnOk result (Appends (W.contents out.old) (W.contents out.new) (report_text title.now t (slice_index t.answers 0))) }
-{
-    let a = t.answers;
-    let well = a[0];
-    report_with(out, title, t, well)
 }

@@ -10,7 +10,7 @@ ghost use Rattle.replays.specs.Words.{half_at, word_at, word_of, records_in, rec
 pub fn wide(x: u8) -> u64
     ensures { (result ≡ x) × (result < 256) }
 {
-    x as u64
+    u64::from(x)
 }
 
 // The four bytes at `at`, the lowest first.
@@ -18,7 +18,7 @@ fn half(s: &[u8], at: usize) -> u64
     requires { at + 4 ≤ length s.now }
     ensures { (result ≡ half_at s.now at) × (result < 4294967296) }
 {
-    wide(s[at]) + 256 * wide(s[at + 1]) + 65536 * wide(s[at + 2]) + 16777216 * wide(s[at + 3])
+    u64::from(u32::from_le_bytes([s[at], s[at + 1], s[at + 2], s[at + 3]]))
 }
 
 // The eight bytes at `at`, the lowest first.
@@ -71,7 +71,7 @@ pub fn float(b: u64) -> f64
     ensures { result ≡ from_bits binary64 b }
 {
     if b % 0x8000_0000_0000_0000 > 0x7ff0_0000_0000_0000 {
-        return 0.0 / 0.0;
+        return f64::NAN;
     }
     f64::from_bits(b)
 }
@@ -80,29 +80,21 @@ pub fn float(b: u64) -> f64
 pub fn integer_word(n: i64) -> u64
     ensures { result ≡ of_z w64 n }
 {
-    if n >= 0 {
-        n as u64
-    } else {
-        0xffff_ffff_ffff_ffff - ((-1 - n) as u64)
-    }
+    n.cast_unsigned()
 }
 
 // The integer of a word: those from 2^63 on are negative.
 pub fn integer(w: u64) -> i64
     ensures { result ≡ to_z w64 w }
 {
-    if w < 0x8000_0000_0000_0000 {
-        w as i64
-    } else {
-        -1 - ((0xffff_ffff_ffff_ffff - w) as i64)
-    }
+    w.cast_signed()
 }
 
 // 1 where the two words differ, else 0.
 pub fn differs(got: u64, want: u64) -> u64
     ensures { result ≡ (if nat_eq got want then 0 else 1) }
 {
-    if got == want { 0 } else { 1 }
+    u64::from(got != want)
 }
 
 // The checksum h after one word more.
@@ -117,10 +109,8 @@ pub fn mix_words(s: &[u8], from: usize, to: usize, h: u64) -> u64
     ensures { result ≡ times (to - from) (λ i. mixed_at s.now (from + i)) h }
 {
     let mut g = h;
-    let mut k = from;
-    while k < to {
+    for k in from..to {
         g = mix(g, word_of(s, k));
-        k += 1;
     }
     g
 }

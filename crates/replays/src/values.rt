@@ -1,11 +1,12 @@
 // The numbers of a set that the recorder and the replay programs both make from a seed, tables read from a record, and
 // the checksum over a slice.
-ghost use Rattle.std.specs.Prelude.{◌≡◌, ◌+◌, ◌%◌, ◌^◌, ◌<◌, length};
+ghost use Rattle.std.specs.Prelude.{◌≡◌, ℕ, ◌+◌, ◌%◌, ◌^◌, ◌<◌, length, slice_index_or};
 ghost use Rattle.lists.specs.Tab.{tab, times};
 ghost use Rattle.replays.specs.Values.{stirred, drawn, class_of, shaped_bits, value_at, byte_at, integer_at, table_entry, float_at, byte_of, mixed_float, mixed_integer};
 ghost use Rattle.replays.specs.Words.{mixed_number};
 
 use crate::records::{float, integer, integer_word, mix, wide, word_of};
+use crate::steps::after;
 use common::float_word;
 use places::index_of;
 
@@ -23,7 +24,8 @@ const CLASSES: [u64; 256] = [
     0, 0, 0, 0, 0, 0, 0, 0, 0, 0, 0, 0, 0, 0, 0, 0, 0, 0, 0, 0, 0, 0, 0, 0, 0, 0, 0, 0, 0, 0, 0, 0,
 ];
 
-// The bits of a pattern that a number of each class keeps, and those that are set in it.
+// The bits of a pattern that a number of each class keeps, and those that are set in it: two lists, as the definitions have them, whose lines are
+// read beside one another.
 const KEPT: [u64; 16] = [
     0x807f_ffff_ffff_ffff,
     0x8000_0000_0000_0000,
@@ -81,18 +83,15 @@ fn draw(seed: u64, i: usize) -> u64
 fn class(kind: u64, a: u64) -> u64
     ensures { result ≡ class_of kind a }
 {
-    let t = CLASSES;
-    t[index_of((kind % 16) as usize, 16, (a % 16) as usize)]
+    CLASSES[index_of((kind % 16) as usize, 16, (a % 16) as usize)]
 }
 
 // The pattern b as that of a number of the class.
 fn shaped(class: u64, b: u64) -> u64
     ensures { result ≡ shaped_bits class b }
 {
-    let k = KEPT;
-    let s = SET;
     let c = (class % 16) as usize;
-    (b & k[c]) | s[c]
+    (b & KEPT[c]) | SET[c]
 }
 
 // Number i of a set with this seed and of this kind.
@@ -105,16 +104,21 @@ pub fn value(seed: u64, kind: u64, i: usize) -> f64
     float(shaped(class(kind, a), b + 4294967296 * c))
 }
 
+// Puts f(i) at each place i of a slice.
+fn fill_by<T: Copy, F: Fn(usize) -> T>(out: &mut [T], f: F)
+    requires { F.IsAlwaysCallable f }
+    ensures { (d : T) (k : ℕ) → k < length out.old → F.post f k (slice_index_or out.new k d) }
+{
+    for i in 0..out.len() {
+        out[i] = f(i);
+    }
+}
+
 // Fills a set.
 pub fn fill(out: &mut [f64], seed: u64, kind: u64)
     ensures { out.new ≡ tab (length out.old) (λ i. value_at seed kind i) }
 {
-    let mut i = 0;
-    while i < out.len() {
-        let x = value(seed, kind, i);
-        out[i] = x;
-        i += 1;
-    }
+    fill_by(out, |i| value(seed, kind, i));
 }
 
 // A byte of a work slice.
@@ -128,12 +132,7 @@ fn byte(seed: u64, i: usize) -> u8
 pub fn fill_bytes(out: &mut [u8], seed: u64)
     ensures { out.new ≡ tab (length out.old) (λ i. byte_at seed i) }
 {
-    let mut i = 0;
-    while i < out.len() {
-        let x = byte(seed, i);
-        out[i] = x;
-        i += 1;
-    }
+    fill_by(out, |i| byte(seed, i));
 }
 
 // An integer of a work slice.
@@ -147,115 +146,68 @@ fn whole(seed: u64, i: usize) -> i64
 pub fn fill_integers(out: &mut [i64], seed: u64)
     ensures { out.new ≡ tab (length out.old) (λ i. integer_at seed i) }
 {
-    let mut i = 0;
-    while i < out.len() {
-        let x = whole(seed, i);
-        out[i] = x;
-        i += 1;
-    }
+    fill_by(out, |i| whole(seed, i));
 }
 
 // Entry i of a table whose entries are the words of the record from number `from` on.
 fn entry(r: &[u8], from: usize, i: usize) -> i64
     ensures { result ≡ table_entry r.now from i }
 {
-    integer(word_of(r, std::num::wrapping_add_usize(from, i)))
+    integer(word_of(r, after(from, i)))
 }
 
 // Reads a table: the words of the record from number `from` on.
 pub fn integers(r: &[u8], from: usize, out: &mut [i64])
     ensures { out.new ≡ tab (length out.old) (λ i. table_entry r.now from i) }
 {
-    let mut i = 0;
-    while i < out.len() {
-        let x = entry(r, from, i);
-        out[i] = x;
-        i += 1;
-    }
+    fill_by(out, |i| entry(r, from, i));
 }
 
 // Reads a slice of floats: the words of the record from number `from` on.
 pub fn floats(r: &[u8], from: usize, out: &mut [f64])
     ensures { out.new ≡ tab (length out.old) (λ i. float_at r.now from i) }
 {
-    let mut i = 0;
-    while i < out.len() {
-        let x = float(word_of(r, std::num::wrapping_add_usize(from, i)));
-        out[i] = x;
-        i += 1;
-    }
+    fill_by(out, |i| float(word_of(r, after(from, i))));
 }
 
 // Byte k of a record, 0 past its end.
 fn byte_of(r: &[u8], k: usize) -> u8
     ensures { result ≡ byte_of r.now k }
 {
-    if k < r.len() {
-        return r[k];
-    }
-    0
+    r.get(k).copied().unwrap_or(0)
 }
 
 // Reads a slice of bytes: those of the record from byte `from` on.
 pub fn bytes(r: &[u8], from: usize, out: &mut [u8])
     ensures { out.new ≡ tab (length out.old) (λ i. byte_of r.now ((from + i) % 2 ^ 64)) }
 {
-    let mut i = 0;
-    while i < out.len() {
-        let x = byte_of(r, std::num::wrapping_add_usize(from, i));
-        out[i] = x;
-        i += 1;
-    }
+    fill_by(out, |i| byte_of(r, after(from, i)));
 }
 
 // The checksum h after the numbers of a slice.
 pub fn mix_floats(s: &[f64], h: u64) -> u64
     ensures { result ≡ times (length s.now) (λ i. mixed_float s.now i) h }
 {
-    let mut g = h;
-    let mut i = 0;
-    while i < s.len() {
-        g = mix(g, float_word(s[i]));
-        i += 1;
-    }
-    g
+    s.iter().fold(h, |g, x| mix(g, float_word(*x)))
 }
 
 // The checksum h after the bytes of a slice.
 pub fn mix_bytes(s: &[u8], h: u64) -> u64
     ensures { result ≡ times (length s.now) (λ i. mixed_number s.now i) h }
 {
-    let mut g = h;
-    let mut i = 0;
-    while i < s.len() {
-        g = mix(g, wide(s[i]));
-        i += 1;
-    }
-    g
+    s.iter().fold(h, |g, x| mix(g, wide(*x)))
 }
 
 // The checksum h after the integers of a slice.
 pub fn mix_integers(s: &[i64], h: u64) -> u64
     ensures { result ≡ times (length s.now) (λ i. mixed_integer s.now i) h }
 {
-    let mut g = h;
-    let mut i = 0;
-    while i < s.len() {
-        g = mix(g, integer_word(s[i]));
-        i += 1;
-    }
-    g
+    s.iter().fold(h, |g, x| mix(g, integer_word(*x)))
 }
 
 // The checksum h after the slots of a place.
 pub fn mix_slots(s: &[usize], h: u64) -> u64
     ensures { result ≡ times (length s.now) (λ i. mixed_number s.now i) h }
 {
-    let mut g = h;
-    let mut i = 0;
-    while i < s.len() {
-        g = mix(g, s[i] as u64);
-        i += 1;
-    }
-    g
+    s.iter().fold(h, |g, x| mix(g, *x as u64))
 }

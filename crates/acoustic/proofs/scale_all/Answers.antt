@@ -10,9 +10,9 @@ pub loop-k-preserved : goal.loop-k-preserved
 loop-k-preserved c =
     let l = c.loop-k in
     let a = c.args in
-    mapping_more (λ _ y. mul binary64 y a.x) a.s.now l.k _ (rw (sym l.invariant.long) c.loop-k-test.true) l.invariant
+    mapping_more (λ _ y. mul binary64 y a.x) a.s.now l.k _ c.loop-k-test.true l.invariant
 
 pub returns : goal.returns
 returns c =
     let a = c.args in
-    mapping_all (λ _ y. mul binary64 y a.x) a.s.now _ _ (rw (sym c.loop-k.invariant.long) c.loop-k-test.false) c.loop-k.invariant
+    mapping_all (λ _ y. mul binary64 y a.x) a.s.now _ _ c.loop-k-test.false c.loop-k.invariant

@@ -6,6 +6,3 @@ use Rattle.acoustic.proofs.scale_all.Given as goal
 
 abbrev pub invariant-loop-k : goal.invariant-loop-k
 invariant-loop-k l = Mapping (λ _ y. mul binary64 y l.x) l.initial.s l.k l.s
-
-abbrev pub decreases-loop-k : goal.decreases-loop-k
-decreases-loop-k l = length l.initial.s - l.k

@@ -6,6 +6,3 @@ use Rattle.acoustic.proofs.take_all.Given as goal
 
 abbrev pub invariant-loop-k : goal.invariant-loop-k
 invariant-loop-k l = Mapping (λ j y. sub binary64 y (get_or l.d j nan)) l.initial.s l.k l.s
-
-abbrev pub decreases-loop-k : goal.decreases-loop-k
-decreases-loop-k l = length l.d - l.k

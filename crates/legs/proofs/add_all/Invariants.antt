@@ -6,6 +6,3 @@ use Rattle.legs.proofs.add_all.Given as goal
 abbrev pub invariant-loop-k : goal.invariant-loop-k
 invariant-loop-k l =
     Adding l.initial.s l.b l.k l.s
-
-abbrev pub decreases-loop-k : goal.decreases-loop-k
-decreases-loop-k l = length l.b - l.k

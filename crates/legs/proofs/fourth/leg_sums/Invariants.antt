@@ -6,7 +6,4 @@ use Rattle.legs.proofs.fourth.leg_sums.Given as goal
 
 abbrev pub invariant-loop-i : goal.invariant-loop-i
 invariant-loop-i l =
-    (l.i ≤ l.tables.n_satom) × (l.sums ≡ block_sums 81 (leg_block (shifts_of (given l.tables)) 3 l.leg l.t) l.i l.fc)
-
-abbrev pub decreases-loop-i : goal.decreases-loop-i
-decreases-loop-i l = l.tables.n_satom - l.i
+    l.sums ≡ block_sums 81 (leg_block (shifts_of (given l.tables)) 3 l.leg l.t) l.i l.fc

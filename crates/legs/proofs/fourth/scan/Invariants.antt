@@ -7,7 +7,4 @@ use Rattle.legs.proofs.fourth.scan.Given as goal
 
 abbrev pub invariant-loop-e : goal.invariant-loop-e
 invariant-loop-e l =
-    (l.e ≤ 4) × (l.seen ≡ times l.e (leg_seen (shifts_of (given l.tables)) 3 l.fc 81) l.initial.seen)
-
-abbrev pub decreases-loop-e : goal.decreases-loop-e
-decreases-loop-e l = 4 - l.e
+    l.seen ≡ times l.e (leg_seen (shifts_of (given l.tables)) 3 l.fc 81) l.initial.seen

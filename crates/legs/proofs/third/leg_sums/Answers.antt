@@ -10,7 +10,7 @@ use Rattle.legs.specs.Laws.{leg_block, block_sums, sums_none, sums-more, length-
 use Rattle.legs.proofs.third.leg_sums.Goals as goal
 
 pub loop-i-init : goal.loop-i-init
-loop-i-init c = (omega arith, sums_none 27 _ _)
+loop-i-init c = sums_none 27 _ _
 
 pub leg_block-at-requires : goal.leg_block-at-requires
 leg_block-at-requires c = (c.requires.0.fit, c.requires.1, c.requires.2, c.loop-i-test.true)
@@ -26,13 +26,13 @@ slice_bounds-add_all-end c =
     let a = c.args in
     let T : ShiftTables = given a.tables.now in
     let l = c.loop-i in
-    sym (ap length l.invariant.1 ∙ length-sums 27 (leg_block (shifts_of T) 2 a.leg a.t) l.i a.fc.now)
+    sym (ap length l.invariant ∙ length-sums 27 (leg_block (shifts_of T) 2 a.leg a.t) l.i a.fc.now)
 
 pub add_all-requires : goal.add_all-requires
 add_all-requires c =
     let a = c.args in
     let lb = ap length c.read27-b.ensures ∙ length-block 27 c.leg_block-at.result a.fc.now in
-    let ls = ap length c.loop-i.invariant.1 ∙ length-sums 27 _ c.loop-i.i a.fc.now in
+    let ls = ap length c.loop-i.invariant ∙ length-sums 27 _ c.loop-i.i a.fc.now in
     lb ∙ sym ls
 
 pub loop-i-preserved : goal.loop-i-preserved
@@ -40,7 +40,7 @@ loop-i-preserved c =
     let a = c.args in
     let T : ShiftTables = given a.tables.now in
     let l = c.loop-i in
-    (omega arith, sums-more 27 (leg_block (shifts_of T) 2 a.leg a.t) l.i a.fc.now l.invariant.1 (c.read27-b.ensures ∙ ap (λ b. block 27 b a.fc.now) c.leg_block-at.ensures) c.add_all.ensures)
+    sums-more 27 (leg_block (shifts_of T) 2 a.leg a.t) l.i a.fc.now l.invariant (c.read27-b.ensures ∙ ap (λ b. block 27 b a.fc.now) c.leg_block-at.ensures) c.add_all.ensures
 
 pub returns : goal.returns
 returns c =
@@ -48,4 +48,4 @@ returns c =
     let T : ShiftTables = given a.tables.now in
     let l = c.loop-i in
     let i : l.i ≡ a.tables.now.n_satom = omega arith in
-    l.invariant.1 ∙ ap (λ k. block_sums 27 (leg_block (shifts_of T) 2 a.leg a.t) k a.fc.now) i
+    l.invariant ∙ ap (λ k. block_sums 27 (leg_block (shifts_of T) 2 a.leg a.t) k a.fc.now) i

@@ -20,7 +20,7 @@ pub overflow_mul-count : goal.overflow_mul-count
 overflow_mul-count c = let h = c.requires.0.fit.satoms in let g = mul-le-mul h h in omega arith
 
 pub loop-t-init : goal.loop-t-init
-loop-t-init c = (omega arith, times_none _ _)
+loop-t-init c = times_none _ _
 
 pub overflow_sub-e : goal.overflow_sub-e
 overflow_sub-e c = let h = c.requires.1 in omega arith
@@ -45,8 +45,8 @@ index_of-first-requires c =
     let e = c.index_of.ensures in
     omega arith
 
-pub look_numbers-more-requires : goal.look_numbers-more-requires
-look_numbers-more-requires c =
+pub look_numbers-seen-requires : goal.look_numbers-seen-requires
+look_numbers-seen-requires c =
     let a = c.args in
     let T : ShiftTables = given a.tables.now in
     let h = c.requires.0.fit.satoms in
@@ -64,11 +64,8 @@ loop-t-preserved c =
     let T : ShiftTables = given a.tables.now in
     let l = c.loop-t in
     let e : c.index_of-first.result ≡ (a.e * times_power a.tables.now.n_satom 2 1 + l.t) * 27 =
-    c.index_of-first.ensures ∙ zero_more _ ∙ ap (λ x. x * 27) (c.index_of.ensures ∙ ap (λ x. a.e * x + l.t) (power a.tables.now.n_satom)) in (
-      omega arith,
-      times_more l.t _ _ l.invariant.1
-          (c.look_numbers-more.ensures ∙ look_is (shifts_of T) 2 a.fc.now 27 a.e l.t l.seen e c.leg_sums-sums.ensures),
-    )
+    c.index_of-first.ensures ∙ zero_more _ ∙ ap (λ x. x * 27) (c.index_of.ensures ∙ ap (λ x. a.e * x + l.t) (power a.tables.now.n_satom)) in 
+    times_more l.t _ _ l.invariant (c.look_numbers-seen.ensures ∙ look_is (shifts_of T) 2 a.fc.now 27 a.e l.t l.seen e c.leg_sums-sums.ensures)
 
 pub returns : goal.returns
 unfolding leg_seen
@@ -76,5 +73,5 @@ returns c =
     let a = c.args in
     let T : ShiftTables = given a.tables.now in
     let l = c.loop-t in
-    let i : l.t ≡ a.tables.now.n_satom * a.tables.now.n_satom = omega (arith, c.loop-t-test.false, l.invariant.0) in
-    l.invariant.1 ∙ ap (λ k. times k (line_seen (shifts_of T) 2 a.fc.now 27 a.e) a.seen0) (i ∙ power a.tables.now.n_satom)
+    let i : l.t ≡ a.tables.now.n_satom * a.tables.now.n_satom = omega arith in
+    l.invariant ∙ ap (λ k. times k (line_seen (shifts_of T) 2 a.fc.now 27 a.e) a.seen0) (i ∙ power a.tables.now.n_satom)

@@ -7,7 +7,4 @@ use Rattle.legs.proofs.third.look_leg.Given as goal
 
 abbrev pub invariant-loop-t : goal.invariant-loop-t
 invariant-loop-t l =
-    (l.t ≤ l.count) × (l.seen ≡ times l.t (line_seen (shifts_of (given l.tables)) 2 l.fc 27 l.e) l.initial.seen)
-
-abbrev pub decreases-loop-t : goal.decreases-loop-t
-decreases-loop-t l = l.count - l.t
+    l.seen ≡ times l.t (line_seen (shifts_of (given l.tables)) 2 l.fc 27 l.e) l.initial.seen

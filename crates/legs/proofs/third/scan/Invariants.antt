@@ -7,7 +7,4 @@ use Rattle.legs.proofs.third.scan.Given as goal
 
 abbrev pub invariant-loop-e : goal.invariant-loop-e
 invariant-loop-e l =
-    (l.e ≤ 3) × (l.seen ≡ times l.e (leg_seen (shifts_of (given l.tables)) 2 l.fc 27) l.initial.seen)
-
-abbrev pub decreases-loop-e : goal.decreases-loop-e
-decreases-loop-e l = 3 - l.e
+    l.seen ≡ times l.e (leg_seen (shifts_of (given l.tables)) 2 l.fc 27) l.initial.seen

@@ -6,23 +6,17 @@ use Rattle.replays.proofs.records.mix_words.Goals as goal
 pub loop-k-init : goal.loop-k-init
 loop-k-init c =
     let a = c.args in
-    (omega arith, omega arith, times-at a.from (λ i. mixed_at a.s.now (a.from + i)) a.h)
-
-pub overflow_add-k : goal.overflow_add-k
-overflow_add-k c = omega arith
-
-pub loop-k-smaller : goal.loop-k-smaller
-loop-k-smaller c = omega arith
+    (omega arith, times-at a.from (λ i. mixed_at a.s.now (a.from + i)) a.h)
 
 pub loop-k-preserved : goal.loop-k-preserved
 loop-k-preserved c =
     let a = c.args in
     let l = c.loop-k in
-    (omega arith, omega arith, times-from a.from l.k (mixed_at a.s.now) a.h l.invariant.0 l.invariant.2 (c.mix-g.ensures ∙ ap (mixed l.g) c.word_of.ensures))
+    (omega arith, times-from a.from l.k (mixed_at a.s.now) a.h (omega arith) l.invariant.1 (c.mix-g.ensures ∙ ap (mixed l.g) c.word_of.ensures))
 
 pub returns : goal.returns
 returns c =
     let a = c.args in
     let l = c.loop-k in
     let e : l.k - a.from ≡ a.to - a.from = omega arith in
-    l.invariant.2 ∙ ap (λ (n : ℕ). times n (λ i. mixed_at a.s.now (a.from + i)) a.h) e
+    l.invariant.1 ∙ ap (λ (n : ℕ). times n (λ i. mixed_at a.s.now (a.from + i)) a.h) e

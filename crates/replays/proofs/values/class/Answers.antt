@@ -5,8 +5,8 @@ use Rattle.replays.proofs.values.class.Goals as goal
 pub index_of-requires : goal.index_of-requires
 index_of-requires c = omega arith
 
-pub bounds-t-index_of : goal.bounds-t-index_of
-bounds-t-index_of c = rw c.index_of.ensures (omega arith)
+pub bounds-index_of : goal.bounds-index_of
+bounds-index_of c = rw c.index_of.ensures (omega arith)
 
 pub returns : goal.returns
 unfolding classes

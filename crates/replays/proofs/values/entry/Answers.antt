@@ -6,4 +6,4 @@ use Rattle.replays.proofs.values.entry.Goals as goal
 pub returns : goal.returns
 returns c =
     let r = c.args.r.now in
-    to_z-of_z w64 _ (record { sfits = c.integer.type_inv }) ∙ c.integer.ensures ∙ ap (to_z w64) (c.word_of.ensures ∙ ap (word_of r) c.wrapping_add_usize.ensures.value)
+    to_z-of_z w64 _ (record { sfits = c.integer.type_inv }) ∙ c.integer.ensures ∙ ap (to_z w64) (c.word_of.ensures ∙ ap (word_of r) c.after.ensures)

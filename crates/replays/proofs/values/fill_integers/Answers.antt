@@ -1,20 +1,9 @@
-use Rattle.std.proofs.Common.{pos, ◌∙◌, arith, w64}
-use mir.ValLaws.{to_z-of_z}
+use Rattle.std.proofs.Common.{pos, rules}
+use Rattle.lists.specs.Tab.{is_tab}
 use Rattle.replays.specs.Values.{integer_at}
-use Rattle.replays.specs.FilledLaws.{filled_none, filled_more, filled-all}
 use Rattle.replays.proofs.values.fill_integers.Goals as goal
-
-pub loop-i-init : goal.loop-i-init
-loop-i-init c =
-    let a = c.args in
-    filled_none (pos 0) (λ i. integer_at a.seed i) a.out.now
-
-pub loop-i-preserved : goal.loop-i-preserved
-loop-i-preserved c =
-    let l = c.loop-i in
-    filled_more (pos 0) _ _ l.i l.out _ (omega arith) (to_z-of_z w64 _ (record { sfits = c.whole-x.type_inv }) ∙ c.whole-x.ensures) l.invariant
 
 pub returns : goal.returns
 returns c =
-    let l = c.loop-i in
-    filled-all (pos 0) _ _ l.i l.out (omega arith) l.invariant
+    let a = c.args in
+    is_tab (pos 0) _ (λ i. integer_at a.seed i) c.fill_by.new.out c.fill_by.auto.out (λ k h. let p = c.fill_by.ensures (pos 0) k h in search rules)

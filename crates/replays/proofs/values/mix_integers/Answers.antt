@@ -1,24 +1,10 @@
-use Rattle.std.proofs.Common.{◌≡◌, ℕ, length, get_or, pos, ap, ◌∙◌, arith, w64, of_z, rules}
-use mir.ValLaws.{to_z-of_z}
-use Rattle.lists.specs.Tab.{times, times_none, times_more}
+use Rattle.std.proofs.Common.{◌≡◌, ◌∙◌, fold, pos, of_z, w64, rules}
 use Rattle.replays.specs.Words.{mixed}
-use Rattle.replays.specs.Values.{mixed_integer}
+use Rattle.replays.proofs.FoldLaws.{fold-times}
 use Rattle.replays.proofs.values.mix_integers.Goals as goal
-
-pub loop-i-init : goal.loop-i-init
-loop-i-init c =
-    let a = c.args in
-    (omega arith, times_none (λ i. mixed_integer a.s.now i) a.h)
-
-pub loop-i-preserved : goal.loop-i-preserved
-loop-i-preserved c =
-    let l = c.loop-i in
-    let a = c.args in
-    (omega arith, times_more l.i (λ i. mixed_integer a.s.now i) a.h l.invariant.1 (c.mix-g.ensures ∙ ap (mixed l.g) (c.integer_word.ensures ∙ ap (of_z w64) {y = get_or a.s.now l.i (pos 0)} (to_z-of_z w64 (get_or a.s.now l.i (pos 0)) (search rules)))))
 
 pub returns : goal.returns
 returns c =
-    let l = c.loop-i in
     let a = c.args in
-    let e : l.i ≡ length a.s.now = omega arith in
-    l.invariant.1 ∙ ap (λ (n : ℕ). times n (λ i. mixed_integer a.s.now i) a.h) e
+    let e : c.fold.result ≡ fold (λ h x. mixed h (of_z w64 x)) a.h a.s.now = search rules in
+    e ∙ fold-times (pos 0) (λ h x. mixed h (of_z w64 x)) a.h a.s.now
