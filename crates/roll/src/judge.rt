@@ -47,14 +47,12 @@ fn mark_starts(b: &[u8], n: usize, t: usize, marks: &mut [u8; 65536]) -> bool
     ensures { (result ≡ follow b.now n t) × (result ≡ true → Marked b.now n marks.new) }
 {
     let mut at = 0;
-    let mut i = 0;
-    while i < n {
+    for _ in 0..n {
         if !fits(b, at, t) {
             return false;
         }
         marks[at] = 1u8;
         at = record_end(b, at);
-        i += 1;
     }
     at == t
 }
@@ -64,8 +62,7 @@ fn lists_once(b: &[u8], n: usize, t: usize, marks: &mut [u8; 65536]) -> bool
     requires { (n ≡ count_of b.now) × (t ≡ trailer_at b.now) × Sized b.now n t × Marked b.now n marks.old }
     ensures { result ≡ every n (λ i. listed_once b.now i) }
 {
-    let mut i = 0;
-    while i < n {
+    for i in 0..n {
         let x = four(b, listed_at(t, i));
         if t <= x {
             return false;
@@ -74,7 +71,6 @@ fn lists_once(b: &[u8], n: usize, t: usize, marks: &mut [u8; 65536]) -> bool
             return false;
         }
         marks[x] = 0u8;
-        i += 1;
     }
     true
 }
@@ -97,8 +93,7 @@ fn lists_in_order(b: &[u8], n: usize, t: usize) -> bool
     ensures { result ≡ (follow b.now n t && every n (λ i. eqb (listed b.now i) (record_start b.now i))) }
 {
     let mut p = 0;
-    let mut i = 0;
-    while i < n {
+    for i in 0..n {
         if !fits(b, p, t) {
             return false;
         }
@@ -106,7 +101,6 @@ fn lists_in_order(b: &[u8], n: usize, t: usize) -> bool
             return false;
         }
         p = record_end(b, p);
-        i += 1;
     }
     p == t
 }

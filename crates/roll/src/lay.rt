@@ -15,11 +15,7 @@ pub fn lay(s: &mut [u8], at: usize, src: &[u8])
     requires { at + length src.now ≤ length s.old }
     ensures { s.new ≡ laid s.old at src.now }
 {
-    let mut i = 0;
-    while i < src.len() {
-        s[at + i] = src[i];
-        i += 1;
-    }
+    s[at..at + src.len()].copy_from_slice(src);
 }
 
 // Lays a number over the 4 bytes at `at`.

@@ -8,7 +8,4 @@ use Rattle.roll.specs.Laid.{laid}
 use Rattle.roll.proofs.append.lay_starts.Given as goal
 
 abbrev pub invariant-loop-i : goal.invariant-loop-i
-invariant-loop-i l = (l.i ≤ l.n) × (length l.s ≡ length l.initial.s) × (l.at ≡ record_start l.initial.s l.i) × (l.s ≡ laid l.initial.s l.t (in_fours (tab l.i (record_start l.initial.s))))
-
-abbrev pub decreases-loop-i : goal.decreases-loop-i
-decreases-loop-i l = l.n - l.i
+invariant-loop-i l = (length l.s ≡ length l.initial.s) × (l.at ≡ record_start l.initial.s l.i) × (l.s ≡ laid l.initial.s l.t (in_fours (tab l.i (record_start l.initial.s))))
