@@ -21,20 +21,17 @@ pub enum Standing {
     Retired,
     // the number to use
     Current(u32),
-    // 7: the bytes are not a roll; 9: a record delivers a set again, names one that no record before it delivers, or replaces
-    // one for the second time
-    Refused(Refusal),
 }
 
 // The number of an answer; 0 is a set to use.
-pub fn standing_number(a: Standing) -> u8
+pub fn standing_number(a: Result<Standing, Refusal>) -> u8
     ensures { result ≡ standing_number a }
 {
     match a {
-        Standing::Unknown => 70,
-        Standing::Retired => 71,
-        Standing::Current(_) => 0,
-        Standing::Refused(r) => tables::refusal_number(r),
+        Ok(Standing::Unknown) => 70,
+        Ok(Standing::Retired) => 71,
+        Ok(Standing::Current(_)) => 0,
+        Err(r) => tables::refusal_number(r),
     }
 }
 
@@ -79,15 +76,6 @@ fn replaces_at(b: &[u8], at: usize, x: usize) -> bool
     earlier_at(b, at) == x
 }
 
-fn either(x: bool, y: bool) -> bool
-    ensures { result ≡ (x || y) }
-{
-    if x {
-        return true;
-    }
-    y
-}
-
 // What replaced x when the record at `at` is noted too.
 fn replacer(b: &[u8], at: usize, x: usize, by: usize) -> usize
     requires { (at + 10 ≤ length b.now) × (by < 4294967296) }
@@ -108,13 +96,11 @@ pub fn look_up(b: &[u8], n: usize, x: usize) -> Found
     let mut retired = false;
     let mut by = 0;
     let mut p = 0;
-    let mut i = 0;
-    while i < n {
-        delivered = either(delivered, delivers_at(b, p, x));
-        retired = either(retired, retires_at(b, p, x));
+    for _ in 0..n {
+        delivered |= delivers_at(b, p, x);
+        retired |= retires_at(b, p, x);
         by = replacer(b, p, x, by);
         p = record_end(b, p);
-        i += 1;
     }
     Found {
         delivered,
@@ -152,13 +138,11 @@ pub fn is_lawful(b: &[u8], n: usize) -> bool
     ensures { result ≡ lawful_to (record_of b.now) n }
 {
     let mut p = 0;
-    let mut i = 0;
-    while i < n {
+    for i in 0..n {
         if !is_allowed(b, i, p) {
             return false;
         }
         p = record_end(b, p);
-        i += 1;
     }
     true
 }
@@ -170,11 +154,9 @@ pub fn end_of(b: &[u8], n: usize, x: usize) -> usize
 {
     let mut y = x;
     let mut p = 0;
-    let mut i = 0;
-    while i < n {
+    for _ in 0..n {
         y = replacer(b, p, y, y);
         p = record_end(b, p);
-        i += 1;
     }
     y
 }
@@ -182,7 +164,7 @@ pub fn end_of(b: &[u8], n: usize, x: usize) -> usize
 // The rules: replacement is followed first, and retirement looked at where the chain ends.
 fn follow(b: &[u8], n: usize, x: usize) -> Standing
     requires { (is_roll b.now ≡ true) × (n ≡ count_of b.now) × (x < 4294967296) × (lawful_to (record_of b.now) n ≡ true) }
-    ensures { result ≡ answer (n + 1) (register_after (record_of b.now) n) x }
+    ensures { Ok result ≡ answer (n + 1) (register_after (record_of b.now) n) x }
 {
     let f = look_up(b, n, x);
     if !f.delivered {
@@ -196,17 +178,18 @@ fn follow(b: &[u8], n: usize, x: usize) -> Standing
     Standing::Current(last as u32)
 }
 
-// Which set stands now for a set, by the roll in the first count bytes of the lent slice.
-pub fn stands_now(lent: &[u8], count: usize, set: u32) -> Standing
+// Which set stands now for a set, by the roll in the first count bytes of the lent slice. 7: the bytes are not a roll; 9: a record delivers
+// a set again, names one that no record before it delivers, or replaces one for the second time.
+pub fn stands_now(lent: &[u8], count: usize, set: u32) -> Result<Standing, Refusal>
     ensures { result ≡ stands_now (roll_bytes lent.now count) set }
 {
     let b = roll::roll_bytes(lent, count);
     if !is_whole_roll(b) {
-        return Standing::Refused(Refusal::NotARoll);
+        return Err(Refusal::NotARoll);
     }
     let n = count_in(b, b.len());
     if !is_lawful(b, n) {
-        return Standing::Refused(Refusal::NotLawful);
+        return Err(Refusal::NotLawful);
     }
-    follow(b, n, set as usize)
+    Ok(follow(b, n, set as usize))
 }

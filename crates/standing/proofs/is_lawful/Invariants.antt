@@ -7,7 +7,4 @@ use Rattle.standing.specs.Walk.{record_of, register_after}
 use Rattle.standing.proofs.is_lawful.Given as goal
 
 abbrev pub invariant-loop-i : goal.invariant-loop-i
-invariant-loop-i l = (l.i ≤ l.n) × (l.p ≡ record_start l.b l.i) × ((k : ℕ) → k < l.i → allowed (register_after (record_of l.b) k) (record_of l.b k) ≡ true)
-
-abbrev pub decreases-loop-i : goal.decreases-loop-i
-decreases-loop-i l = l.n - l.i
+invariant-loop-i l = (l.p ≡ record_start l.b l.i) × ((k : ℕ) → k < l.i → allowed (register_after (record_of l.b) k) (record_of l.b k) ≡ true)
