@@ -7,9 +7,8 @@ ghost use Rattle.roll.specs.AppendCalls.{number_of_appended, with_entry, judged_
 ghost use Rattle.roll.specs.Laid.{laid};
 
 use crate::judge::{is_roll, is_ruled};
-use crate::lay::{lay, lay_four, low};
+use crate::lay::{lay, lay_four};
 use crate::layout::{count_in, listed_at, record_end, trailer_in};
-use crate::numbers::wide;
 use tables::Refusal;
 
 // The number of the appender's answer; 0 is done.
@@ -27,19 +26,10 @@ fn lay_record(s: &mut [u8], at: usize, kind: u8, set: usize, earlier: usize, lab
     requires { (at + (10 + length label.now) ≤ length s.old) × (length label.now ≤ 255) }
     ensures { s.new ≡ laid s.old at (bytes_of (entry kind set earlier label.now)) }
 {
-    let head = [
-        kind,
-        low(set),
-        low(set / 256),
-        low(set / 65536),
-        low(set / 16777216),
-        low(earlier),
-        low(earlier / 256),
-        low(earlier / 65536),
-        low(earlier / 16777216),
-        low(label.len()),
-    ];
-    lay(s, at, &head);
+    s[at] = kind;
+    lay_four(s, at + 1, set);
+    lay_four(s, at + 5, earlier);
+    s[at + 9] = label.len() as u8;
     lay(s, at + 10, label);
 }
 
@@ -82,20 +72,11 @@ pub fn judge_append(
     if !is_roll(lent, count) {
         return Err(Refusal::NotARoll);
     }
-    if !is_ruled(wide(kind), set, earlier) {
-        return Err(Refusal::NotARoll);
-    }
-    if 255 < label.len() {
+    if !is_ruled(usize::from(kind), set, earlier) || 255 < label.len() {
         return Err(Refusal::NotARoll);
     }
     let long = count + (14 + label.len());
-    if 999 < count_in(lent, count) {
-        return Err(Refusal::NoRoom);
-    }
-    if 65536 < long {
-        return Err(Refusal::NoRoom);
-    }
-    if lent.len() < long {
+    if 999 < count_in(lent, count) || 65536 < long || lent.len() < long {
         return Err(Refusal::NoRoom);
     }
     Ok(long)

@@ -6,25 +6,16 @@ ghost use Rattle.roll.specs.Reading.{size_at, record_start, ruled_at, follow, li
 ghost use Rattle.roll.specs.Roll.{Sized, Marked};
 
 use super::layout::{count_in, earlier_at, listed_at, record_end, set_at, trailer_in};
-use super::numbers::{four, wide};
+use super::numbers::four;
 
 // Whether a record's kind and numbers keep the rules.
 pub fn is_ruled(kind: usize, number: usize, earlier: usize) -> bool
     ensures { result ≡ record_ruled kind number earlier }
 {
-    if kind < 1 {
+    if kind < 1 || 3 < kind || number < 1 {
         return false;
     }
-    if 3 < kind {
-        return false;
-    }
-    if number < 1 {
-        return false;
-    }
-    if kind == 2 {
-        return earlier != 0;
-    }
-    earlier == 0
+    (kind == 2) == (earlier != 0)
 }
 
 // Whether the record at `at` ends at or before t and keeps the rules.
@@ -35,10 +26,7 @@ fn fits(b: &[u8], at: usize, t: usize) -> bool
     if t < at + 10 {
         return false;
     }
-    if t < record_end(b, at) {
-        return false;
-    }
-    is_ruled(wide(b[at]), set_at(b, at), earlier_at(b, at))
+    record_end(b, at) <= t && is_ruled(usize::from(b[at]), set_at(b, at), earlier_at(b, at))
 }
 
 // Whether n records follow each other from byte 0 up to t; marks where each of them starts.
@@ -51,7 +39,7 @@ fn mark_starts(b: &[u8], n: usize, t: usize, marks: &mut [u8; 65536]) -> bool
         if !fits(b, at, t) {
             return false;
         }
-        marks[at] = 1u8;
+        marks[at] = 1;
         at = record_end(b, at);
     }
     at == t
@@ -70,7 +58,7 @@ fn lists_once(b: &[u8], n: usize, t: usize, marks: &mut [u8; 65536]) -> bool
         if marks[x] == 0 {
             return false;
         }
-        marks[x] = 0u8;
+        marks[x] = 0;
     }
     true
 }
@@ -81,10 +69,7 @@ fn has_records(b: &[u8], n: usize, t: usize) -> bool
     ensures { result ≡ (follow b.now n t && every n (λ i. listed_once b.now i)) }
 {
     let mut marks = [0u8; 65536];
-    if !mark_starts(b, n, t, &mut marks) {
-        return false;
-    }
-    lists_once(b, n, t, &mut marks)
+    mark_starts(b, n, t, &mut marks) && lists_once(b, n, t, &mut marks)
 }
 
 // Whether n records follow each other from byte 0 up to t, and number i of the trailer's list is where record i starts.
@@ -110,58 +95,40 @@ fn is_sized(b: &[u8]) -> bool
     ensures { result ≡ sized b.now }
 {
     let len = b.len();
-    if len < 8 {
-        return false;
-    }
-    if 65536 < len {
+    if len < 8 || 65536 < len {
         return false;
     }
     let n = count_in(b, len);
     let t = trailer_in(b, len);
-    if 1000 < n {
-        return false;
-    }
-    listed_at(t, n) + 8 == len
+    n <= 1000 && listed_at(t, n) + 8 == len
 }
 
 // Whether all the bytes are a roll.
 pub fn is_whole_roll(b: &[u8]) -> bool
     ensures { result ≡ is_roll b.now }
 {
-    if !is_sized(b) {
-        return false;
-    }
     let len = b.len();
-    lists_in_order(b, count_in(b, len), trailer_in(b, len))
+    is_sized(b) && lists_in_order(b, count_in(b, len), trailer_in(b, len))
 }
 
 // Whether all the bytes are a roll by the former rule, which leaves the order of the starts free.
 pub fn is_whole_roll_former(b: &[u8]) -> bool
     ensures { result ≡ is_former_roll b.now }
 {
-    if !is_sized(b) {
-        return false;
-    }
     let len = b.len();
-    has_records(b, count_in(b, len), trailer_in(b, len))
+    is_sized(b) && has_records(b, count_in(b, len), trailer_in(b, len))
 }
 
 // Whether the first count bytes of the lent slice are there and are a roll.
 pub fn is_roll(lent: &[u8], count: usize) -> bool
     ensures { result ≡ holds_roll lent.now count }
 {
-    if lent.len() < count {
-        return false;
-    }
-    is_whole_roll(&lent[..count])
+    lent.get(..count).is_some_and(is_whole_roll)
 }
 
 // The same by the former rule.
 pub fn is_roll_former(lent: &[u8], count: usize) -> bool
     ensures { result ≡ holds_former_roll lent.now count }
 {
-    if count > lent.len() {
-        return false;
-    }
-    is_whole_roll_former(&lent[..count])
+    lent.get(..count).is_some_and(is_whole_roll_former)
 }

@@ -29,10 +29,7 @@ fn holds_record(ok: bool, b: &[u8], at: usize) -> bool
     requires { ok ≡ true → framed b.now ≡ true }
     ensures { result ≡ holds_record ok b.now at }
 {
-    if !ok {
-        return false;
-    }
-    starts_at(b, at)
+    ok && starts_at(b, at)
 }
 
 // The record at `at`.
@@ -70,7 +67,7 @@ fn label_by(ok: bool, b: &[u8], at: usize) -> &[u8]
     ensures { result.now ≡ label_by ok b.now at }
 {
     if !holds_record(ok, b, at) {
-        return &b[0..0];
+        return &[];
     }
     let from = at + 10;
     let end = record_end(b, at);
@@ -82,10 +79,11 @@ fn past_by(ok: bool, b: &[u8], at: usize) -> usize
     requires { ok ≡ true → framed b.now ≡ true }
     ensures { result ≡ past_by ok b.now at }
 {
-    if !holds_record(ok, b, at) {
-        return at;
+    if holds_record(ok, b, at) {
+        record_end(b, at)
+    } else {
+        at
     }
-    record_end(b, at)
 }
 
 // What stands at a position of the bytes, the label of the record there, and where it ends.

@@ -7,7 +7,7 @@ use borrow.Author.Tests.{eq-eqb, ne_eqb}
 use lib.Dec.{eqb, leb}
 use Rattle.lists.specs.Tests.{every, every_of}
 use Rattle.roll.specs.Reading.{record_start, size_at, ruled_at, follow, listed}
-use Rattle.roll.specs.StartLaws.{told-no, told_yes, start_first, next_start, fit_says, not_fitting, following, listed_is, one_failed}
+use Rattle.roll.specs.StartLaws.{start_first, next_start, fit_says, not_fitting, following, listed_is, one_failed}
 use Rattle.roll.specs.HoldingLaws.{no-and, and_no, and_yes}
 use Rattle.roll.proofs.judge.lists_in_order.Goals as goal
 
@@ -20,7 +20,7 @@ returns-then-not-fits c =
     let b = a.b.now in
     let l = c.loop-i in
     no-and (follow b a.n a.t) (every a.n (λ i. eqb (listed b i) (record_start b i))) (sym (not_fitting b a.n a.t l.i c.loop-i-test.true
-    (subst (λ x. (leb (x + size_at b x) a.t && ruled_at b x) ≡ false) l.invariant.0 (told-no c.fits.ensures c.if-not-fits.true-raw))))
+    (subst (λ x. (leb (x + size_at b x) a.t && ruled_at b x) ≡ false) l.invariant.0 (sym c.if-not-fits.ensures))))
 
 pub returns-then-four-p : goal.returns-then-four-p
 returns-then-four-p c =
@@ -35,7 +35,7 @@ returns-then-four-p c =
 pub record_end-p-requires : goal.record_end-p-requires
 record_end-p-requires c =
     let a = c.args in
-    let f = fit_says a.b.now c.loop-i.p a.t (told_yes c.fits.ensures c.if-not-fits.false-raw) in
+    let f = fit_says a.b.now c.loop-i.p a.t (sym c.if-not-fits.ensures) in
     omega (arith, f.0)
 
 pub loop-i-preserved : goal.loop-i-preserved
@@ -43,7 +43,7 @@ loop-i-preserved c =
     let a = c.args in
     let b = a.b.now in
     let l = c.loop-i in
-    let f = fit_says b l.p a.t (told_yes c.fits.ensures c.if-not-fits.false-raw) in
+    let f = fit_says b l.p a.t (sym c.if-not-fits.ensures) in
     let z = c.record_end-p.ensures in
     let e = listed_is b a.t l.i _ _ c.requires.1 c.listed_at.ensures c.four.ensures.0 in (
       next_start b l.i l.p c.record_end-p.result l.invariant.0 z,

@@ -1,6 +1,6 @@
 use mathlib.Core.Path.{◌≡◌}
 use mathlib.Core.Bool.{true}
-use Prim.Native.Nat.{ℕ, ◌-◌, ◌≤◌, ◌<◌}
+use Prim.Native.Nat.{ℕ, ◌<◌}
 use Rattle.roll.specs.Reading.{listed_once}
 use Rattle.roll.specs.StartLaws.{Open}
 use Rattle.roll.proofs.judge.lists_once.Given as goal

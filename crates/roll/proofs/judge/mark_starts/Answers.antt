@@ -7,7 +7,7 @@ use lib.Dec.{eqb, leb}
 use lib.ListN.{set}
 use Rattle.roll.specs.Reading.{record_start, size_at, ruled_at}
 use Rattle.roll.specs.Roll.{Marked}
-use Rattle.roll.specs.StartLaws.{told-no, told_yes, start_first, next_start, fit_says, not_fitting, following, none-marked, one-marked}
+use Rattle.roll.specs.StartLaws.{start_first, next_start, fit_says, not_fitting, following, none-marked, one-marked}
 use Rattle.roll.proofs.judge.mark_starts.Goals as goal
 
 pub loop-init : goal.loop-init
@@ -22,20 +22,20 @@ returns-then-not-fits c =
     let b = a.b.now in
     let l = c.loop in (
       not_fitting b a.n a.t l.counter c.loop-test.true
-          (subst (λ x. (leb (x + size_at b x) a.t && ruled_at b x) ≡ false) l.invariant.0 (told-no c.fits.ensures c.if-not-fits.true-raw)),
+          (subst (λ x. (leb (x + size_at b x) a.t && ruled_at b x) ≡ false) l.invariant.0 (sym c.if-not-fits.ensures)),
       λ q. absurd (true≢false (sym q)),
     )
 
 pub bounds-marks-at : goal.bounds-marks-at
 bounds-marks-at c =
     let a = c.args in
-    let f = fit_says a.b.now c.loop.at a.t (told_yes c.fits.ensures c.if-not-fits.false-raw) in
+    let f = fit_says a.b.now c.loop.at a.t (sym c.if-not-fits.ensures) in
     omega (arith, f.0)
 
 pub record_end-at-requires : goal.record_end-at-requires
 record_end-at-requires c =
     let a = c.args in
-    let f = fit_says a.b.now c.loop.at a.t (told_yes c.fits.ensures c.if-not-fits.false-raw) in
+    let f = fit_says a.b.now c.loop.at a.t (sym c.if-not-fits.ensures) in
     omega (arith, f.0)
 
 pub loop-preserved : goal.loop-preserved
@@ -43,7 +43,7 @@ loop-preserved c =
     let a = c.args in
     let b = a.b.now in
     let l = c.loop in
-    let f = fit_says b l.at a.t (told_yes c.fits.ensures c.if-not-fits.false-raw) in
+    let f = fit_says b l.at a.t (sym c.if-not-fits.ensures) in
     let z = c.record_end-at.ensures in
     let s : record_start b l.counter < 65536 = omega (arith, l.invariant.0) in (
       next_start b l.counter l.at c.record_end-at.result l.invariant.0 z,

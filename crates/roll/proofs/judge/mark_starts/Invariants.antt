@@ -1,6 +1,6 @@
 use mathlib.Core.Path.{◌≡◌}
 use mathlib.Core.Bool.{true}
-use Prim.Native.Nat.{ℕ, ◌-◌, ◌≤◌, ◌<◌}
+use Prim.Native.Nat.{ℕ, ◌≤◌, ◌<◌}
 use Rattle.roll.specs.Reading.{record_start, ruled_at}
 use Rattle.roll.specs.Roll.{Marked}
 use Rattle.roll.proofs.judge.mark_starts.Given as goal
