@@ -5,7 +5,7 @@ ghost use Rattle.roll.specs.Format.{record_ruled};
 ghost use Rattle.roll.specs.Reading.{size_at, record_start, ruled_at, follow, listed, listed_once, count_of, trailer_at, sized, is_roll, is_former_roll, holds_roll, holds_former_roll};
 ghost use Rattle.roll.specs.Roll.{Sized, Marked};
 
-use super::layout::{count_in, earlier_at, listed_at, record_end, set_at, trailer_in};
+use super::layout::{Kind, count_in, earlier_at, listed_at, record_end, set_at, trailer_in};
 use super::numbers::four;
 
 // Whether a record's kind and numbers keep the rules.
@@ -15,7 +15,7 @@ pub fn is_ruled(kind: usize, number: usize, earlier: usize) -> bool
     if kind < 1 || 3 < kind || number < 1 {
         return false;
     }
-    (kind == 2) == (earlier != 0)
+    (kind == Kind::Replacement as usize) == (earlier != 0)
 }
 
 // Whether the record at `at` ends at or before t and keeps the rules.

@@ -4,6 +4,14 @@ ghost use Rattle.roll.specs.Reading.{four_at, size_at};
 
 use super::numbers::four;
 
+// The kinds of a record, by their numbers in a roll.
+#[derive(Clone, Copy)]
+pub enum Kind {
+    Delivery = 1,
+    Replacement = 2,
+    Retirement = 3,
+}
+
 // The record count of a roll in the first len bytes.
 pub fn count_in(b: &[u8], len: usize) -> usize
     requires { (8 ≤ len) × (len ≤ length b.now) }

@@ -10,8 +10,7 @@ ghost use Rattle.standing.specs.Walk.{record_of, register_after, lawful_to, Note
 ghost use Rattle.standing.specs.Chains.{carried};
 
 use roll::judge::is_whole_roll;
-use roll::layout::{count_in, earlier_at, record_end, set_at};
-use roll::numbers::wide;
+use roll::layout::{Kind, count_in, earlier_at, record_end, set_at};
 use tables::Refusal;
 
 // What a roll answers for a set.
@@ -48,10 +47,7 @@ fn delivers_at(b: &[u8], at: usize, x: usize) -> bool
     requires { at + 10 ≤ length b.now }
     ensures { result ≡ delivers (entry_at b.now at) x }
 {
-    if wide(b[at]) == 3 {
-        return false;
-    }
-    set_at(b, at) == x
+    b[at] != Kind::Retirement as u8 && set_at(b, at) == x
 }
 
 // Whether it retires x.
@@ -59,10 +55,7 @@ fn retires_at(b: &[u8], at: usize, x: usize) -> bool
     requires { at + 10 ≤ length b.now }
     ensures { result ≡ retires (entry_at b.now at) x }
 {
-    if wide(b[at]) != 3 {
-        return false;
-    }
-    set_at(b, at) == x
+    b[at] == Kind::Retirement as u8 && set_at(b, at) == x
 }
 
 // Whether it replaces x.
@@ -70,10 +63,7 @@ fn replaces_at(b: &[u8], at: usize, x: usize) -> bool
     requires { at + 10 ≤ length b.now }
     ensures { result ≡ replaces (entry_at b.now at) x }
 {
-    if wide(b[at]) != 2 {
-        return false;
-    }
-    earlier_at(b, at) == x
+    b[at] == Kind::Replacement as u8 && earlier_at(b, at) == x
 }
 
 // What replaced x when the record at `at` is noted too.
@@ -82,9 +72,10 @@ fn replacer(b: &[u8], at: usize, x: usize, by: usize) -> usize
     ensures { (result ≡ cond (replaces (entry_at b.now at) x) (entry_at b.now at).number by) × (result < 4294967296) }
 {
     if replaces_at(b, at, x) {
-        return set_at(b, at);
+        set_at(b, at)
+    } else {
+        by
     }
-    by
 }
 
 // What the register of the first n records of the roll b notes of x.
@@ -114,22 +105,19 @@ fn is_allowed(b: &[u8], n: usize, at: usize) -> bool
     requires { (is_roll b.now ≡ true) × (n < count_of b.now) × (at ≡ record_start b.now n) }
     ensures { result ≡ allowed (register_after (record_of b.now) n) (record_of b.now n) }
 {
-    let kind = wide(b[at]);
+    let kind = b[at];
     let own = look_up(b, n, set_at(b, at));
-    if kind == 3 {
+    if kind == Kind::Retirement as u8 {
         return own.delivered;
     }
     if own.delivered {
         return false;
     }
-    if kind != 2 {
+    if kind != Kind::Replacement as u8 {
         return true;
     }
     let old = look_up(b, n, earlier_at(b, at));
-    if !old.delivered {
-        return false;
-    }
-    old.by == 0
+    old.delivered && old.by == 0
 }
 
 // Whether 9 applies to none of the n records.
@@ -173,9 +161,10 @@ fn follow(b: &[u8], n: usize, x: usize) -> Standing
     let last = end_of(b, n, x);
     let e = look_up(b, n, last);
     if e.retired {
-        return Standing::Retired;
+        Standing::Retired
+    } else {
+        Standing::Current(last as u32)
     }
-    Standing::Current(last as u32)
 }
 
 // Which set stands now for a set, by the roll in the first count bytes of the lent slice. 7: the bytes are not a roll; 9: a record delivers

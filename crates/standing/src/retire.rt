@@ -6,8 +6,7 @@ ghost use Rattle.standing.specs.RetireAll.{inserted, to_retire, add_all, judged_
 ghost use Rattle.standing.specs.Steps.{waits_at, gathered_to};
 
 use roll::judge::is_whole_roll;
-use roll::layout::{count_in, record_end, set_at};
-use roll::numbers::wide;
+use roll::layout::{Kind, count_in, record_end, set_at};
 use tables::Refusal;
 
 // Whether the record at `at` delivers a set whose chain ends in `last` and which has no retirement of its own.
@@ -15,15 +14,11 @@ fn waits(b: &[u8], n: usize, at: usize, last: usize) -> bool
     requires { (is_roll b.now ≡ true) × (n ≡ count_of b.now) × (at + 10 ≤ length b.now) }
     ensures { result ≡ waits_at (record_of b.now) n last (entry_at b.now at) }
 {
-    if wide(b[at]) == 3 {
+    if b[at] == Kind::Retirement as u8 {
         return false;
     }
     let set = set_at(b, at);
-    if crate::end_of(b, n, set) != last {
-        return false;
-    }
-    let f = crate::look_up(b, n, set);
-    !f.retired
+    crate::end_of(b, n, set) == last && !crate::look_up(b, n, set).retired
 }
 
 // Puts y into the first m numbers of the list: the lesser stays, the greater goes on.
@@ -47,9 +42,10 @@ fn place_if(list: &mut [u32], m: usize, y: u32, wanted: bool) -> usize
 {
     if wanted {
         place(list, m, y);
-        return m + 1;
+        m + 1
+    } else {
+        m
     }
-    m
 }
 
 // Gathers the sets to retire with one whose chain ends in `last`, by rising number, and answers how many there are.
@@ -89,13 +85,7 @@ fn judge(lent: &[u8], count: usize, x: usize, list: &mut [u32]) -> Result<usize,
     }
     let m = gather(b, n, crate::end_of(b, n, x), list);
     let long = count + 14 * m;
-    if 1000 < n + m {
-        return Err(Refusal::NoRoom);
-    }
-    if 65536 < long {
-        return Err(Refusal::NoRoom);
-    }
-    if lent.len() < long {
+    if 1000 < n + m || 65536 < long || lent.len() < long {
         return Err(Refusal::NoRoom);
     }
     Ok(m)
@@ -108,7 +98,7 @@ fn add_all(lent: &mut [u8], count: usize, list: &[u32])
 {
     let mut long = count;
     for set in list {
-        let _ = roll::append::append(lent, long, 3, *set, 0, b"");
+        let _ = roll::append::append(lent, long, Kind::Retirement as u8, *set, 0, b"");
         long += 14;
     }
 }

@@ -20,6 +20,6 @@ pub returns-then-e : goal.returns-then-e
 returns-then-e c =
     says_retired c.args.b.now c.args.n c.args.x c.requires.0 c.requires.1 c.requires.3 c.look_up-f.ensures (not-false _ c.if-not-f.false) c.end_of-last.ensures.0 c.look_up-e.ensures c.if-e.true
 
-pub returns : goal.returns
-returns c =
+pub returns-else-e : goal.returns-else-e
+returns-else-e c =
     says_current c.args.b.now c.args.n c.args.x c.requires.0 c.requires.1 c.requires.3 c.look_up-f.ensures (not-false _ c.if-not-f.false) c.end_of-last.ensures.0 c.look_up-e.ensures c.if-e.false

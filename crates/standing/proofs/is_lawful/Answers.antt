@@ -1,8 +1,9 @@
+use Rattle.std.proofs.Common.{sym}
 use mathlib.Core.Path.{◌≡◌}
 use mathlib.Core.Bool.{true}
 use native.Mathlib.Omega.{arith}
 use borrow.Author.Count.{below_none, below_more}
-use Rattle.roll.specs.StartLaws.{start_first, next_start, one_failed, all-passed, told-no, told_yes}
+use Rattle.roll.specs.StartLaws.{start_first, next_start, one_failed, all-passed}
 use Rattle.standing.specs.Register.{allowed}
 use Rattle.standing.specs.Walk.{record_of, register_after, lawful_to, inside}
 use Rattle.standing.proofs.is_lawful.Goals as goal
@@ -21,7 +22,7 @@ unfolding lawful_to
 returns-then-not-is_allowed c =
     let b = c.args.b.now in
     let l = c.loop-i in
-    one_failed c.args.n (λ k. allowed (register_after (record_of b) k) (record_of b k)) l.i c.loop-i-test.true (told-no c.is_allowed.ensures c.if-not-is_allowed.true-raw)
+    one_failed c.args.n (λ k. allowed (register_after (record_of b) k) (record_of b k)) l.i c.loop-i-test.true (sym c.if-not-is_allowed.ensures)
 
 pub record_end-p-requires : goal.record_end-p-requires
 record_end-p-requires c =
@@ -33,7 +34,7 @@ loop-i-preserved c =
     let b = c.args.b.now in
     let l = c.loop-i in (
       next_start b l.i l.p c.record_end-p.result l.invariant.0 c.record_end-p.ensures,
-      below_more (λ k. allowed (register_after (record_of b) k) (record_of b k) ≡ true) l.i l.invariant.1 (told_yes c.is_allowed.ensures c.if-not-is_allowed.false-raw),
+      below_more (λ k. allowed (register_after (record_of b) k) (record_of b k) ≡ true) l.i l.invariant.1 (sym c.if-not-is_allowed.ensures),
     )
 
 pub returns : goal.returns

@@ -1,6 +1,6 @@
 use mathlib.Core.Path.{◌≡◌}
 use mathlib.Core.Bool.{true}
-use Prim.Native.Nat.{ℕ, ◌-◌, ◌≤◌, ◌<◌}
+use Prim.Native.Nat.{ℕ, ◌<◌}
 use Rattle.roll.specs.Reading.{record_start}
 use Rattle.standing.specs.Register.{allowed}
 use Rattle.standing.specs.Walk.{record_of, register_after}

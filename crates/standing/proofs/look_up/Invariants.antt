@@ -1,5 +1,4 @@
 use mathlib.Core.Path.{◌≡◌}
-use Prim.Native.Nat.{◌-◌, ◌≤◌}
 use Rattle.roll.specs.Reading.{record_start}
 use Rattle.standing.specs.Walk.{Notes, record_of, register_after}
 use Rattle.standing.proofs.look_up.Given as goal

@@ -1,4 +1,4 @@
-use Rattle.std.proofs.Common.{◌≡◌, ℕ, length, drop, refl, ap, ◌∙◌, arith}
+use Rattle.std.proofs.Common.{◌≡◌, ℕ, length, drop, ap, ◌∙◌, arith}
 use Rattle.standing.specs.RetireAll.{add_all}
 use Rattle.standing.proofs.StepsLaws.{adds-more, adds-last}
 use Rattle.standing.proofs.retire.add_all.Goals as goal

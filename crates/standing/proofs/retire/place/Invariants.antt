@@ -1,5 +1,4 @@
 use mathlib.Core.Path.{◌≡◌}
-use Prim.Native.Nat.{◌-◌, ◌≤◌}
 use lib.ListN.{length, take}
 use Rattle.standing.specs.RetireAll.{inserted}
 use Rattle.standing.specs.PlacingLaws.{under_way}
