@@ -46,6 +46,20 @@ module _ (g : Register) where
   alone h r zero x e = r x ∙ rule-same h (answer zero g) x (never x e)
   alone h r (suc m) x e = r x ∙ rule-same h (answer (suc m) g) x (λ d. alone h r m (g.replaced_by x) (later m x e d))
 
+-- ---- any roll
+
+-- set numbers start at 1
+pub numbered : (b : List ℕ) → is_roll b ≡ true → (k : ℕ) → k < count_of b → 0 < (record_of b k).number
+unfolding record_of entry_at ruled_at record_ruled
+numbered b R k h =
+    let at = record_start b k in
+    let q = follow-ruled b (count_of b) (trailer_at b) (is_following b R) k h in
+    let last = cond (eqb (get_or b at 0) 2) (not (eqb (four_at b (at + 5)) 0)) (eqb (four_at b (at + 5)) 0) in
+    let i = and_snd (leb 1 (get_or b at 0)) (leb (get_or b at 0) 3 && (leb 1 (four_at b (at + 1)) && last)) q in
+    let j = and_snd (leb (get_or b at 0) 3) (leb 1 (four_at b (at + 1)) && last) i in
+    let l = leb-true 1 (four_at b (at + 1)) (and_fst (leb 1 (four_at b (at + 1))) last j) in
+    omega (arith, l)
+
 -- ---- a lawful roll
 
 module _ (b : List ℕ) (R : is_roll b ≡ true) (L : lawful (entries_of b) ≡ true) where
@@ -55,17 +69,8 @@ module _ (b : List ℕ) (R : is_roll b ≡ true) (L : lawful (entries_of b) ≡ 
   abbrev G : Register
   G = register_after (record_of b) n
 
-  -- set numbers start at 1
   pub named : (k : ℕ) → k < n → (record_of b k).number ≡ 0 → ⊥
-  unfolding record_of entry_at ruled_at record_ruled
-  named k h e =
-      let at = record_start b k in
-      let q = follow-ruled b n (trailer_at b) (is_following b R) k h in
-      let last = cond (eqb (get_or b at 0) 2) (not (eqb (four_at b (at + 5)) 0)) (eqb (four_at b (at + 5)) 0) in
-      let i = and_snd (leb 1 (get_or b at 0)) (leb (get_or b at 0) 3 && (leb 1 (four_at b (at + 1)) && last)) q in
-      let j = and_snd (leb (get_or b at 0) 3) (leb 1 (four_at b (at + 1)) && last) i in
-      let l = leb-true 1 (four_at b (at + 1)) (and_fst (leb 1 (four_at b (at + 1))) last j) in
-      absurd (omega (arith, l, e))
+  named k h e = absurd (omega (arith, numbered b R k h, e))
 
   pub lawful-to : lawful_to (record_of b) n ≡ true
   lawful-to = sym (entries-lawful b) ∙ L

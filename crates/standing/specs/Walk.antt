@@ -1,5 +1,5 @@
 -- The register that is read off a roll, record by record, and what the code's tests say of it. Assumes nothing.
-use Rattle.std.specs.Prelude.{◌≡◌, Bool, true, false, not, ◌&&◌, ◌||◌, List, [], ◌∷◌, ◌++◌, ℕ, zero, suc, ◌+◌, ◌≤◌, ◌<◌, eqb, length, get_or, Result, Err}
+use Rattle.std.specs.Prelude.{◌≡◌, Bool, true, false, not, ◌&&◌, ◌||◌, List, [], ◌∷◌, ◌++◌, ℕ, zero, suc, ◌+◌, ◌≤◌, ◌<◌, eqb, length, get_or, Option, Some, None, Result, Err}
 use Rattle.std.proofs.Math.Path.{refl, ap, ap₂}
 use Rattle.std.proofs.Common.{sym, ◌∙◌, add-zero, add-suc, suc-add, zero-add, add-one, arith, eq-eqb, ne_eqb}
 use Rattle.std.proofs.Math.Bool.{cond}
@@ -33,6 +33,11 @@ pub record Notes (g : Register) (x : ℕ) (delivered retired : Bool) (by : ℕ) 
   pub retires : retired ≡ g.retired x
   pub replaces : by ≡ g.replaced_by x
   pub small : by < 4294967296
+
+-- a set as the register has it: 0 where there is none
+abbrev pub set_or_zero : Option ℕ → ℕ
+set_or_zero None = 0
+set_or_zero (Some m) = m
 
 pub cond_true : {t : Bool} (m n : ℕ) → t ≡ true → cond t m n ≡ m
 cond_true m n e = rw e

@@ -3,10 +3,10 @@
 
 pub mod retire;
 
-ghost use Rattle.std.specs.Prelude.{◌≡◌, true, ◌||◌, cond, ◌+◌, ◌≤◌, ◌<◌, length};
+ghost use Rattle.std.specs.Prelude.{◌≡◌, true, ◌||◌, cond, ◌+◌, ◌≤◌, ◌<◌, length, IfSome};
 ghost use Rattle.roll.specs.Reading.{record_start, entry_at, count_of, is_roll, roll_bytes};
 ghost use Rattle.standing.specs.Register.{standing_number, delivers, retires, replaces, allowed, answer, stands_now};
-ghost use Rattle.standing.specs.Walk.{record_of, register_after, lawful_to, Notes};
+ghost use Rattle.standing.specs.Walk.{record_of, register_after, lawful_to, Notes, set_or_zero};
 ghost use Rattle.standing.specs.Chains.{carried};
 
 use roll::judge::is_whole_roll;
@@ -34,12 +34,12 @@ pub fn standing_number(a: Result<Standing, Refusal>) -> u8
     }
 }
 
-// What the register notes of one set.
+// What the register notes of one set: `by` is the set that replaced it.
 #[derive(Clone, Copy)]
 pub struct Found {
     pub delivered: bool,
     pub retired: bool,
-    pub by: usize,
+    pub by: Option<usize>,
 }
 
 // Whether the record at `at` delivers x: deliveries and replacements do.
@@ -66,31 +66,32 @@ fn replaces_at(b: &[u8], at: usize, x: usize) -> bool
     b[at] == Kind::Replacement as u8 && earlier_at(b, at) == x
 }
 
-// What replaced x when the record at `at` is noted too.
-fn replacer(b: &[u8], at: usize, x: usize, by: usize) -> usize
-    requires { (at + 10 ≤ length b.now) × (by < 4294967296) }
-    ensures { (result ≡ cond (replaces (entry_at b.now at) x) (entry_at b.now at).number by) × (result < 4294967296) }
+// The set that the record at `at` replaces x by, if it does.
+fn replacer(b: &[u8], at: usize, x: usize) -> Option<usize>
+    requires { at + 10 ≤ length b.now }
+    ensures { (result ≡ cond (replaces (entry_at b.now at) x) (Some (entry_at b.now at).number) None) × ((entry_at b.now at).number < 4294967296) }
 {
     if replaces_at(b, at, x) {
-        set_at(b, at)
+        Some(set_at(b, at))
     } else {
-        by
+        None
     }
 }
 
 // What the register of the first n records of the roll b notes of x.
 pub fn look_up(b: &[u8], n: usize, x: usize) -> Found
     requires { (is_roll b.now ≡ true) × (n ≤ count_of b.now) }
-    ensures { Notes (register_after (record_of b.now) n) x result.delivered result.retired result.by }
+    ensures notes { Notes (register_after (record_of b.now) n) x result.delivered result.retired (set_or_zero result.by) }
+    ensures named { IfSome result.by (λ m. 0 < m) }
 {
     let mut delivered = false;
     let mut retired = false;
-    let mut by = 0;
+    let mut by = None;
     let mut p = 0;
     for _ in 0..n {
         delivered |= delivers_at(b, p, x);
         retired |= retires_at(b, p, x);
-        by = replacer(b, p, x, by);
+        by = replacer(b, p, x).or(by);
         p = record_end(b, p);
     }
     Found {
@@ -117,7 +118,7 @@ fn is_allowed(b: &[u8], n: usize, at: usize) -> bool
         return true;
     }
     let old = look_up(b, n, earlier_at(b, at));
-    old.delivered && old.by == 0
+    old.delivered && old.by.is_none()
 }
 
 // Whether 9 applies to none of the n records.
@@ -143,7 +144,7 @@ pub fn end_of(b: &[u8], n: usize, x: usize) -> usize
     let mut y = x;
     let mut p = 0;
     for _ in 0..n {
-        y = replacer(b, p, y, y);
+        y = replacer(b, p, y).unwrap_or(y);
         p = record_end(b, p);
     }
     y

@@ -1,4 +1,4 @@
-use Rattle.std.proofs.Common.{Ok, ap, ◌∙◌, arith}
+use Rattle.std.proofs.Common.{Ok, ap, ◌∙◌}
 use Rattle.capi_roll.specs.Told.{told_record, told_end, told-refused}
 use Rattle.capi_roll.proofs.tell.Goals as goal
 

@@ -37,7 +37,7 @@ pub returns-then-not-f : goal.returns-then-not-f
 returns-then-not-f c =
     let a = c.args in (
       not_11 a.lent.now _ a.count a.x c.count_in-n.result c.roll_bytes-b.ensures (sym c.if-not-is_whole_roll.ensures) (count_is _ c.count_in-n.ensures.0)
-          (sym c.if-not-is_lawful.ensures) c.look_up-f.ensures (not-true _ c.if-not-f.true),
+          (sym c.if-not-is_lawful.ensures) c.look_up-f.ensures.notes (not-true _ c.if-not-f.true),
       λ k q. no_add q,
     )
 
@@ -45,7 +45,7 @@ pub returns-then-n-m-gt1000 : goal.returns-then-n-m-gt1000
 returns-then-n-m-gt1000 c =
     let a = c.args in (
       not_8 a.lent.now _ a.count a.x c.count_in-n.result c.roll_bytes-b.ensures (sym c.if-not-is_whole_roll.ensures) (count_is _ c.count_in-n.ensures.0)
-          (sym c.if-not-is_lawful.ensures) c.look_up-f.ensures (not-false _ c.if-not-f.false) c.end_of.ensures.0 c.gather-m.ensures.2
+          (sym c.if-not-is_lawful.ensures) c.look_up-f.ensures.notes (not-false _ c.if-not-f.false) c.end_of.ensures.0 c.gather-m.ensures.2
           (elim c.then-n-m-gt1000.either [ inl h ↦ inl h | inr (inl h) ↦ inr (inl h.1) | inr (inr h) ↦ inr (inr h.2) ]),
       λ k q. no_add q,
     )
@@ -54,11 +54,11 @@ pub returns : goal.returns
 returns c =
     let a = c.args in (
       may_add a.lent.now _ a.count a.x c.count_in-n.result c.roll_bytes-b.ensures (sym c.if-not-is_whole_roll.ensures) (count_is _ c.count_in-n.ensures.0)
-          (sym c.if-not-is_lawful.ensures) c.look_up-f.ensures (not-false _ c.if-not-f.false) c.end_of.ensures.0 c.gather-m.ensures.2
+          (sym c.if-not-is_lawful.ensures) c.look_up-f.ensures.notes (not-false _ c.if-not-f.false) c.end_of.ensures.0 c.gather-m.ensures.2
           (omega arith) (omega arith) (omega arith),
       λ k q. let z : c.gather-m.result ≡ k = ap many q in rw (← z)
           (the_list a.lent.now _ a.count a.x c.count_in-n.result c.roll_bytes-b.ensures (sym c.if-not-is_whole_roll.ensures) (count_is _ c.count_in-n.ensures.0)
-          (sym c.if-not-is_lawful.ensures) c.look_up-f.ensures (not-false _ c.if-not-f.false) c.end_of.ensures.0 c.gather-m.ensures.1),
+          (sym c.if-not-is_lawful.ensures) c.look_up-f.ensures.notes (not-false _ c.if-not-f.false) c.end_of.ensures.0 c.gather-m.ensures.1),
     )
 
 pub overflow_mul-long : goal.overflow_mul-long

@@ -16,7 +16,7 @@ returns-then-b-at c =
 pub returns-then-end_of-last : goal.returns-then-end_of-last
 returns-then-end_of-last c =
     let a = c.args in
-    waits_open a.b.now a.n a.last a.at c.if-b-at.false c.set_at-set.ensures.0 c.end_of.ensures.0 c.if-end_of-last.true c.look_up.ensures.retires
+    waits_open a.b.now a.n a.last a.at c.if-b-at.false c.set_at-set.ensures.0 c.end_of.ensures.0 c.if-end_of-last.true c.look_up.ensures.notes.retires
 
 pub returns-else-end_of-last : goal.returns-else-end_of-last
 returns-else-end_of-last c =
