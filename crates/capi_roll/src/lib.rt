@@ -7,11 +7,10 @@ ghost use Rattle.roll.specs.Reading.{holds_roll, holds_former_roll};
 ghost use Rattle.capi_roll.specs.Roll.{seven_or_two, item_slots, told_in, appended_slots, standing_slots, read_roll, read_roll_former, append_roll, set_now, retire_all_slots};
 ghost use Rattle.capi_roll.specs.Told.{ItemFits};
 
-use roll::append::Appended;
 use roll::layout::record_end;
-use roll::numbers::wide;
 use roll::read::Item;
 use standing::Standing;
+use tables::Refusal;
 
 // Whether the first count bytes of the lent slice are there and are a roll.
 #[unsafe(no_mangle)]
@@ -33,59 +32,34 @@ pub extern "C" fn gf_is_roll_former(lent: &[u8], count: usize) -> bool
 fn seven_or_two(number: u8) -> u8
     ensures { result ≡ seven_or_two number }
 {
-    if number == 7 {
-        return 7;
-    }
-    2
-}
-
-// Fills six slots.
-fn fill(
-    slots: &mut [usize],
-    kind: usize,
-    set: usize,
-    earlier: usize,
-    label_at: usize,
-    label_len: usize,
-    next: usize,
-)
-    requires { length slots.old ≡ 6 }
-    ensures { slots.new ≡ kind ∷ set ∷ earlier ∷ label_at ∷ label_len ∷ next ∷ [] }
-{
-    slots[0] = kind;
-    slots[1] = set;
-    slots[2] = earlier;
-    slots[3] = label_at;
-    slots[4] = label_len;
-    slots[5] = next;
+    if number == 7 { 7 } else { 2 }
 }
 
 // Puts what the reader said at a position of the roll b into the slots: kind, set number, earlier set number, where the label begins,
 // its length, where the record ends. The end and a refusal leave them.
-fn tell(b: &[u8], at: usize, a: Item, slots: &mut [usize]) -> u8
+fn tell(b: &[u8], at: usize, a: Result<Item, Refusal>, slots: &mut [usize]) -> u8
     requires { (length slots.old ≡ 6) × ItemFits b.now at a }
     ensures { (result, slots.new) ≡ item_slots b.now at a slots.old }
 {
     match a {
-        Item::Record { kind, set, earlier } => {
-            fill(
-                slots,
-                kind as usize,
+        Ok(Item::Record { kind, set, earlier }) => {
+            slots.copy_from_slice(&[
+                usize::from(kind),
                 set as usize,
                 earlier as usize,
                 at + 10,
-                wide(b[at + 9]),
+                usize::from(b[at + 9]),
                 record_end(b, at),
-            );
+            ]);
             0
         }
-        Item::End => 68,
-        Item::Refused(r) => tables::refusal_number(r),
+        Ok(Item::End) => 68,
+        Err(r) => tables::refusal_number(r),
     }
 }
 
 // The same where there may be another number of slots.
-fn tell_in(b: &[u8], at: usize, a: Item, slots: &mut [usize]) -> u8
+fn tell_in(b: &[u8], at: usize, a: Result<Item, Refusal>, slots: &mut [usize]) -> u8
     requires { ItemFits b.now at a }
     ensures { (result, slots.new) ≡ told_in b.now at a slots.old }
 {
@@ -122,16 +96,16 @@ pub extern "C" fn gf_read_roll_former(
 }
 
 // Puts the appender's answer into the slot: how many bytes the roll has now. A refusal leaves it.
-fn report(a: Appended, slot: &mut [usize]) -> u8
+fn report(a: Result<usize, Refusal>, slot: &mut [usize]) -> u8
     requires { length slot.old ≡ 1 }
     ensures { (result, slot.new) ≡ appended_slots a slot.old }
 {
     match a {
-        Appended::Count(n) => {
+        Ok(n) => {
             slot[0] = n;
             0
         }
-        Appended::Refused(r) => tables::refusal_number(r),
+        Err(r) => tables::refusal_number(r),
     }
 }
 
@@ -158,18 +132,18 @@ pub extern "C" fn gf_append_roll(
 }
 
 // Puts the set to use into the slot. Every other answer leaves it.
-fn name_set(a: Standing, slot: &mut [usize]) -> u8
+fn name_set(a: Result<Standing, Refusal>, slot: &mut [usize]) -> u8
     requires { length slot.old ≡ 1 }
     ensures { (result, slot.new) ≡ standing_slots a slot.old }
 {
     match a {
-        Standing::Unknown => 70,
-        Standing::Retired => 71,
-        Standing::Current(set) => {
+        Ok(Standing::Unknown) => 70,
+        Ok(Standing::Retired) => 71,
+        Ok(Standing::Current(set)) => {
             slot[0] = set as usize;
             0
         }
-        Standing::Refused(r) => tables::refusal_number(r),
+        Err(r) => tables::refusal_number(r),
     }
 }
 

@@ -12,46 +12,43 @@ use replays::steps::first;
 use std::io;
 use std::io::Read;
 
-// What the records of a page are.
-const ROLLS: u64 = 1;
-
-const RETIRED: u64 = 2;
-
-// The record r.
-fn step(part: u64, t: Tally, r: &[u8]) -> Tally {
-    if part == ROLLS {
-        return rolls::step(t, r);
-    }
-    retired::step(t, r)
-}
-
-// The records of a page, after those of the pages before.
-fn replay(part: u64, s: &[u8], so_far: Tally) -> Tally {
+// The records of a page, each taken by `step`, after those of the pages before.
+fn replay<F: Fn(Tally, &[u8]) -> Tally>(step: &F, s: &[u8], so_far: Tally) -> Tally
+    requires { F.IsAlwaysCallable step.now }
+{
     let mut t = so_far;
-    let n = replays::records::count(s);
     let mut at = first(s);
-    let mut i = 0;
-    while i < n {
+    for _ in 0..replays::records::count(s) {
         let e = replays::records::end(s, at);
-        let more = step(part, t, &s[at..e]);
-        t = more;
+        t = step(t, &s[at..e]);
         at = e;
-        i += 1;
     }
     t
 }
 
-fn read_page<R: Read>(part: u64, so_far: Tally, input: &mut R) -> io::Result<Tally> {
+fn read_page<R: Read, F: Fn(Tally, &[u8]) -> Tally>(
+    step: &F,
+    so_far: Tally,
+    input: &mut R,
+) -> io::Result<Tally>
+    requires { F.IsAlwaysCallable step.now }
+{
     let mut page = replays::pages::empty_page();
     let n = replays::pages::read_page(input, &mut page)?;
-    Ok(replay(part, &page[..n], so_far))
+    Ok(replay(step, &page[..n], so_far))
 }
 
 // The records of the next n pages.
-fn pages<R: Read>(part: u64, n: usize, input: &mut R) -> io::Result<Tally> {
+fn pages<R: Read, F: Fn(Tally, &[u8]) -> Tally>(
+    step: F,
+    n: usize,
+    input: &mut R,
+) -> io::Result<Tally>
+    requires { F.IsAlwaysCallable step }
+{
     let mut t = replays::none();
     for _ in 0..n {
-        t = read_page(part, t, input)?;
+        t = read_page(&step, t, input)?;
     }
     Ok(t)
 }
@@ -59,10 +56,10 @@ fn pages<R: Read>(part: u64, n: usize, input: &mut R) -> io::Result<Tally> {
 fn main(rt: HostRuntime) -> io::Result<()> {
     let mut input = rt.reader();
     let mut out = io::writer(&rt);
-    rolls::report(&mut out, pages(ROLLS, 6, &mut input)?)?;
+    rolls::report(&mut out, pages(rolls::step, 6, &mut input)?)?;
     replays::report(
         &mut out,
         b"sets retired everywhere",
-        pages(RETIRED, 3, &mut input)?,
+        pages(retired::step, 3, &mut input)?,
     )
 }

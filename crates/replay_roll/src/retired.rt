@@ -1,23 +1,19 @@
 // Calls of retire_all, recorded from the sentences of document 02, A.12.
 use capi_roll::gf_retire_all;
 use replays::Tally;
-use replays::records::wide;
 use replays::steps::{count_of, size};
 use replays::values::{bytes, mix_bytes};
 
 // Slot k, 9 where there is none.
 fn slot(slots: &[usize], k: usize) -> u64 {
-    if k < slots.len() {
-        return slots[k] as u64;
-    }
-    9
+    slots.get(k).map_or(9, |x| *x as u64)
 }
 
 // The record r, with room for its slices.
 fn compare(t: Tally, r: &[u8], lent: &mut [u8], slots: &mut [usize]) -> Tally {
     let set = size(replays::records::word_of(r, 6), 4294967295) as u32;
     bytes(r, 72, lent);
-    let a = wide(gf_retire_all(lent, count_of(r, 5), set, slots));
+    let a = u64::from(gf_retire_all(lent, count_of(r, 5), set, slots));
     let got = [a, mix_bytes(lent, 0), slot(slots, 0), slot(slots, 1)];
     replays::compared(t, r, a, &got)
 }

@@ -3,8 +3,7 @@ use capi_roll::{
     gf_append_roll, gf_is_roll, gf_is_roll_former, gf_read_roll, gf_read_roll_former, gf_stands_now,
 };
 use replays::Tally;
-use replays::records::wide;
-use replays::steps::{after, count_of, plus, size};
+use replays::steps::{after, count_of, size};
 use replays::values::{bytes, fill_bytes, mix_bytes, mix_slots};
 use std::io;
 use std::io::Write;
@@ -23,11 +22,9 @@ fn deliver(lent: &mut [u8], count: usize, set: u32, label: &[u8]) {
 // Appends deliveries of the sets 1 to n to an empty roll, all with one label.
 fn deliver_all(lent: &mut [u8], n: usize, label: &[u8]) {
     let mut count = 8;
-    let mut i = 0;
-    while i < n {
-        deliver(lent, count, set_number(plus(i as u64, 1)), label);
+    for set in 1..=n {
+        deliver(lent, count, set_number(set as u64), label);
         count = after(count, after(14, label.len()));
-        i += 1;
     }
 }
 
@@ -46,46 +43,34 @@ fn append(r: &[u8], lent: &mut [u8], slots: &mut [usize], label: &[u8]) -> u64 {
     let kind = size(replays::records::word_of(r, 6), 255) as u8;
     let set = set_number(replays::records::word_of(r, 7));
     let earlier = set_number(replays::records::word_of(r, 8));
-    wide(gf_append_roll(lent, count_of(r, 5), kind, set, earlier, label, slots))
+    u64::from(gf_append_roll(lent, count_of(r, 5), kind, set, earlier, label, slots))
 }
 
 // The number of a test's answer: 0 for yes, 7 for no.
 fn zero_or_seven(yes: bool) -> u64 {
-    if yes {
-        return 0;
-    }
-    7
+    if yes { 0 } else { 7 }
 }
 
 // The number of the call's answer, of calls on older rolls.
 fn answer_former(r: &[u8], lent: &[u8], slots: &mut [usize]) -> u64 {
-    if replays::records::word_of(r, 4) == 4 {
-        return zero_or_seven(gf_is_roll_former(lent, count_of(r, 5)));
+    match replays::records::word_of(r, 4) {
+        4 => zero_or_seven(gf_is_roll_former(lent, count_of(r, 5))),
+        _ => u64::from(gf_read_roll_former(lent, count_of(r, 5), count_of(r, 6), slots)),
     }
-    wide(gf_read_roll_former(lent, count_of(r, 5), count_of(r, 6), slots))
 }
 
 // The number of the call's answer.
 fn answer(r: &[u8], lent: &mut [u8], slots: &mut [usize], label: &[u8]) -> u64 {
-    let call = replays::records::word_of(r, 4);
-    if call > 3 {
-        return answer_former(r, lent, slots);
+    match replays::records::word_of(r, 4) {
+        0 => zero_or_seven(gf_is_roll(lent, count_of(r, 5))),
+        1 => u64::from(gf_read_roll(lent, count_of(r, 5), count_of(r, 6), slots)),
+        2 => append(r, lent, slots, label),
+        3 => {
+            let set = set_number(replays::records::word_of(r, 7));
+            u64::from(gf_stands_now(lent, count_of(r, 5), set, slots))
+        }
+        _ => answer_former(r, lent, slots),
     }
-    if call == 0 {
-        return zero_or_seven(gf_is_roll(lent, count_of(r, 5)));
-    }
-    if call == 1 {
-        return wide(gf_read_roll(lent, count_of(r, 5), count_of(r, 6), slots));
-    }
-    if call == 2 {
-        return append(r, lent, slots, label);
-    }
-    wide(gf_stands_now(
-        lent,
-        count_of(r, 5),
-        set_number(replays::records::word_of(r, 7)),
-        slots,
-    ))
 }
 
 // The record r, whose slices are filled.

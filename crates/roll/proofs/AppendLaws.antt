@@ -1,7 +1,7 @@
 -- Document 02, A.7, as laws about the appender: the new roll has the records of the old one and then the new record, and no byte behind
 -- it changes.
 -- Assumes nothing.
-use Rattle.std.specs.Prelude.{◌≡◌, Bool, true, false, not, ◌&&◌, ◌||◌, cond, ◌⊎◌, List, [], ◌∷◌, ◌++◌, ℕ, ◌+◌, ◌≤◌, leb}
+use Rattle.std.specs.Prelude.{◌≡◌, Bool, true, false, not, ◌&&◌, ◌||◌, cond, ◌⊎◌, List, [], ◌∷◌, ◌++◌, ℕ, ◌+◌, ◌≤◌, leb, Result, Ok, Err}
 use Rattle.std.proofs.Math.Path.{refl, ap, subst}
 use Rattle.std.proofs.Common.{sym, ◌∙◌, true≢false, inl, inr, arith}
 use Rattle.std.proofs.Math.Dec.{ltb}
@@ -21,8 +21,6 @@ use Rattle.tables.specs.declared.Refusal.{Refusal}
 use Rattle.tables.specs.declared.Refusal.TheVariants.{NotARoll, NoRoom}
 use Rattle.roll.specs.AppendCalls.{with_entry, passes, judged_append, leaves, appended}
 use Rattle.roll.specs.AppendLaws.{Grown}
-use Rattle.roll.specs.declared.append.Appended.{Appended}
-use Rattle.roll.specs.declared.append.Appended.TheVariants.{Count, Refused}
 
 -- ---- the appender
 
@@ -34,17 +32,17 @@ all_append : (P : Entry → Type 0) (xs ys : List Entry) → All P xs → All P 
 all_append P [] ys p q = q
 all_append P (x ∷ xs) ys p q = (p.0, all_append P xs ys p.1 q)
 
-never : {a : Appended} (m : ℕ) → (a ≡ (Refused NotARoll)) ⊎ (a ≡ (Refused NoRoom)) → a ≡ Count m → ⊥
+never : {a : Result ℕ Refusal} (m : ℕ) → (a ≡ (Err NotARoll)) ⊎ (a ≡ (Err NoRoom)) → a ≡ Ok m → ⊥
 never m (inl p) q = let z : ◌≡◌ {A = ℕ} 0 1 = cc in omega arith
 never m (inr p) q = let z : ◌≡◌ {A = ℕ} 0 1 = cc in omega arith
 
 -- what an answer other than a refusal says
-pick_says : (held over : Bool) (n m : ℕ) → cond (not held) (Refused NotARoll) (cond over (Refused NoRoom) (Count n)) ≡ Count m → (held ≡ true) × (over ≡ false) × (n ≡ m)
+pick_says : (held over : Bool) (n m : ℕ) → cond (not held) (Err NotARoll) (cond over (Err NoRoom) (Ok n)) ≡ Ok m → (held ≡ true) × (over ≡ false) × (n ≡ m)
 pick_says true true n m d = absurd (never m (inr refl) d)
 pick_says true false n m d = (refl, refl, cc)
 pick_says false over n m d = absurd (never m (inl refl) d)
 
-pub done_says : (s : List ℕ) (count : ℕ) (e : Entry) (m : ℕ) → judged_append s count e ≡ Count m
+pub done_says : (s : List ℕ) (count : ℕ) (e : Entry) (m : ℕ) → judged_append s count e ≡ Ok m
     → (holds_roll s count ≡ true) × (keeps_rules e ≡ true) × (passes s (length (entries_of (take count s)) + 1) (length (with_entry (take count s) e)) ≡ false) × (length (with_entry (take count s) e) ≡ m)
 unfolding judged_append
 done_says s count e m d =
@@ -52,7 +50,7 @@ done_says s count e m d =
     (and_fst (holds_roll s count) (keeps_rules e) p, and_snd (holds_roll s count) (keeps_rules e) p, q, l)
 
 -- what the appender's code needs of its answer, and what it leaves by it
-pub may_add : (s : List ℕ) (count : ℕ) (e : Entry) (m : ℕ) → Bytes s → judged_append s count e ≡ Count m
+pub may_add : (s : List ℕ) (count : ℕ) (e : Entry) (m : ℕ) → Bytes s → judged_append s count e ≡ Ok m
     → (holds_roll s count ≡ true) × (length e.label ≤ 255) × (count + (14 + length e.label) ≤ length s) × (count + (14 + length e.label) ≡ m)
 unfolding passes
 may_add s count e m B d =
@@ -64,18 +62,18 @@ may_add s count e m B d =
     (H, leb-true (length e.label) 255 (and_snd (record_ruled e.kind e.number e.earlier) (leb (length e.label) 255) k), subst (λ x. x ≤ length s) n c, sym n ∙ l)
 
 module _ (s : List ℕ) (count : ℕ) (e : Entry) where
-  pub leaves-new : (m : ℕ) (z : List ℕ) → Bytes s → judged_append s count e ≡ Count m → z ≡ with_entry (take count s) e ++ drop (count + (14 + length e.label)) s
-      → ◌≡◌ {A = Appended × List ℕ} (Count m, z) (appended s count e)
+  pub leaves-new : (m : ℕ) (z : List ℕ) → Bytes s → judged_append s count e ≡ Ok m → z ≡ with_entry (take count s) e ++ drop (count + (14 + length e.label)) s
+      → ◌≡◌ {A = Result ℕ Refusal × List ℕ} (Ok m, z) (appended s count e)
   unfolding appended
   leaves-new m z B d q =
       let l = (may_add s count e m B d).3 in
-      ap (λ x. (Count m, x)) (q ∙ ap (λ k. with_entry (take count s) e ++ drop k s) l) ∙ ap (λ a. (a, leaves a (with_entry (take count s) e) s)) (sym d)
+      ap (λ x. (Ok m, x)) (q ∙ ap (λ k. with_entry (take count s) e ++ drop k s) l) ∙ ap (λ a. (a, leaves a (with_entry (take count s) e) s)) (sym d)
 
-  pub leaves-old : (x : Refusal) → Refused x ≡ judged_append s count e → ◌≡◌ {A = Appended × List ℕ} (Refused x, s) (appended s count e)
+  pub leaves-old : (x : Refusal) → Err x ≡ judged_append s count e → ◌≡◌ {A = Result ℕ Refusal × List ℕ} (Err x, s) (appended s count e)
   unfolding appended
   leaves-old x d = ap (λ a. (a, leaves a (with_entry (take count s) e) s)) d
 
-module _ (s : List ℕ) (count : ℕ) (e : Entry) (B : Bytes s) (F : Fits e) (m : ℕ) (done : judged_append s count e ≡ Count m) where
+module _ (s : List ℕ) (count : ℕ) (e : Entry) (B : Bytes s) (F : Fits e) (m : ℕ) (done : judged_append s count e ≡ Ok m) where
   abbrev old : List ℕ
   old = take count s
 

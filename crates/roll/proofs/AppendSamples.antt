@@ -1,5 +1,5 @@
 -- Records added to small rolls (document 02, A.7). Assumes nothing.
-use Rattle.std.specs.Prelude.{◌≡◌, refl, true, List, [], ◌∷◌, ◌++◌, ℕ, replicate, take}
+use Rattle.std.specs.Prelude.{◌≡◌, refl, true, List, [], ◌∷◌, ◌++◌, ℕ, replicate, take, Ok, Err}
 use Rattle.std.proofs.Common.{lit<}
 use Rattle.lists.specs.Tests.{every}
 use Rattle.lists.specs.Tab.{tab, tab_from}
@@ -15,12 +15,11 @@ use Rattle.roll.proofs.Desks.{Given, Desk, Appends, two-desks}
 use Rattle.roll.specs.Samples.{first, second, empty, one, older, older_is}
 use Rattle.roll.specs.AppendCalls.{with_entry, passes, judged_append, appended}
 use Rattle.roll.specs.declared.read.Item.TheVariants.{Record, End}
-use Rattle.roll.specs.declared.append.Appended.TheVariants.{Count, Refused}
 
 -- set 7 added to an empty roll in a slice of 25 bytes: 24 of them are the new roll, and the last stays; in a slice of 23 it does not fit
 pub appends :
-    (appended (empty ++ replicate 17 9) 8 first ≡ (Count 24, one ++ (9 ∷ []))) × (appended (empty ++ replicate 15 9) 8 first ≡ (Refused NoRoom, empty ++ replicate 15 9))
-    × (appended empty 7 first ≡ (Refused NotARoll, empty)) × (appended empty 9 first ≡ (Refused NotARoll, empty)) × (appended one 24 (record { kind = 1; number = 8; earlier = 7; label = [] }) ≡ (Refused NotARoll, one))
+    (appended (empty ++ replicate 17 9) 8 first ≡ (Ok 24, one ++ (9 ∷ []))) × (appended (empty ++ replicate 15 9) 8 first ≡ (Err NoRoom, empty ++ replicate 15 9))
+    × (appended empty 7 first ≡ (Err NotARoll, empty)) × (appended empty 9 first ≡ (Err NotARoll, empty)) × (appended one 24 (record { kind = 1; number = 8; earlier = 7; label = [] }) ≡ (Err NotARoll, one))
 unfolding empty one first second rendered joined in_fours is_roll framed follow count_of trailer_at four_at record_start size_at every listed ruled_at record_ruled entries_of tab tab_from entry_at starts_from holds_roll with_entry passes judged_append appended
 appends = (refl, refl, refl, refl, refl)
 
@@ -55,7 +54,7 @@ two_records =
 
 -- ---- reading the first of these rolls from byte 0: by the law the two records with their labels, and then the end
 
-pub walks_two : walked (take 38 (after_two (slice 30 0))) ≡ (Record 1 7 0, 65 ∷ 66 ∷ []) ∷ (Record 2 300 7, []) ∷ (End, []) ∷ []
+pub walks_two : walked (take 38 (after_two (slice 30 0))) ≡ (Ok (Record 1 7 0), 65 ∷ 66 ∷ []) ∷ (Ok (Record 2 300 7), []) ∷ (Ok End, []) ∷ []
 unfolding empty first second rendered joined in_fours is_roll framed follow count_of trailer_at four_at record_start size_at every listed ruled_at record_ruled entries_of tab tab_from entry_at starts_from holds_roll with_entry passes judged_append appended
 walks_two = walk (take 38 (after_two (slice 30 0))) refl
 

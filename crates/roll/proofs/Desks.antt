@@ -1,5 +1,5 @@
 -- Document 02, A.13: two desks that append the same records hold identical rolls. Assumes nothing.
-use Rattle.std.specs.Prelude.{◌≡◌, true, List, [], ◌∷◌, ◌++◌, ℕ, ◌<◌, leb, length, drop}
+use Rattle.std.specs.Prelude.{◌≡◌, true, List, [], ◌∷◌, ◌++◌, ℕ, ◌<◌, leb, length, drop, Ok}
 use Rattle.std.proofs.Common.{sym, ap, ◌∙◌, append_assoc, append-nil, arith}
 use Rattle.std.proofs.Math.Path.{subst}
 use Rattle.std.proofs.Math.ListN.{take}
@@ -15,7 +15,6 @@ use Rattle.roll.proofs.Laws.{same_bytes}
 use Rattle.roll.specs.AppendCalls.{judged_append, appended}
 use Rattle.roll.specs.AppendingLaws.{records_are}
 use Rattle.roll.proofs.AppendLaws.{done_says, left-new, grown}
-use Rattle.roll.specs.declared.append.Appended.TheVariants.{Count}
 
 -- a record as the appender takes it: numbers of 4 bytes, a label of bytes
 abbrev pub Given : Entry → Type 0
@@ -30,11 +29,11 @@ pub record Desk (s : List ℕ) (count : ℕ) (rs : List Entry) : Type 0 where
 -- these records are appended one after the other, each call done: from the slice s with its count to the slice u with its count m
 abbrev pub Appends : List ℕ → ℕ → List Entry → List ℕ → ℕ → Type 0
 Appends s count [] u m = (s ≡ u) × (count ≡ m)
-Appends s count (e ∷ es) u m = (k : ℕ) × (judged_append s count e ≡ Count k) × Appends (appended s count e).1 k es u m
+Appends s count (e ∷ es) u m = (k : ℕ) × (judged_append s count e ≡ Ok k) × Appends (appended s count e).1 k es u m
 
 -- ---- one record
 
-module _ (s : List ℕ) (count : ℕ) (rs : List Entry) (D : Desk s count rs) (e : Entry) (G : Given e) (k : ℕ) (done : judged_append s count e ≡ Count k) where
+module _ (s : List ℕ) (count : ℕ) (rs : List Entry) (D : Desk s count rs) (e : Entry) (G : Given e) (k : ℕ) (done : judged_append s count e ≡ Ok k) where
   abbrev all : List Entry
   all = entries_of (take count s) ++ (e ∷ [])
 

@@ -1,5 +1,5 @@
 -- How the appender's stores make the new roll, and what its tests say of its answer. Assumes nothing.
-use Rattle.std.specs.Prelude.{◌≡◌, Bool, true, false, ◌&&◌, ◌||◌, ◌⊎◌, List, [], ◌∷◌, ◌++◌, ℕ, ◌+◌, ◌≤◌, ◌<◌, leb}
+use Rattle.std.specs.Prelude.{◌≡◌, Bool, true, false, ◌&&◌, ◌||◌, ◌⊎◌, List, [], ◌∷◌, ◌++◌, ℕ, ◌+◌, ◌≤◌, ◌<◌, leb, Ok, Err}
 use Rattle.std.proofs.Math.Path.{refl, sym, ap}
 use Rattle.std.proofs.Common.{ap₂, ◌∙◌, inl, inr, append_assoc, arith, length-take-le}
 use Rattle.std.proofs.Math.Bool.{cond}
@@ -17,7 +17,6 @@ use Rattle.roll.specs.Rendering.{start_at, start_list, start-at, tab-starts, sta
 use Rattle.roll.specs.HoldingLaws.{is_sized, is_there, is_roll_lem, has-count, within-limits, bytes_take, length-starts-from, length-rendered}
 use Rattle.tables.specs.declared.Refusal.TheVariants.{NotARoll, NoRoom}
 use Rattle.roll.specs.AppendCalls.{with_entry, passes, judged_append}
-use Rattle.roll.specs.declared.append.Appended.TheVariants.{Count, Refused}
 
 -- ---- the record to add
 
@@ -63,17 +62,17 @@ module _ (s : List ℕ) (count : ℕ) (r : Entry) (H : holds_roll s count ≡ tr
       length-rendered rs (starts_of rs) ∙ omega (arith, L.2, length_records, length-starts-from 0 rs, length-entries)
 
   -- the answer, by the code's tests
-  pub answer-long : (999 < count_of b) ⊎ ((65536 < count + (14 + length r.label)) ⊎ (length s < count + (14 + length r.label))) → keeps_rules r ≡ true → (Refused NoRoom) ≡ judged_append s count r
+  pub answer-long : (999 < count_of b) ⊎ ((65536 < count + (14 + length r.label)) ⊎ (length s < count + (14 + length r.label))) → keeps_rules r ≡ true → (Err NoRoom) ≡ judged_append s count r
   unfolding judged_append passes
   answer-long h k = rw (H, k, entries-count, new-length) (go h)
     where
       go : (999 < count_of b) ⊎ ((65536 < count + (14 + length r.label)) ⊎ (length s < count + (14 + length r.label)))
-          → (Refused NoRoom) ≡ cond (ltb 1000 (count_of b + 1) || (ltb 65536 (count + (14 + length r.label)) || ltb (length s) (count + (14 + length r.label)))) (Refused NoRoom) (Count (count + (14 + length r.label)))
+          → (Err NoRoom) ≡ cond (ltb 1000 (count_of b + 1) || (ltb 65536 (count + (14 + length r.label)) || ltb (length s) (count + (14 + length r.label)))) (Err NoRoom) (Ok (count + (14 + length r.label)))
       go (inl g) = rw (lt-ltb 1000 (count_of b + 1) (omega arith)) refl
       go (inr (inl g)) = rw (lt-ltb 65536 (count + (14 + length r.label)) g, or_true (ltb 1000 (count_of b + 1))) refl
       go (inr (inr g)) = rw (lt-ltb (length s) (count + (14 + length r.label)) g, or_true (ltb 65536 (count + (14 + length r.label))), or_true (ltb 1000 (count_of b + 1))) refl
 
-  pub answer-done : count_of b ≤ 999 → count + (14 + length r.label) ≤ 65536 → count + (14 + length r.label) ≤ length s → keeps_rules r ≡ true → Count (count + (14 + length r.label)) ≡ judged_append s count r
+  pub answer-done : count_of b ≤ 999 → count + (14 + length r.label) ≤ 65536 → count + (14 + length r.label) ≤ length s → keeps_rules r ≡ true → Ok (count + (14 + length r.label)) ≡ judged_append s count r
   unfolding judged_append passes
   answer-done h g l k =
       rw (H, k, entries-count, new-length) (
@@ -142,7 +141,7 @@ module _ (s : List ℕ) (count : ℕ) (r : Entry) (H : holds_roll s count ≡ tr
           ∙ record_laid
 
 pub answer-not : (s : List ℕ) (count : ℕ) (r : Entry)
-    → (holds_roll s count ≡ false) ⊎ ((record_ruled r.kind r.number r.earlier ≡ false) ⊎ (leb (length r.label) 255 ≡ false)) → (Refused NotARoll) ≡ judged_append s count r
+    → (holds_roll s count ≡ false) ⊎ ((record_ruled r.kind r.number r.earlier ≡ false) ⊎ (leb (length r.label) 255 ≡ false)) → (Err NotARoll) ≡ judged_append s count r
 unfolding judged_append
 answer-not s count r h = rw (none (holds_roll s count) (record_ruled r.kind r.number r.earlier) (leb (length r.label) 255) h) refl
   where

@@ -1,7 +1,7 @@
 -- Document 02, A.7, as laws about the reader: it walks a roll record by record from byte 0, and says end at the trailer. They hold for
 -- either rule: ok is its answer.
 -- Assumes nothing.
-use Rattle.std.specs.Prelude.{◌≡◌, Bool, true, List, ℕ, ◌+◌, ◌<◌}
+use Rattle.std.specs.Prelude.{◌≡◌, Bool, true, List, ℕ, ◌+◌, ◌<◌, Ok}
 use Rattle.std.proofs.Math.Path.{refl}
 use Rattle.std.proofs.Common.{sym, arith}
 use Rattle.std.proofs.Math.Dec.{eqb}
@@ -19,7 +19,7 @@ module _ (ok : Bool) (b : List ℕ) (R : ok ≡ true) where
   holds i h = both ok (is_start b (record_start b i)) R (some_of (count_of b) (λ k. eqb (record_start b k) (record_start b i)) i h (eq-eqb (record_start b i) (record_start b i) refl))
 
   -- at the start of record i it gives that record and its label, and goes on to where record i + 1 starts
-  pub reads_record : (i : ℕ) → i < count_of b → read_by ok b (record_start b i) ≡ read_entry (entry_at b (record_start b i))
+  pub reads_record : (i : ℕ) → i < count_of b → read_by ok b (record_start b i) ≡ Ok (read_entry (entry_at b (record_start b i)))
   unfolding read_by
   reads_record i h = rw (holds i h) refl
 
@@ -32,7 +32,7 @@ module _ (ok : Bool) (b : List ℕ) (R : ok ≡ true) where
   goes_next i h = rw (holds i h) (sym (start-next b i))
 
   -- after the last one it says end
-  pub reads_end : framed b ≡ true → read_by ok b (record_start b (count_of b)) ≡ End
+  pub reads_end : framed b ≡ true → read_by ok b (record_start b (count_of b)) ≡ Ok End
   unfolding read_by holds_record
   reads_end F =
       let S = framed-sized b F in

@@ -1,6 +1,6 @@
 -- What the reader's code makes of its tests. Assumes nothing.
-use Rattle.std.specs.Prelude.{◌≡◌, Bool, true, false, List, [], ℕ, ◌+◌, ◌-◌, ◌≤◌, ◌<◌, eqb, length, get_or, take, drop}
-use Rattle.std.proofs.Math.Path.{refl}
+use Rattle.std.specs.Prelude.{◌≡◌, Bool, true, false, List, [], ℕ, ◌+◌, ◌-◌, ◌≤◌, ◌<◌, eqb, length, get_or, take, drop, Ok, Err}
+use Rattle.std.proofs.Math.Path.{refl, ap}
 use Rattle.std.proofs.Common.{arith}
 use borrow.Author.Tests.{eq-eqb, ne_eqb, eqb-true}
 use Rattle.lists.specs.Tests.{some_at, and_fst, and_snd}
@@ -10,7 +10,7 @@ use Rattle.roll.specs.StartLaws.{ends-before, head-before}
 use Rattle.roll.specs.HoldingLaws.{framed-sized}
 use Rattle.roll.specs.ReadCalls.{read_entry, holds_record, read_by, label_by, past_by}
 use Rattle.roll.specs.declared.read.Item.{Item}
-use Rattle.roll.specs.declared.read.Item.TheVariants.{Record, End, Refused}
+use Rattle.roll.specs.declared.read.Item.TheVariants.{Record, End}
 
 pub record_is : (b : List ℕ) (at x y : ℕ) → x ≡ four_at b (at + 1) → y ≡ four_at b (at + 5) → Record (get_or b at 0) x y ≡ read_entry (entry_at b at)
 unfolding entry_at
@@ -49,20 +49,20 @@ module _ (ok : Bool) (b : List ℕ) (at : ℕ) where
   unfolding holds_record
   held_by e h = rw e h
 
-  pub read-not : ok ≡ false → Refused NotARoll ≡ read_by ok b at
+  pub read-not : ok ≡ false → Err NotARoll ≡ read_by ok b at
   unfolding read_by holds_record
   read-not e = rw e refl
 
   module _ (R : ok ≡ true) where
-    pub read_record : {r : Item} → is_start b at ≡ true → r ≡ read_entry (entry_at b at) → r ≡ read_by ok b at
+    pub read_record : {r : Item} → is_start b at ≡ true → r ≡ read_entry (entry_at b at) → Ok r ≡ read_by ok b at
     unfolding read_by holds_record
-    read_record e h = rw (R, e) h
+    read_record e h = rw (R, e) (ap Ok h)
 
-    pub read_end : is_start b at ≡ false → at ≡ trailer_at b → End ≡ read_by ok b at
+    pub read_end : is_start b at ≡ false → at ≡ trailer_at b → Ok End ≡ read_by ok b at
     unfolding read_by holds_record
     read_end e h = rw (R, e, eq-eqb at (trailer_at b) h) refl
 
-    pub read_none : is_start b at ≡ false → (at ≡ trailer_at b → ⊥) → Refused NotARoll ≡ read_by ok b at
+    pub read_none : is_start b at ≡ false → (at ≡ trailer_at b → ⊥) → Err NotARoll ≡ read_by ok b at
     unfolding read_by holds_record
     read_none e h = rw (R, e, ne_eqb at (trailer_at b) h) refl
 

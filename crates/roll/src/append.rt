@@ -7,28 +7,17 @@ ghost use Rattle.roll.specs.AppendCalls.{number_of_appended, with_entry, judged_
 ghost use Rattle.roll.specs.Laid.{laid};
 
 use crate::judge::{is_roll, is_ruled};
-use crate::lay::{lay, lay_four, low};
+use crate::lay::{lay, lay_four};
 use crate::layout::{count_in, listed_at, record_end, trailer_in};
-use crate::numbers::wide;
 use tables::Refusal;
 
-// What the appender answers.
-#[derive(Clone, Copy)]
-pub enum Appended {
-    // done: how many bytes the roll has now
-    Count(usize),
-    // 7: the bytes are no roll, the slice has fewer than the count, or the record breaks a rule; 8: the new roll would be too long for
-    // a roll or for the slice
-    Refused(Refusal),
-}
-
-// The number of an answer; 0 is done.
-pub fn number_of_appended(a: Appended) -> u8
+// The number of the appender's answer; 0 is done.
+pub fn number_of_appended(a: Result<usize, Refusal>) -> u8
     ensures { result ≡ number_of_appended a }
 {
     match a {
-        Appended::Count(_) => 0,
-        Appended::Refused(r) => tables::refusal_number(r),
+        Ok(_) => 0,
+        Err(r) => tables::refusal_number(r),
     }
 }
 
@@ -37,19 +26,10 @@ fn lay_record(s: &mut [u8], at: usize, kind: u8, set: usize, earlier: usize, lab
     requires { (at + (10 + length label.now) ≤ length s.old) × (length label.now ≤ 255) }
     ensures { s.new ≡ laid s.old at (bytes_of (entry kind set earlier label.now)) }
 {
-    let head = [
-        kind,
-        low(set),
-        low(set / 256),
-        low(set / 65536),
-        low(set / 16777216),
-        low(earlier),
-        low(earlier / 256),
-        low(earlier / 65536),
-        low(earlier / 16777216),
-        low(label.len()),
-    ];
-    lay(s, at, &head);
+    s[at] = kind;
+    lay_four(s, at + 1, set);
+    lay_four(s, at + 5, earlier);
+    s[at + 9] = label.len() as u8;
     lay(s, at + 10, label);
 }
 
@@ -59,11 +39,9 @@ fn lay_starts(s: &mut [u8], n: usize, t: usize)
     ensures { s.new ≡ laid s.old t (in_fours (tab n (record_start s.old))) }
 {
     let mut at = 0;
-    let mut i = 0;
-    while i < n {
+    for i in 0..n {
         lay_four(s, listed_at(t, i), at);
         at = record_end(s, at);
-        i += 1;
     }
 }
 
@@ -78,7 +56,9 @@ fn lay_trailer(s: &mut [u8], n: usize, t: usize)
     lay_four(s, place + 4, t);
 }
 
-// The appender's answer alone, with nothing written: 7 first of all, 8 last.
+// The appender's answer alone, with nothing written: how many bytes the new roll would have, or a refusal. 7 comes first of all, where the
+// bytes are no roll, the slice has fewer than the count, or the record breaks a rule; 8 last, where the new roll would be too long for a roll
+// or for the slice.
 pub fn judge_append(
     lent: &[u8],
     count: usize,
@@ -86,29 +66,20 @@ pub fn judge_append(
     set: usize,
     earlier: usize,
     label: &[u8],
-) -> Appended
+) -> Result<usize, Refusal>
     ensures { result ≡ judged_append lent.now count (entry kind set earlier label.now) }
 {
     if !is_roll(lent, count) {
-        return Appended::Refused(Refusal::NotARoll);
+        return Err(Refusal::NotARoll);
     }
-    if !is_ruled(wide(kind), set, earlier) {
-        return Appended::Refused(Refusal::NotARoll);
-    }
-    if 255 < label.len() {
-        return Appended::Refused(Refusal::NotARoll);
+    if !is_ruled(usize::from(kind), set, earlier) || 255 < label.len() {
+        return Err(Refusal::NotARoll);
     }
     let long = count + (14 + label.len());
-    if 999 < count_in(lent, count) {
-        return Appended::Refused(Refusal::NoRoom);
+    if 999 < count_in(lent, count) || 65536 < long || lent.len() < long {
+        return Err(Refusal::NoRoom);
     }
-    if 65536 < long {
-        return Appended::Refused(Refusal::NoRoom);
-    }
-    if lent.len() < long {
-        return Appended::Refused(Refusal::NoRoom);
-    }
-    Appended::Count(long)
+    Ok(long)
 }
 
 // Adds the record to a roll that has room for it.
@@ -133,17 +104,12 @@ pub fn append(
     set: u32,
     earlier: u32,
     label: &[u8],
-) -> Appended
+) -> Result<usize, Refusal>
     ensures { (result, lent.new) ≡ appended lent.old count (entry kind set earlier label.now) }
 {
     let number = set as usize;
     let before = earlier as usize;
-    let a = judge_append(lent, count, kind, number, before, label);
-    match a {
-        Appended::Count(long) => {
-            add_record(lent, count, kind, number, before, label);
-            Appended::Count(long)
-        }
-        Appended::Refused(r) => Appended::Refused(r),
-    }
+    let long = judge_append(lent, count, kind, number, before, label)?;
+    add_record(lent, count, kind, number, before, label);
+    Ok(long)
 }

@@ -5,26 +5,17 @@ ghost use Rattle.roll.specs.Format.{record_ruled};
 ghost use Rattle.roll.specs.Reading.{size_at, record_start, ruled_at, follow, listed, listed_once, count_of, trailer_at, sized, is_roll, is_former_roll, holds_roll, holds_former_roll};
 ghost use Rattle.roll.specs.Roll.{Sized, Marked};
 
-use super::layout::{count_in, earlier_at, listed_at, record_end, set_at, trailer_in};
-use super::numbers::{four, wide};
+use super::layout::{Kind, count_in, earlier_at, listed_at, record_end, set_at, trailer_in};
+use super::numbers::four;
 
 // Whether a record's kind and numbers keep the rules.
 pub fn is_ruled(kind: usize, number: usize, earlier: usize) -> bool
     ensures { result ≡ record_ruled kind number earlier }
 {
-    if kind < 1 {
+    if kind < 1 || 3 < kind || number < 1 {
         return false;
     }
-    if 3 < kind {
-        return false;
-    }
-    if number < 1 {
-        return false;
-    }
-    if kind == 2 {
-        return earlier != 0;
-    }
-    earlier == 0
+    (kind == Kind::Replacement as usize) == (earlier != 0)
 }
 
 // Whether the record at `at` ends at or before t and keeps the rules.
@@ -35,10 +26,7 @@ fn fits(b: &[u8], at: usize, t: usize) -> bool
     if t < at + 10 {
         return false;
     }
-    if t < record_end(b, at) {
-        return false;
-    }
-    is_ruled(wide(b[at]), set_at(b, at), earlier_at(b, at))
+    record_end(b, at) <= t && is_ruled(usize::from(b[at]), set_at(b, at), earlier_at(b, at))
 }
 
 // Whether n records follow each other from byte 0 up to t; marks where each of them starts.
@@ -47,14 +35,12 @@ fn mark_starts(b: &[u8], n: usize, t: usize, marks: &mut [u8; 65536]) -> bool
     ensures { (result ≡ follow b.now n t) × (result ≡ true → Marked b.now n marks.new) }
 {
     let mut at = 0;
-    let mut i = 0;
-    while i < n {
+    for _ in 0..n {
         if !fits(b, at, t) {
             return false;
         }
-        marks[at] = 1u8;
+        marks[at] = 1;
         at = record_end(b, at);
-        i += 1;
     }
     at == t
 }
@@ -64,8 +50,7 @@ fn lists_once(b: &[u8], n: usize, t: usize, marks: &mut [u8; 65536]) -> bool
     requires { (n ≡ count_of b.now) × (t ≡ trailer_at b.now) × Sized b.now n t × Marked b.now n marks.old }
     ensures { result ≡ every n (λ i. listed_once b.now i) }
 {
-    let mut i = 0;
-    while i < n {
+    for i in 0..n {
         let x = four(b, listed_at(t, i));
         if t <= x {
             return false;
@@ -73,8 +58,7 @@ fn lists_once(b: &[u8], n: usize, t: usize, marks: &mut [u8; 65536]) -> bool
         if marks[x] == 0 {
             return false;
         }
-        marks[x] = 0u8;
-        i += 1;
+        marks[x] = 0;
     }
     true
 }
@@ -85,10 +69,7 @@ fn has_records(b: &[u8], n: usize, t: usize) -> bool
     ensures { result ≡ (follow b.now n t && every n (λ i. listed_once b.now i)) }
 {
     let mut marks = [0u8; 65536];
-    if !mark_starts(b, n, t, &mut marks) {
-        return false;
-    }
-    lists_once(b, n, t, &mut marks)
+    mark_starts(b, n, t, &mut marks) && lists_once(b, n, t, &mut marks)
 }
 
 // Whether n records follow each other from byte 0 up to t, and number i of the trailer's list is where record i starts.
@@ -97,8 +78,7 @@ fn lists_in_order(b: &[u8], n: usize, t: usize) -> bool
     ensures { result ≡ (follow b.now n t && every n (λ i. eqb (listed b.now i) (record_start b.now i))) }
 {
     let mut p = 0;
-    let mut i = 0;
-    while i < n {
+    for i in 0..n {
         if !fits(b, p, t) {
             return false;
         }
@@ -106,7 +86,6 @@ fn lists_in_order(b: &[u8], n: usize, t: usize) -> bool
             return false;
         }
         p = record_end(b, p);
-        i += 1;
     }
     p == t
 }
@@ -116,58 +95,40 @@ fn is_sized(b: &[u8]) -> bool
     ensures { result ≡ sized b.now }
 {
     let len = b.len();
-    if len < 8 {
-        return false;
-    }
-    if 65536 < len {
+    if len < 8 || 65536 < len {
         return false;
     }
     let n = count_in(b, len);
     let t = trailer_in(b, len);
-    if 1000 < n {
-        return false;
-    }
-    listed_at(t, n) + 8 == len
+    n <= 1000 && listed_at(t, n) + 8 == len
 }
 
 // Whether all the bytes are a roll.
 pub fn is_whole_roll(b: &[u8]) -> bool
     ensures { result ≡ is_roll b.now }
 {
-    if !is_sized(b) {
-        return false;
-    }
     let len = b.len();
-    lists_in_order(b, count_in(b, len), trailer_in(b, len))
+    is_sized(b) && lists_in_order(b, count_in(b, len), trailer_in(b, len))
 }
 
 // Whether all the bytes are a roll by the former rule, which leaves the order of the starts free.
 pub fn is_whole_roll_former(b: &[u8]) -> bool
     ensures { result ≡ is_former_roll b.now }
 {
-    if !is_sized(b) {
-        return false;
-    }
     let len = b.len();
-    has_records(b, count_in(b, len), trailer_in(b, len))
+    is_sized(b) && has_records(b, count_in(b, len), trailer_in(b, len))
 }
 
 // Whether the first count bytes of the lent slice are there and are a roll.
 pub fn is_roll(lent: &[u8], count: usize) -> bool
     ensures { result ≡ holds_roll lent.now count }
 {
-    if lent.len() < count {
-        return false;
-    }
-    is_whole_roll(&lent[..count])
+    lent.get(..count).is_some_and(is_whole_roll)
 }
 
 // The same by the former rule.
 pub fn is_roll_former(lent: &[u8], count: usize) -> bool
     ensures { result ≡ holds_former_roll lent.now count }
 {
-    if count > lent.len() {
-        return false;
-    }
-    is_whole_roll_former(&lent[..count])
+    lent.get(..count).is_some_and(is_whole_roll_former)
 }

@@ -3,30 +3,18 @@ ghost use Rattle.std.specs.Prelude.{◌≡◌, ◌+◌, ◌%◌, ◌≤◌, leng
 ghost use Rattle.roll.specs.Format.{in_four};
 ghost use Rattle.roll.specs.Laid.{laid};
 
-// The lowest byte of a number.
-pub fn low(n: usize) -> u8
-    ensures { result ≡ n % 256 }
-{
-    (n % 256) as u8
-}
-
 // Lays src over s from byte `at`.
 pub fn lay(s: &mut [u8], at: usize, src: &[u8])
     requires { at + length src.now ≤ length s.old }
     ensures { s.new ≡ laid s.old at src.now }
 {
-    let mut i = 0;
-    while i < src.len() {
-        s[at + i] = src[i];
-        i += 1;
-    }
+    s[at..at + src.len()].copy_from_slice(src);
 }
 
-// Lays a number over the 4 bytes at `at`.
+// Lays the lowest 4 bytes of a number over the 4 bytes at `at`.
 pub fn lay_four(s: &mut [u8], at: usize, n: usize)
     requires { at + 4 ≤ length s.old }
     ensures { s.new ≡ laid s.old at (in_four n) }
 {
-    let four = [low(n), low(n / 256), low(n / 65536), low(n / 16777216)];
-    lay(s, at, &four);
+    lay(s, at, &n.to_le_bytes()[..4]);
 }

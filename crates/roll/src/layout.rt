@@ -2,7 +2,15 @@
 ghost use Rattle.std.specs.Prelude.{◌≡◌, ◌+◌, ◌*◌, ◌-◌, ◌≤◌, ◌<◌, length};
 ghost use Rattle.roll.specs.Reading.{four_at, size_at};
 
-use super::numbers::{four, wide};
+use super::numbers::four;
+
+// The kinds of a record, by their numbers in a roll.
+#[derive(Clone, Copy)]
+pub enum Kind {
+    Delivery = 1,
+    Replacement = 2,
+    Retirement = 3,
+}
 
 // The record count of a roll in the first len bytes.
 pub fn count_in(b: &[u8], len: usize) -> usize
@@ -49,5 +57,5 @@ pub fn record_end(b: &[u8], at: usize) -> usize
     requires { at + 10 ≤ length b.now }
     ensures { result ≡ at + size_at b.now at }
 {
-    at + (10 + wide(b[at + 9]))
+    at + (10 + usize::from(b[at + 9]))
 }

@@ -16,8 +16,5 @@ pub mod reading;
 pub fn roll_bytes(lent: &[u8], count: usize) -> &[u8]
     ensures { result.now ≡ roll_bytes lent.now count }
 {
-    if lent.len() < count {
-        return &lent[..0];
-    }
-    &lent[..count]
+    lent.get(..count).unwrap_or(&[])
 }

@@ -12,22 +12,16 @@ pub enum Item {
     Record { kind: u8, set: u32, earlier: u32 },
     // the trailer begins there
     End,
-    // 7: the bytes are not a roll, or neither a record nor the trailer starts there
-    Refused(Refusal),
 }
 
 // The number of what the reader says: 0 for a record, 68 for the end, the refusal's own otherwise.
-pub fn item_number(a: Item) -> u8
+pub fn item_number(a: Result<Item, Refusal>) -> u8
     ensures { result ≡ item_number a }
 {
     match a {
-        Item::Record {
-            kind: _,
-            set: _,
-            earlier: _,
-        } => 0,
-        Item::End => 68,
-        Item::Refused(r) => tables::refusal_number(r),
+        Ok(Item::Record { .. }) => 0,
+        Ok(Item::End) => 68,
+        Err(r) => tables::refusal_number(r),
     }
 }
 
@@ -45,8 +39,8 @@ pub fn hold<'a>(bytes: &'a [u8]) -> Roll<'a>
     Roll { bytes, at: 0 }
 }
 
-// What stands at the position: a record, the end, or 7.
-pub fn read<'a>(r: Roll<'a>) -> Item
+// What stands at the position: a record or the end; 7 where the bytes are not a roll, or neither a record nor the trailer starts there.
+pub fn read<'a>(r: Roll<'a>) -> Result<Item, Refusal>
     ensures { result ≡ read_at r.entry.bytes.now r.entry.at }
 {
     crate::reading::read_at(r.bytes, r.at)

@@ -15,13 +15,11 @@ fn starts_at(b: &[u8], at: usize) -> bool
 {
     let n = count_in(b, b.len());
     let mut p = 0;
-    let mut i = 0;
-    while i < n {
+    for _ in 0..n {
         if p == at {
             return true;
         }
         p = record_end(b, p);
-        i += 1;
     }
     false
 }
@@ -31,10 +29,7 @@ fn holds_record(ok: bool, b: &[u8], at: usize) -> bool
     requires { ok ≡ true → framed b.now ≡ true }
     ensures { result ≡ holds_record ok b.now at }
 {
-    if !ok {
-        return false;
-    }
-    starts_at(b, at)
+    ok && starts_at(b, at)
 }
 
 // The record at `at`.
@@ -50,20 +45,20 @@ fn record_at(b: &[u8], at: usize) -> Item
 }
 
 // What stands at a position of the bytes: a record of the roll, its end, or 7.
-fn read_by(ok: bool, b: &[u8], at: usize) -> Item
+fn read_by(ok: bool, b: &[u8], at: usize) -> Result<Item, Refusal>
     requires { ok ≡ true → framed b.now ≡ true }
     ensures { result ≡ read_by ok b.now at }
 {
     if !ok {
-        return Item::Refused(Refusal::NotARoll);
+        return Err(Refusal::NotARoll);
     }
     if starts_at(b, at) {
-        return record_at(b, at);
+        return Ok(record_at(b, at));
     }
     if at == trailer_in(b, b.len()) {
-        return Item::End;
+        return Ok(Item::End);
     }
-    Item::Refused(Refusal::NotARoll)
+    Err(Refusal::NotARoll)
 }
 
 // The label of the record that starts at a position, as a part of the roll; an empty part where none starts there.
@@ -72,7 +67,7 @@ fn label_by(ok: bool, b: &[u8], at: usize) -> &[u8]
     ensures { result.now ≡ label_by ok b.now at }
 {
     if !holds_record(ok, b, at) {
-        return &b[0..0];
+        return &[];
     }
     let from = at + 10;
     let end = record_end(b, at);
@@ -84,14 +79,15 @@ fn past_by(ok: bool, b: &[u8], at: usize) -> usize
     requires { ok ≡ true → framed b.now ≡ true }
     ensures { result ≡ past_by ok b.now at }
 {
-    if !holds_record(ok, b, at) {
-        return at;
+    if holds_record(ok, b, at) {
+        record_end(b, at)
+    } else {
+        at
     }
-    record_end(b, at)
 }
 
 // What stands at a position of the bytes, the label of the record there, and where it ends.
-pub fn read_at(b: &[u8], at: usize) -> Item
+pub fn read_at(b: &[u8], at: usize) -> Result<Item, Refusal>
     ensures { result ≡ read_at b.now at }
 {
     read_by(is_whole_roll(b), b, at)
@@ -110,7 +106,7 @@ pub fn past_at(b: &[u8], at: usize) -> usize
 }
 
 // The same of an older roll, by the former rule.
-pub fn read_at_former(b: &[u8], at: usize) -> Item
+pub fn read_at_former(b: &[u8], at: usize) -> Result<Item, Refusal>
     ensures { result ≡ read_at_former b.now at }
 {
     read_by(is_whole_roll_former(b), b, at)

@@ -1,5 +1,5 @@
 -- Retirements appended one after the other: they are read after the former records, and the bytes after them stay. Assumes nothing.
-use Rattle.std.specs.Prelude.{◌≡◌, true, List, [], ◌∷◌, ◌++◌, map, ℕ, suc, ◌+◌, ◌*◌, ◌≤◌, ◌<◌, length, take, drop}
+use Rattle.std.specs.Prelude.{◌≡◌, true, List, [], ◌∷◌, ◌++◌, map, ℕ, suc, ◌+◌, ◌*◌, ◌≤◌, ◌<◌, length, take, drop, Ok}
 use Rattle.std.proofs.Math.Path.{refl}
 use Rattle.std.proofs.Common.{sym, ap, ◌∙◌, subst, append_assoc, append-nil, arith, length-append, length-drop, drop-drop, le-leb}
 use Rattle.lists.specs.Elements.{All}
@@ -7,7 +7,6 @@ use Rattle.roll.specs.Format.{Entry, record_ruled, keeps_rules}
 use Rattle.roll.specs.Reading.{count_of, entries_of, holds_roll}
 use Rattle.roll.specs.NumberLaws.{Bytes, bytes-none}
 use Rattle.roll.specs.HoldingLaws.{is_there}
-use Rattle.roll.specs.declared.append.Appended.TheVariants.{Count}
 use Rattle.roll.specs.AppendCalls.{judged_append, appended}
 use Rattle.roll.specs.AppendingLaws.{entries-count, answer-done}
 use Rattle.roll.specs.AppendLaws.{Grown}
@@ -40,7 +39,7 @@ module _ (s : List ℕ) (count k y : ℕ) (Y : Named y) (P : Roomy s count (suc 
   unfolding record_ruled
   rules = rw (le-leb 1 y Y.0) refl
 
-  done : judged_append s count e ≡ Count (count + 14)
+  done : judged_append s count e ≡ Ok (count + 14)
   done = sym (answer-done s count e P.holds P.bytes (omega (arith, P.few)) (omega (arith, P.small)) (omega (arith, P.within)) rules)
 
   pub one_more : Grown s count e (count + 14)

@@ -1,5 +1,5 @@
 -- The answer for a set by the end of its chain, which one walk over the records finds. Assumes nothing.
-use Rattle.std.specs.Prelude.{◌≡◌, Bool, true, false, cond, List, ℕ, zero, suc, ◌+◌, ◌<◌}
+use Rattle.std.specs.Prelude.{◌≡◌, Bool, true, false, cond, List, ℕ, zero, suc, ◌+◌, ◌<◌, Result, Ok}
 use Rattle.std.proofs.Math.Path.{refl, ap, ap₂}
 use Rattle.std.proofs.Common.{sym, ◌∙◌, subst, ⊎_elim, add-one, eq-eqb, ne_eqb}
 use Rattle.lists.specs.Cases.{eq_or_ne}
@@ -10,10 +10,11 @@ use Rattle.standing.specs.Chains.{Sound, chain_end, moved, carried, carried_is, 
 use Rattle.standing.proofs.Laws.{named}
 use Rattle.standing.specs.declared.Standing.{Standing}
 use Rattle.standing.specs.declared.Standing.TheVariants.{Unknown, Retired, Current}
+use Rattle.tables.specs.declared.Refusal.{Refusal}
 
 -- what is said at the end e of a chain
-abbrev pub at_end : Register → ℕ → Standing
-at_end g e = cond (g.retired e) Retired (Current e)
+abbrev pub at_end : Register → ℕ → Result Standing Refusal
+at_end g e = cond (g.retired e) (Ok Retired) (Ok (Current e))
 
 last_one : (m : ℕ) (g : Register) (x : ℕ) → g.delivered x ≡ true → g.replaced_by x ≡ 0 → answer (suc m) g x ≡ at_end g (chain_end m g x)
 unfolding answer rule
@@ -47,7 +48,7 @@ module _ (b : List ℕ) where
 
 -- ---- the code's tests
 
-not_known : (m : ℕ) (g : Register) (x : ℕ) → g.delivered x ≡ false → Unknown ≡ answer (suc m) g x
+not_known : (m : ℕ) (g : Register) (x : ℕ) → g.delivered x ≡ false → Ok Unknown ≡ answer (suc m) g x
 unfolding answer rule
 not_known m g x e = rw e refl
 
@@ -67,17 +68,17 @@ module _ (b : List ℕ) (n x : ℕ) (R : is_roll b ≡ true) (N : n ≡ count_of
   one_more : (m : ℕ) → answer (n + 1) g m ≡ answer (suc n) g m
   one_more m = ap (λ k. answer k g m) (add-one n)
 
-  pub says_unknown : d ≡ false → Unknown ≡ answer (n + 1) g x
+  pub says_unknown : d ≡ false → Ok Unknown ≡ answer (n + 1) g x
   says_unknown q = not_known n g x (sym F.delivers ∙ q) ∙ sym (one_more x)
 
   module _ (q : d ≡ true) {e : ℕ} (E : e ≡ carried (record_of b) n x) {d' t' : Bool} {y' : ℕ} (H : Notes g e d' t' y') where
-    ended : answer (n + 1) g x ≡ cond t' Retired (Current e)
+    ended : answer (n + 1) g x ≡ cond t' (Ok Retired) (Ok (Current e))
     ended =
         let z : e ≡ chain_end n g x = E ∙ carried_is (record_of b) n known-numbers L x in
-        one_more x ∙ by_end n g is_sound n x (sym F.delivers ∙ q) (is_sound.ends x) ∙ ap (at_end g) (sym z) ∙ ap (λ s. cond s Retired (Current e)) (sym H.retires)
+        one_more x ∙ by_end n g is_sound n x (sym F.delivers ∙ q) (is_sound.ends x) ∙ ap (at_end g) (sym z) ∙ ap (λ s. cond s (Ok Retired) (Ok (Current e))) (sym H.retires)
 
-    pub says_retired : t' ≡ true → Retired ≡ answer (n + 1) g x
+    pub says_retired : t' ≡ true → Ok Retired ≡ answer (n + 1) g x
     says_retired r = sym (ended ∙ rw r refl)
 
-    pub says_current : t' ≡ false → Current e ≡ answer (n + 1) g x
+    pub says_current : t' ≡ false → Ok (Current e) ≡ answer (n + 1) g x
     says_current r = sym (ended ∙ rw r refl)

@@ -5,3 +5,4 @@ pub mod RetireLaws
 pub mod Samples
 pub mod StepsLaws
 pub mod FormerLaws
+pub mod Replacers

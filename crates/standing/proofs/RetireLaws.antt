@@ -1,7 +1,7 @@
 -- Document 02, A.12, as laws: the sets that are retired are just those linked to the given one by replacements that had no retirement, by
 -- rising number; after it each linked set answers retired and every other set as before; a second retireAfter adds nothing.
 -- Assumes nothing.
-use Rattle.std.specs.Prelude.{◌≡◌, Bool, ◌&&◌, ◌||◌, ◌⊎◌, ◌↔◌, ℕ, ◌+◌, ◌*◌, ◌≤◌, ◌<◌, eqb, get_or, take}
+use Rattle.std.specs.Prelude.{◌≡◌, Bool, ◌&&◌, ◌||◌, ◌⊎◌, ◌↔◌, ℕ, ◌+◌, ◌*◌, ◌≤◌, ◌<◌, eqb, get_or, take, Result, Ok}
 use Rattle.std.proofs.Math.Path.{refl, ap, ap₂, subst}
 use Rattle.std.proofs.Common.{sym, ◌∙◌, true≢false, inl, inr, length-append}
 use Rattle.std.proofs.Math.Bool.{true, false, not, cond}
@@ -18,7 +18,6 @@ use Rattle.roll.specs.Format.{Entry}
 use Rattle.roll.specs.Reading.{four_at, record_start, entry_at, is_roll, entries_of, count_of, roll_bytes, holds_roll}
 use Rattle.roll.specs.NumberLaws.{Bytes, four-small}
 use Rattle.roll.specs.HoldingLaws.{is_there, is_roll_lem, within-limits, bytes_take, bytes-there}
-use Rattle.roll.specs.declared.append.Appended.TheVariants.{Count}
 use Rattle.roll.specs.AppendCalls.{passes}
 use Rattle.standing.specs.Register.{Register, blank, noted, noted_all, register_of, allowed, all_allowed, lawful, rule, stands_now}
 use Rattle.standing.specs.Walk.{record_of, entries_register, entries-many}
@@ -26,14 +25,13 @@ use Rattle.standing.specs.Chains.{Sound, chain_end, carried, end_same, end_stays
 use Rattle.standing.proofs.Laws.{named, lawful-to, sound-roll, keeps_rules_lem, only_these}
 use Rattle.standing.specs.declared.Standing.{Standing}
 use Rattle.standing.specs.declared.Standing.TheVariants.{Unknown, Retired, Current}
-use Rattle.standing.specs.declared.retire.Judged.{Judged}
-use Rattle.standing.specs.declared.retire.Judged.TheVariants.{Add}
 use Rattle.standing.specs.RetireAll.{retirement, chain_end_of, waits, inserted, numbers_passing, to_retire, add_all, judged_retire, retire_after, retire_all}
 use Rattle.standing.specs.Steps.{waits_at, gathered_to, Retirable}
 use Rattle.standing.proofs.StepsLaws.{to_retire_is, add_says, roll-there}
 use Rattle.standing.specs.MemberLaws.{Rising, delivered-by, members, rises}
 use Rattle.standing.specs.Linked.{Linked, linked_is}
 use Rattle.standing.proofs.AddedLaws.{Named, Roomy, Added, added}
+use Rattle.tables.specs.declared.Refusal.{Refusal}
 
 -- ---- a register with the retirements of a list of sets
 
@@ -121,12 +119,12 @@ module _ (n : ℕ) (g : Register) (p : Sound n g) (x : ℕ) (known : g.delivered
   as_before y d = retired-out ys g y (λ i. d ((members y).0 i).1)
 
   -- the answers after it keep to the rules over the new register
-  module _ (before : ℕ → Standing) (keeps : (y : ℕ) → before y ≡ rule g before y) where
-    abbrev answers_now : ℕ → Standing
-    answers_now y = cond (linked y) Retired (before y)
+  module _ (before : ℕ → Result Standing Refusal) (keeps : (y : ℕ) → before y ≡ rule g before y) where
+    abbrev answers_now : ℕ → Result Standing Refusal
+    answers_now y = cond (linked y) (Ok Retired) (before y)
 
     -- what replaced a linked set is linked
-    next-linked : (y : ℕ) → chain_end n g y ≡ chain_end n g x → (g.replaced_by y ≡ 0 → ⊥) → answers_now (g.replaced_by y) ≡ Retired
+    next-linked : (y : ℕ) → chain_end n g y ≡ chain_end n g x → (g.replaced_by y ≡ 0 → ⊥) → answers_now (g.replaced_by y) ≡ Ok Retired
     next-linked y e b = rw (eq-eqb (chain_end n g (g.replaced_by y)) (chain_end n g x) (sym (linked_end n g p y b) ∙ e)) refl
 
     yes_one : (y : ℕ) → chain_end n g y ≡ chain_end n g x → answers_now y ≡ rule G answers_now y
@@ -136,7 +134,7 @@ module _ (n : ℕ) (g : Register) (p : Sound n g) (x : ℕ) (known : g.delivered
         let d : G.delivered y ≡ true = delivered-kept ys g y ∙ linked-known y e in
         rw (l, d, now-retired y e, by-kept ys g y) (go (eq_or_ne (g.replaced_by y) 0))
       where
-        go : (g.replaced_by y ≡ 0) ⊎ (g.replaced_by y ≡ 0 → ⊥) → Retired ≡ cond (eqb (g.replaced_by y) 0) Retired (answers_now (g.replaced_by y))
+        go : (g.replaced_by y ≡ 0) ⊎ (g.replaced_by y ≡ 0 → ⊥) → Ok Retired ≡ cond (eqb (g.replaced_by y) 0) (Ok Retired) (answers_now (g.replaced_by y))
         go (inl b) = rw (eq-eqb (g.replaced_by y) 0 b) refl
         go (inr b) = rw (ne_eqb (g.replaced_by y) 0 b) (sym (next-linked y e b))
 
@@ -151,10 +149,10 @@ module _ (n : ℕ) (g : Register) (p : Sound n g) (x : ℕ) (known : g.delivered
         rw (l, delivered-kept ys g y, as_before y d, by-kept ys g y) (keeps y ∙ go (eq_or_ne (g.replaced_by y) 0))
       where
         go : (g.replaced_by y ≡ 0) ⊎ (g.replaced_by y ≡ 0 → ⊥)
-            → cond (not (g.delivered y)) Unknown (cond (eqb (g.replaced_by y) 0) (cond (g.retired y) Retired (Current y)) (before (g.replaced_by y)))
-            ≡ cond (not (g.delivered y)) Unknown (cond (eqb (g.replaced_by y) 0) (cond (g.retired y) Retired (Current y)) (answers_now (g.replaced_by y)))
+            → cond (not (g.delivered y)) (Ok Unknown) (cond (eqb (g.replaced_by y) 0) (cond (g.retired y) (Ok Retired) (Ok (Current y))) (before (g.replaced_by y)))
+            ≡ cond (not (g.delivered y)) (Ok Unknown) (cond (eqb (g.replaced_by y) 0) (cond (g.retired y) (Ok Retired) (Ok (Current y))) (answers_now (g.replaced_by y)))
         go (inl b) = rw (eq-eqb (g.replaced_by y) 0 b) refl
-        go (inr b) = ap (λ (a : Standing). cond (not (g.delivered y)) Unknown (cond (eqb (g.replaced_by y) 0) (cond (g.retired y) Retired (Current y)) a)) (sym (next-same y d b))
+        go (inr b) = ap (λ (a : Result Standing Refusal). cond (not (g.delivered y)) (Ok Unknown) (cond (eqb (g.replaced_by y) 0) (cond (g.retired y) (Ok Retired) (Ok (Current y))) a)) (sym (next-same y d b))
 
     pub keeps-now : (y : ℕ) → answers_now y ≡ rule G answers_now y
     keeps-now y = ⊎_elim (yes_one y) (no_one y) (eq_or_ne (chain_end n g y) (chain_end n g x))
@@ -166,7 +164,7 @@ unfolding numbers_passing
 gathered_none w [] h = refl
 gathered_none w (r ∷ rs) h = ap (λ t. numbers_passing w (cond t (inserted r.number []) []) rs) (h r) ∙ gathered_none w rs h
 
-module _ (s : List ℕ) (count x m : ℕ) (B : Bytes s) (done : judged_retire s count x ≡ Add m) where
+module _ (s : List ℕ) (count x m : ℕ) (B : Bytes s) (done : judged_retire s count x ≡ Ok m) where
   abbrev b : List ℕ
   b = roll_bytes s count
 
@@ -266,9 +264,9 @@ module _ (s : List ℕ) (count x m : ℕ) (B : Bytes s) (done : judged_retire s 
       ∙ both (lawful rs) (all_allowed g (map retirement ys)) P.law (retirements_allowed ys g (λ y i. ((is_member y).0 i).0))
 
   -- after it each linked set answers retired, and every other set as before
-  pub answers-after : (y : ℕ) → stands_now b' y ≡ cond (eqb (chain_end k g y) (chain_end k g x)) Retired (stands_now b y)
+  pub answers-after : (y : ℕ) → stands_now b' y ≡ cond (eqb (chain_end k g y) (chain_end k g x)) (Ok Retired) (stands_now b y)
   answers-after y =
-      let h : ℕ → Standing = λ z. cond (eqb (chain_end k g z) (chain_end k g x)) Retired (stands_now b z) in
+      let h : ℕ → Result Standing Refusal = λ z. cond (eqb (chain_end k g z) (chain_end k g x)) (Ok Retired) (stands_now b z) in
       let kept : (z : ℕ) → h z ≡ rule (register_of rs') h z = λ z. keeps-now k g is_sound x P.known ys is_member (stands_now b) (keeps_rules_lem b P.roll P.law) z ∙ ap (λ (r : Register). rule r h z) (sym register') in
       sym (only_these b' is_roll' law' h kept y)
 
@@ -299,7 +297,7 @@ module _ (s : List ℕ) (count x m : ℕ) (B : Bytes s) (done : judged_retire s 
   known' : (register_of rs').delivered x ≡ true
   known' = ap (λ (h : Register). h.delivered x) register' ∙ delivered-kept ys g x ∙ P.known
 
-  judged' : judged_retire new c' x ≡ Add 0
+  judged' : judged_retire new c' x ≡ Ok 0
   unfolding judged_retire passes
   judged' =
       let L = within-limits new c' adds.holds in
@@ -307,8 +305,8 @@ module _ (s : List ℕ) (count x m : ℕ) (B : Bytes s) (done : judged_retire s 
       rw (there', is_roll', law', known', empty', le-ltb 1000 (length rs' + 0) (omega (arith, q)), le-ltb 65536 (c' + 0) (omega (arith, L.1)), le-ltb (length new) (c' + 0) (omega (arith, is_there new c' adds.holds))) refl
 
   -- a second retireAfter adds nothing
-  pub twice : retire_all new c' x ≡ (Count c', new)
+  pub twice : retire_all new c' x ≡ (Ok c', new)
   unfolding retire_all add_all
   twice =
       let z : c' + 0 ≡ c' = omega arith in
-      ap₂ (λ (j : Judged) (l : List ℕ). retire_after j new c' l) judged' (ap (λ (l : List ℕ). to_retire (entries_of l) x) there' ∙ empty') ∙ ap (λ j. (Count j, new)) z
+      ap₂ (λ (j : Result ℕ Refusal) (l : List ℕ). retire_after j new c' l) judged' (ap (λ (l : List ℕ). to_retire (entries_of l) x) there' ∙ empty') ∙ ap (λ j. (Ok j, new)) z

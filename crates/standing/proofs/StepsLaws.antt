@@ -1,6 +1,7 @@
 -- That what the code of A.12 gathers, record by record, is what specs/RetireAll names. Assumes nothing.
-use Rattle.std.specs.Prelude.{◌≡◌, Bool, true, false, ◌&&◌, ◌||◌, ◌⊎◌, List, [], ◌∷◌, ◌++◌, ℕ, zero, suc, ◌+◌, ◌*◌, ◌≤◌, ◌<◌, ltb, length, get_or, take, drop}
+use Rattle.std.specs.Prelude.{◌≡◌, Bool, true, false, ◌&&◌, ◌||◌, ◌⊎◌, List, [], ◌∷◌, ◌++◌, ℕ, zero, suc, ◌+◌, ◌*◌, ◌≤◌, ◌<◌, ltb, length, get_or, take, drop, Result, Ok, Err}
 use Rattle.std.proofs.Math.Path.{refl, sym, ap, ap₂}
+use Rattle.std.proofs.Math.Seq.{drop-cons, drop-length}
 use Rattle.std.proofs.Common.{◌∙◌, subst, true≢false, inl, inr, add-one, arith}
 use Rattle.std.proofs.Math.Bool.{not, cond}
 use Rattle.std.proofs.lemmas.Bool.{false≢true}
@@ -14,15 +15,11 @@ use Rattle.tables.specs.declared.Refusal.TheVariants.{NotARoll, NotLawful, Unkno
 use Rattle.roll.specs.Format.{Entry}
 use Rattle.roll.specs.Reading.{four_at, record_start, entry_at, count_of, is_roll, entries_of, roll_bytes, holds_roll}
 use Rattle.roll.specs.HoldingLaws.{within-limits, at-least-eight, bytes-there, bytes_past, held_by}
-use Rattle.roll.specs.declared.append.Appended.{Appended}
-use Rattle.roll.specs.declared.append.Appended.TheVariants.{Count, Refused}
 use Rattle.roll.specs.AppendCalls.{passes, appended}
 use Rattle.standing.specs.Register.{Register, register_of, lawful}
 use Rattle.standing.specs.Walk.{record_of, register_after, lawful_to, Notes, tab-next, entries-lawful, entries_register, entries-many}
 use Rattle.standing.specs.Chains.{chain_end, carried, carried_is}
 use Rattle.standing.proofs.Laws.{named, lawful-to}
-use Rattle.standing.specs.declared.retire.Judged.{Judged}
-use Rattle.standing.specs.declared.retire.Judged.TheVariants.{Add, Not}
 use Rattle.standing.specs.RetireAll.{chain_end_of, waits, inserted, numbers_passing, to_retire, retirement, add_all, judged_retire, retire_after, retire_all}
 use Rattle.standing.specs.Steps.{waits_at, gathered_to, many, Retirable}
 
@@ -65,14 +62,14 @@ module _ (b : List ℕ) (R : is_roll b ≡ true) (L : lawful (entries_of b) ≡ 
 
 -- ---- what the answer says
 
-abbrev is_add : Judged → Bool
-is_add (Add k) = true
-is_add (Not r) = false
+abbrev is_add : Result ℕ Refusal → Bool
+is_add (Ok k) = true
+is_add (Err r) = false
 
-pub no_add : {r : Refusal} {m : ℕ} {A : Type 0} → Not r ≡ Add m → A
+pub no_add : {r : Refusal} {m : ℕ} {A : Type 0} → Err r ≡ Ok m → A
 no_add e = absurd (false≢true (ap is_add e))
 
-chosen : (a b c d : Bool) (k m : ℕ) → cond (not a) (Not NotARoll) (cond (not b) (Not NotLawful) (cond (not c) (Not UnknownSet) (cond d (Not NoRoom) (Add k)))) ≡ Add m
+chosen : (a b c d : Bool) (k m : ℕ) → cond (not a) (Err NotARoll) (cond (not b) (Err NotLawful) (cond (not c) (Err UnknownSet) (cond d (Err NoRoom) (Ok k)))) ≡ Ok m
     → (a ≡ true) × (b ≡ true) × (c ≡ true) × (d ≡ false) × (k ≡ m)
 chosen true true true true k m e = no_add e
 chosen true true true false k m e = (refl, refl, refl, refl, ap many e)
@@ -80,7 +77,7 @@ chosen true true false d k m e = no_add e
 chosen true false c d k m e = no_add e
 chosen false b c d k m e = no_add e
 
-pub add_says : (s : List ℕ) (count x m : ℕ) → judged_retire s count x ≡ Add m → Retirable s count x m
+pub add_says : (s : List ℕ) (count x m : ℕ) → judged_retire s count x ≡ Ok m → Retirable s count x m
 unfolding judged_retire
 add_says s count x m e =
     let b = roll_bytes s count in
@@ -95,17 +92,17 @@ module _ (s : List ℕ) (count x : ℕ) where
   abbrev b₀ : List ℕ
   b₀ = roll_bytes s count
 
-  pub says_7 : is_roll b₀ ≡ false → Not NotARoll ≡ judged_retire s count x
+  pub says_7 : is_roll b₀ ≡ false → Err NotARoll ≡ judged_retire s count x
   unfolding judged_retire
   says_7 e = rw e refl
 
   module _ (R : is_roll b₀ ≡ true) where
-    pub says_9 : lawful (entries_of b₀) ≡ false → Not NotLawful ≡ judged_retire s count x
+    pub says_9 : lawful (entries_of b₀) ≡ false → Err NotLawful ≡ judged_retire s count x
     unfolding judged_retire
     says_9 e = rw (R, e) refl
 
     module _ (L : lawful (entries_of b₀) ≡ true) where
-      pub says_11 : (register_of (entries_of b₀)).delivered x ≡ false → Not UnknownSet ≡ judged_retire s count x
+      pub says_11 : (register_of (entries_of b₀)).delivered x ≡ false → Err UnknownSet ≡ judged_retire s count x
       unfolding judged_retire
       says_11 e = rw (R, L, e) refl
 
@@ -113,17 +110,17 @@ module _ (s : List ℕ) (count x : ℕ) where
         abbrev w : ℕ
         w = count + 14 * m
 
-        judged_is : judged_retire s count x ≡ cond (passes s (count_of b₀ + m) w) (Not NoRoom) (Add m)
+        judged_is : judged_retire s count x ≡ cond (passes s (count_of b₀ + m) w) (Err NoRoom) (Ok m)
         unfolding judged_retire
         judged_is = rw (R, L, K, q, entries-many b₀) refl
 
-        pub says_8 : (1000 < count_of b₀ + m) ⊎ ((65536 < w) ⊎ (length s < w)) → Not NoRoom ≡ judged_retire s count x
+        pub says_8 : (1000 < count_of b₀ + m) ⊎ ((65536 < w) ⊎ (length s < w)) → Err NoRoom ≡ judged_retire s count x
         unfolding passes
         says_8 (inl h) = sym (judged_is ∙ rw (lt-ltb 1000 (count_of b₀ + m) h) refl)
         says_8 (inr (inl h)) = sym (judged_is ∙ rw (lt-ltb 65536 w h, or_true (ltb 1000 (count_of b₀ + m))) refl)
         says_8 (inr (inr h)) = sym (judged_is ∙ rw (lt-ltb (length s) w h, or_true (ltb 65536 w), or_true (ltb 1000 (count_of b₀ + m))) refl)
 
-        pub says_add : count_of b₀ + m ≤ 1000 → w ≤ 65536 → w ≤ length s → Add m ≡ judged_retire s count x
+        pub says_add : count_of b₀ + m ≤ 1000 → w ≤ 65536 → w ≤ length s → Ok m ≡ judged_retire s count x
         unfolding passes
         says_add h g l = sym (judged_is ∙ rw (le-ltb 1000 (count_of b₀ + m) h, le-ltb 65536 w g, le-ltb (length s) w l) refl)
 
@@ -180,28 +177,14 @@ gathered-no b w l = refl
 
 -- ---- the loop that appends
 
-drop-next : (l : List ℕ) (m i : ℕ) → i < m → m ≤ length l → drop i (take m l) ≡ (get_or l i 0 ∷ drop (suc i) (take m l))
-drop-next [] m i h k = absurd (omega (arith, h, k))
-drop-next (x ∷ xs) zero i h k = absurd (omega (arith, h))
-drop-next (x ∷ xs) (suc m) zero h k = refl
-drop-next (x ∷ xs) (suc m) (suc i) h k = drop-next xs m i (omega (arith, h)) (omega (arith, k))
+pub adds-more : (s lent left l : List ℕ) (count long i : ℕ) {r : Result ℕ Refusal} → i < length l → (r, left) ≡ appended lent long (retirement (get_or l i 0))
+    → add_all s count l ≡ add_all lent long (drop i l) → add_all s count l ≡ add_all left (long + 14) (drop (i + 1) l)
+adds-more s lent left l count long i h e q =
+    q ∙ ap (add_all lent long) (drop-cons l i 0 h) ∙ adds_one lent long (get_or l i 0) (drop (suc i) l)
+    ∙ ap₂ (λ z j. add_all z (long + 14) (drop j l)) (ap (λ (t : Result ℕ Refusal × List ℕ). t.1) (sym e)) (sym (add-one i))
 
-drop_all : (l : List ℕ) (m : ℕ) → drop m (take m l) ≡ []
-drop_all l zero = refl
-drop_all [] (suc m) = refl
-drop_all (x ∷ xs) (suc m) = drop_all xs m
-
-pub adds-first : (s l : List ℕ) (count m : ℕ) → add_all s count (take m l) ≡ add_all s count (drop 0 (take m l))
-adds-first s l count m = refl
-
-pub adds-more : (s lent left l : List ℕ) (count long m i : ℕ) {r : Appended} → i < m → m ≤ length l → (r, left) ≡ appended lent long (retirement (get_or l i 0))
-    → add_all s count (take m l) ≡ add_all lent long (drop i (take m l)) → add_all s count (take m l) ≡ add_all left (long + 14) (drop (i + 1) (take m l))
-adds-more s lent left l count long m i h k e q =
-    q ∙ ap (add_all lent long) (drop-next l m i h k) ∙ adds_one lent long (get_or l i 0) (drop (suc i) (take m l))
-    ∙ ap₂ (λ z j. add_all z (long + 14) (drop j (take m l))) (ap (λ (t : Appended × List ℕ). t.1) (sym e)) (sym (add-one i))
-
-pub adds-last : (s lent l : List ℕ) (count long m : ℕ) → add_all s count (take m l) ≡ add_all lent long (drop m (take m l)) → lent ≡ add_all s count (take m l)
-adds-last s lent l count long m q = sym (q ∙ ap (add_all lent long) (drop_all l m) ∙ adds_none lent long)
+pub adds-last : (s lent l : List ℕ) (count long : ℕ) → add_all s count l ≡ add_all lent long (drop (length l) l) → lent ≡ add_all s count l
+adds-last s lent l count long q = sym (q ∙ ap (add_all lent long) (drop-length l) ∙ adds_none lent long)
 
 -- ---- a roll in the first bytes of a slice
 
@@ -220,7 +203,7 @@ count_small s bb count e R = (within-limits s count (roll-there s count (ap is_r
 -- ---- the answer, by the code's tests: bb are the roll's bytes, n is its record count
 
 module _ (s bb : List ℕ) (count x n : ℕ) (e : bb ≡ roll_bytes s count) where
-  pub not_7 : is_roll bb ≡ false → Not NotARoll ≡ judged_retire s count x
+  pub not_7 : is_roll bb ≡ false → Err NotARoll ≡ judged_retire s count x
   not_7 h = says_7 s count x (ap is_roll (sym e) ∙ h)
 
   module _ (R : is_roll bb ≡ true) (N : n ≡ count_of bb) where
@@ -236,14 +219,14 @@ module _ (s bb : List ℕ) (count x n : ℕ) (e : bb ≡ roll_bytes s count) whe
     register₀ : register_of (entries_of (roll_bytes s count)) ≡ register_after (record_of bb) n
     register₀ = ap (λ l. register_of (entries_of l)) (sym e) ∙ entries_register bb ∙ ap (register_after (record_of bb)) (sym N)
 
-    pub not_9 : lawful_to (record_of bb) n ≡ false → Not NotLawful ≡ judged_retire s count x
+    pub not_9 : lawful_to (record_of bb) n ≡ false → Err NotLawful ≡ judged_retire s count x
     not_9 h = says_9 s count x is_roll₀ (law₀ ∙ h)
 
     module _ (L : lawful_to (record_of bb) n ≡ true) {d t : Bool} {y : ℕ} (F : Notes (register_after (record_of bb) n) x d t y) where
       known₀ : (register_of (entries_of (roll_bytes s count))).delivered x ≡ d
       known₀ = ap (λ (g : Register). g.delivered x) register₀ ∙ sym F.delivers
 
-      pub not_11 : d ≡ false → Not UnknownSet ≡ judged_retire s count x
+      pub not_11 : d ≡ false → Err UnknownSet ≡ judged_retire s count x
       not_11 h = says_11 s count x is_roll₀ (law₀ ∙ L) (known₀ ∙ h)
 
       module _ (K : d ≡ true) {last : ℕ} (E : last ≡ carried (record_of bb) n x) where
@@ -265,10 +248,10 @@ module _ (s bb : List ℕ) (count x n : ℕ) (e : bb ≡ roll_bytes s count) whe
           many₀ : length (to_retire (entries_of (roll_bytes s count)) x) ≡ m
           many₀ = ap length (sym found_is) ∙ M
 
-          pub not_8 : (1000 < n + m) ⊎ ((65536 < count + 14 * m) ⊎ (length s < count + 14 * m)) → Not NoRoom ≡ judged_retire s count x
+          pub not_8 : (1000 < n + m) ⊎ ((65536 < count + 14 * m) ⊎ (length s < count + 14 * m)) → Err NoRoom ≡ judged_retire s count x
           not_8 h = says_8 s count x is_roll₀ (law₀ ∙ L) (known₀ ∙ K) m many₀ (subst (λ k. (1000 < k + m) ⊎ ((65536 < count + 14 * m) ⊎ (length s < count + 14 * m))) (sym count₀) h)
 
-          pub may_add : n + m ≤ 1000 → count + 14 * m ≤ 65536 → count + 14 * m ≤ length s → Add m ≡ judged_retire s count x
+          pub may_add : n + m ≤ 1000 → count + 14 * m ≤ 65536 → count + 14 * m ≤ length s → Ok m ≡ judged_retire s count x
           may_add h g l = says_add s count x is_roll₀ (law₀ ∙ L) (known₀ ∙ K) m many₀ (subst (λ k. k + m ≤ 1000) (sym count₀) h) g l
 
 -- ---- the call
@@ -278,7 +261,7 @@ or_false true c e = absurd (true≢false e)
 or_false false c e = (refl, e)
 
 -- what is added is inside the limits
-pub add-limits : (s : List ℕ) (count x : ℕ) {m : ℕ} {j : Judged} → j ≡ judged_retire s count x → j ≡ Add m → (m ≤ 1000) × (count + 14 * m ≤ 65536)
+pub add-limits : (s : List ℕ) (count x : ℕ) {m : ℕ} {j : Result ℕ Refusal} → j ≡ judged_retire s count x → j ≡ Ok m → (m ≤ 1000) × (count + 14 * m ≤ 65536)
 unfolding passes
 add-limits s count x {m} p q =
     let P = add_says s count x m (sym p ∙ q) in
@@ -289,12 +272,12 @@ add-limits s count x {m} p q =
     let l2 = ltb-false 65536 w (or_false (ltb 65536 w) (ltb (length s) w) a.1).0 in
     (omega (arith, l1), l2)
 
-pub retire_add : (s : List ℕ) (count x : ℕ) {m : ℕ} {j : Judged} {l z : List ℕ} → j ≡ judged_retire s count x → j ≡ Add m → l ≡ to_retire (entries_of (roll_bytes s count)) x → z ≡ add_all s count l
-    → ◌≡◌ {A = Appended × List ℕ} (Count (count + 14 * m), z) (retire_all s count x)
+pub retire_add : (s : List ℕ) (count x : ℕ) {m : ℕ} {j : Result ℕ Refusal} {l z : List ℕ} → j ≡ judged_retire s count x → j ≡ Ok m → l ≡ to_retire (entries_of (roll_bytes s count)) x → z ≡ add_all s count l
+    → ◌≡◌ {A = Result ℕ Refusal × List ℕ} (Ok (count + 14 * m), z) (retire_all s count x)
 unfolding retire_all
 retire_add s count x {m} p q h k =
-    ap (λ (y : List ℕ). (Count (count + 14 * m), y)) (k ∙ ap (add_all s count) h) ∙ ap (λ (i : Judged). retire_after i s count (to_retire (entries_of (roll_bytes s count)) x)) (sym q ∙ p)
+    ap (λ (y : List ℕ). (Ok (count + 14 * m), y)) (k ∙ ap (add_all s count) h) ∙ ap (λ (i : Result ℕ Refusal). retire_after i s count (to_retire (entries_of (roll_bytes s count)) x)) (sym q ∙ p)
 
-pub retire_not : (s : List ℕ) (count x : ℕ) {r : Refusal} {j : Judged} → j ≡ judged_retire s count x → j ≡ Not r → ◌≡◌ {A = Appended × List ℕ} (Refused r, s) (retire_all s count x)
+pub retire_not : (s : List ℕ) (count x : ℕ) {r : Refusal} {j : Result ℕ Refusal} → j ≡ judged_retire s count x → j ≡ Err r → ◌≡◌ {A = Result ℕ Refusal × List ℕ} (Err r, s) (retire_all s count x)
 unfolding retire_all
-retire_not s count x p q = ap (λ (i : Judged). retire_after i s count (to_retire (entries_of (roll_bytes s count)) x)) (sym q ∙ p)
+retire_not s count x p q = ap (λ (i : Result ℕ Refusal). retire_after i s count (to_retire (entries_of (roll_bytes s count)) x)) (sym q ∙ p)

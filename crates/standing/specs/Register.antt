@@ -1,19 +1,20 @@
 -- Which set stands now (document 02, A.8 and A.14): a plain register with three notes for each set, delivered, retired and replaced by;
 -- and the rules over it. Assumes nothing.
-use Rattle.std.specs.Prelude.{Bool, true, false, not, ◌&&◌, ◌||◌, cond, List, [], ◌∷◌, ℕ, zero, suc, ◌+◌, eqb, length}
+use Rattle.std.specs.Prelude.{Bool, true, false, not, ◌&&◌, ◌||◌, cond, List, [], ◌∷◌, ℕ, zero, suc, ◌+◌, eqb, length, Result, Ok, Err}
 use Rattle.tables.specs.declared.Refusal.TheVariants.{NotARoll, NotLawful}
 use Rattle.tables.specs.Answers.{refusal_number}
 use Rattle.roll.specs.Format.{Entry}
 use Rattle.roll.specs.Reading.{is_roll, entries_of}
 use Rattle.standing.specs.declared.Standing.{Standing}
-use Rattle.standing.specs.declared.Standing.TheVariants.{Unknown, Retired, Current, Refused}
+use Rattle.standing.specs.declared.Standing.TheVariants.{Unknown, Retired, Current}
+use Rattle.tables.specs.declared.Refusal.{Refusal}
 
 -- the number of an answer: 0 for a set to use, whose number goes with it
-abbrev pub standing_number : Standing → ℕ
-standing_number (Current n) = 0
-standing_number Unknown = 70
-standing_number Retired = 71
-standing_number (Refused r) = refusal_number r
+abbrev pub standing_number : Result Standing Refusal → ℕ
+standing_number (Ok (Current n)) = 0
+standing_number (Ok Unknown) = 70
+standing_number (Ok Retired) = 71
+standing_number (Err r) = refusal_number r
 
 pub record Register : Type 0 where
   pub delivered : ℕ → Bool
@@ -68,21 +69,21 @@ lawful rs = all_allowed blank rs
 
 -- the rules (document 02, A.14): unknown where it was not delivered; a replaced set gets the answer of its successor; retirement is
 -- looked at where the chain ends. specs/Former has those of A.8, and what has changed.
-unfoldable pub rule : Register → (ℕ → Standing) → ℕ → Standing
+unfoldable pub rule : Register → (ℕ → Result Standing Refusal) → ℕ → Result Standing Refusal
 rule g answers x =
-    cond (not (g.delivered x)) Unknown
-    (cond (eqb (g.replaced_by x) 0) (cond (g.retired x) Retired (Current x))
+    cond (not (g.delivered x)) (Ok Unknown)
+    (cond (eqb (g.replaced_by x) 0) (cond (g.retired x) (Ok Retired) (Ok (Current x)))
     (answers (g.replaced_by x)))
 
 -- the rules, followed from set to set, n sets at most; specs/Laws: in a lawful roll a chain of replacements has ended before that
-unfoldable pub answer : ℕ → Register → ℕ → Standing
-answer zero g x = Unknown
+unfoldable pub answer : ℕ → Register → ℕ → Result Standing Refusal
+answer zero g x = Ok Unknown
 answer (suc n) g x = rule g (answer n g) x
 
 -- what the roll b answers for a set: 7 first, then 9, then by the rules over the register of its records
-unfoldable pub stands_now : List ℕ → ℕ → Standing
+unfoldable pub stands_now : List ℕ → ℕ → Result Standing Refusal
 stands_now b x =
     let rs = entries_of b in
-    cond (not (is_roll b)) (Refused NotARoll)
-    (cond (not (lawful rs)) (Refused NotLawful)
+    cond (not (is_roll b)) (Err NotARoll)
+    (cond (not (lawful rs)) (Err NotLawful)
     (answer (length rs + 1) (register_of rs) x))

@@ -1,16 +1,13 @@
 -- Retire a set everywhere (document 02, A.12): the given set and all that replacements link with it, before and after it, get a
 -- retirement with an empty label if they have none, lowest number first. Assumes nothing.
-use Rattle.std.specs.Prelude.{Bool, not, ◌&&◌, cond, List, [], ◌∷◌, ℕ, ◌+◌, ◌*◌, min, max, eqb, length}
+use Rattle.std.specs.Prelude.{Bool, not, ◌&&◌, cond, List, [], ◌∷◌, ℕ, ◌+◌, ◌*◌, min, max, eqb, length, Result, Ok, Err}
 use Rattle.tables.specs.declared.Refusal.TheVariants.{NotARoll, NotLawful, UnknownSet, NoRoom}
 use Rattle.roll.specs.Format.{Entry, entry}
 use Rattle.roll.specs.Reading.{is_roll, entries_of, roll_bytes}
-use Rattle.roll.specs.declared.append.Appended.{Appended}
-use Rattle.roll.specs.declared.append.Appended.TheVariants.{Count, Refused}
 use Rattle.roll.specs.AppendCalls.{passes, appended}
 use Rattle.standing.specs.Register.{register_of, lawful}
 use Rattle.standing.specs.Chains.{chain_end}
-use Rattle.standing.specs.declared.retire.Judged.{Judged}
-use Rattle.standing.specs.declared.retire.Judged.TheVariants.{Add, Not}
+use Rattle.tables.specs.declared.Refusal.{Refusal}
 
 -- where the chain of replacements from x ends
 abbrev pub chain_end_of : List Entry → ℕ → ℕ
@@ -47,21 +44,21 @@ add_all s count [] = s
 add_all s count (y ∷ ys) = add_all (appended s count (retirement y)).1 (count + 14) ys
 
 -- the answer before anything is written: 7, 9, 11, 8 in this order, otherwise how many retirements are to be added
-unfoldable pub judged_retire : List ℕ → ℕ → ℕ → Judged
+unfoldable pub judged_retire : List ℕ → ℕ → ℕ → Result ℕ Refusal
 judged_retire s count x =
     let b = roll_bytes s count in
     let rs = entries_of b in
     let many = length (to_retire rs x) in
-    cond (not (is_roll b)) (Not NotARoll)
-    (cond (not (lawful rs)) (Not NotLawful)
-    (cond (not ((register_of rs).delivered x)) (Not UnknownSet)
-    (cond (passes s (length rs + many) (count + 14 * many)) (Not NoRoom)
-    (Add many))))
+    cond (not (is_roll b)) (Err NotARoll)
+    (cond (not (lawful rs)) (Err NotLawful)
+    (cond (not ((register_of rs).delivered x)) (Err UnknownSet)
+    (cond (passes s (length rs + many) (count + 14 * many)) (Err NoRoom)
+    (Ok many))))
 
 -- the answer, and what is left in the slice
-abbrev pub retire_after : Judged → List ℕ → ℕ → List ℕ → Appended × List ℕ
-retire_after (Add many) s count ys = (Count (count + 14 * many), add_all s count ys)
-retire_after (Not r) s count ys = (Refused r, s)
+abbrev pub retire_after : Result ℕ Refusal → List ℕ → ℕ → List ℕ → Result ℕ Refusal × List ℕ
+retire_after (Ok many) s count ys = (Ok (count + 14 * many), add_all s count ys)
+retire_after (Err r) s count ys = (Err r, s)
 
-unfoldable pub retire_all : List ℕ → ℕ → ℕ → Appended × List ℕ
+unfoldable pub retire_all : List ℕ → ℕ → ℕ → Result ℕ Refusal × List ℕ
 retire_all s count x = retire_after (judged_retire s count x) s count (to_retire (entries_of (roll_bytes s count)) x)

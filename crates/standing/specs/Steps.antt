@@ -1,6 +1,6 @@
 -- What the code of A.12 gathers, record by record, and what an answer other than a refusal says; proofs/StepsLaws: it is what specs/RetireAll names.
 -- Assumes nothing.
-use Rattle.std.specs.Prelude.{◌≡◌, Bool, true, false, ◌&&◌, List, [], ℕ, zero, suc, ◌+◌, ◌*◌, length}
+use Rattle.std.specs.Prelude.{◌≡◌, Bool, true, false, ◌&&◌, List, [], ℕ, zero, suc, ◌+◌, ◌*◌, length, Result, Ok, Err}
 use Rattle.std.proofs.Math.Bool.{not, cond}
 use Rattle.std.proofs.Math.Dec.{eqb}
 use Rattle.roll.specs.Format.{Entry}
@@ -9,9 +9,8 @@ use Rattle.roll.specs.AppendCalls.{passes}
 use Rattle.standing.specs.Register.{register_of, lawful}
 use Rattle.standing.specs.Walk.{register_after}
 use Rattle.standing.specs.Chains.{carried}
-use Rattle.standing.specs.declared.retire.Judged.{Judged}
-use Rattle.standing.specs.declared.retire.Judged.TheVariants.{Add, Not}
 use Rattle.standing.specs.RetireAll.{inserted, to_retire}
+use Rattle.tables.specs.declared.Refusal.{Refusal}
 
 -- the test of specs/RetireAll as the code makes it: f k is record k of n, `last` the end of the chain asked for
 unfoldable pub waits_at : (ℕ → Entry) → ℕ → ℕ → Entry → Bool
@@ -24,9 +23,9 @@ gathered_to w f (suc k) = cond (w (f k)) (inserted (f k).number (gathered_to w f
 
 -- ---- what the answer says
 
-abbrev pub many : Judged → ℕ
-many (Add k) = k
-many (Not r) = 0
+abbrev pub many : Result ℕ Refusal → ℕ
+many (Ok k) = k
+many (Err r) = 0
 
 -- what an answer other than a refusal says
 pub record Retirable (s : List ℕ) (count x m : ℕ) : Type 0 where

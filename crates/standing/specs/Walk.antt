@@ -1,5 +1,5 @@
 -- The register that is read off a roll, record by record, and what the code's tests say of it. Assumes nothing.
-use Rattle.std.specs.Prelude.{◌≡◌, Bool, true, false, not, ◌&&◌, ◌||◌, List, [], ◌∷◌, ◌++◌, ℕ, zero, suc, ◌+◌, ◌≤◌, ◌<◌, eqb, length, get_or}
+use Rattle.std.specs.Prelude.{◌≡◌, Bool, true, false, not, ◌&&◌, ◌||◌, List, [], ◌∷◌, ◌++◌, ℕ, zero, suc, ◌+◌, ◌≤◌, ◌<◌, eqb, length, get_or, Option, Some, None, Result, Err}
 use Rattle.std.proofs.Math.Path.{refl, ap, ap₂}
 use Rattle.std.proofs.Common.{sym, ◌∙◌, add-zero, add-suc, suc-add, zero-add, add-one, arith, eq-eqb, ne_eqb}
 use Rattle.std.proofs.Math.Bool.{cond}
@@ -11,8 +11,8 @@ use Rattle.roll.specs.StartLaws.{head-before}
 use Rattle.roll.specs.HoldingLaws.{is_sized}
 use Rattle.tables.specs.declared.Refusal.TheVariants.{NotARoll, NotLawful}
 use Rattle.standing.specs.declared.Standing.{Standing}
-use Rattle.standing.specs.declared.Standing.TheVariants.{Refused}
 use Rattle.standing.specs.Register.{Register, blank, delivers, retires, replaces, noted, noted_all, register_of, allowed, all_allowed, lawful, answer, stands_now}
+use Rattle.tables.specs.declared.Refusal.{Refusal}
 
 -- record k of a roll
 unfoldable pub record_of : List ℕ → ℕ → Entry
@@ -33,6 +33,11 @@ pub record Notes (g : Register) (x : ℕ) (delivered retired : Bool) (by : ℕ) 
   pub retires : retired ≡ g.retired x
   pub replaces : by ≡ g.replaced_by x
   pub small : by < 4294967296
+
+-- a set as the register has it: 0 where there is none
+abbrev pub set_or_zero : Option ℕ → ℕ
+set_or_zero None = 0
+set_or_zero (Some m) = m
 
 pub cond_true : {t : Bool} (m n : ℕ) → t ≡ true → cond t m n ≡ m
 cond_true m n e = rw e
@@ -177,7 +182,7 @@ module _ (b : List ℕ) (n at k m : ℕ) (e : at ≡ record_start b n) (ek : k �
 -- ---- the call
 
 module _ (b : List ℕ) (x : ℕ) where
-  pub no-roll : is_roll b ≡ false → Refused NotARoll ≡ stands_now b x
+  pub no-roll : is_roll b ≡ false → Err NotARoll ≡ stands_now b x
   unfolding stands_now
   no-roll e = rw e refl
 
@@ -191,10 +196,10 @@ module _ (b : List ℕ) (x : ℕ) where
     is_many : length (entries_of b) ≡ n
     is_many = entries-many b ∙ sym e
 
-    pub no-law : lawful_to (record_of b) n ≡ false → Refused NotLawful ≡ stands_now b x
+    pub no-law : lawful_to (record_of b) n ≡ false → Err NotLawful ≡ stands_now b x
     unfolding stands_now
     no-law l = rw (R, is_lawful, l) refl
 
-    pub by_rules : {a : Standing} → lawful_to (record_of b) n ≡ true → a ≡ answer (n + 1) (register_after (record_of b) n) x → a ≡ stands_now b x
+    pub by_rules : {a : Result Standing Refusal} → lawful_to (record_of b) n ≡ true → a ≡ answer (n + 1) (register_after (record_of b) n) x → a ≡ stands_now b x
     unfolding stands_now
     by_rules l p = rw (R, is_lawful, l) (p ∙ ap₂ (λ k g. answer (k + 1) g x) (sym is_many) (sym is_register))

@@ -3,15 +3,14 @@
 
 pub mod retire;
 
-ghost use Rattle.std.specs.Prelude.{◌≡◌, true, ◌||◌, cond, ◌+◌, ◌≤◌, ◌<◌, length};
+ghost use Rattle.std.specs.Prelude.{◌≡◌, true, ◌||◌, cond, ◌+◌, ◌≤◌, ◌<◌, length, IfSome};
 ghost use Rattle.roll.specs.Reading.{record_start, entry_at, count_of, is_roll, roll_bytes};
 ghost use Rattle.standing.specs.Register.{standing_number, delivers, retires, replaces, allowed, answer, stands_now};
-ghost use Rattle.standing.specs.Walk.{record_of, register_after, lawful_to, Notes};
+ghost use Rattle.standing.specs.Walk.{record_of, register_after, lawful_to, Notes, set_or_zero};
 ghost use Rattle.standing.specs.Chains.{carried};
 
 use roll::judge::is_whole_roll;
-use roll::layout::{count_in, earlier_at, record_end, set_at};
-use roll::numbers::wide;
+use roll::layout::{Kind, count_in, earlier_at, record_end, set_at};
 use tables::Refusal;
 
 // What a roll answers for a set.
@@ -21,29 +20,26 @@ pub enum Standing {
     Retired,
     // the number to use
     Current(u32),
-    // 7: the bytes are not a roll; 9: a record delivers a set again, names one that no record before it delivers, or replaces
-    // one for the second time
-    Refused(Refusal),
 }
 
 // The number of an answer; 0 is a set to use.
-pub fn standing_number(a: Standing) -> u8
+pub fn standing_number(a: Result<Standing, Refusal>) -> u8
     ensures { result ≡ standing_number a }
 {
     match a {
-        Standing::Unknown => 70,
-        Standing::Retired => 71,
-        Standing::Current(_) => 0,
-        Standing::Refused(r) => tables::refusal_number(r),
+        Ok(Standing::Unknown) => 70,
+        Ok(Standing::Retired) => 71,
+        Ok(Standing::Current(_)) => 0,
+        Err(r) => tables::refusal_number(r),
     }
 }
 
-// What the register notes of one set.
+// What the register notes of one set: `by` is the set that replaced it.
 #[derive(Clone, Copy)]
 pub struct Found {
     pub delivered: bool,
     pub retired: bool,
-    pub by: usize,
+    pub by: Option<usize>,
 }
 
 // Whether the record at `at` delivers x: deliveries and replacements do.
@@ -51,10 +47,7 @@ fn delivers_at(b: &[u8], at: usize, x: usize) -> bool
     requires { at + 10 ≤ length b.now }
     ensures { result ≡ delivers (entry_at b.now at) x }
 {
-    if wide(b[at]) == 3 {
-        return false;
-    }
-    set_at(b, at) == x
+    b[at] != Kind::Retirement as u8 && set_at(b, at) == x
 }
 
 // Whether it retires x.
@@ -62,10 +55,7 @@ fn retires_at(b: &[u8], at: usize, x: usize) -> bool
     requires { at + 10 ≤ length b.now }
     ensures { result ≡ retires (entry_at b.now at) x }
 {
-    if wide(b[at]) != 3 {
-        return false;
-    }
-    set_at(b, at) == x
+    b[at] == Kind::Retirement as u8 && set_at(b, at) == x
 }
 
 // Whether it replaces x.
@@ -73,48 +63,36 @@ fn replaces_at(b: &[u8], at: usize, x: usize) -> bool
     requires { at + 10 ≤ length b.now }
     ensures { result ≡ replaces (entry_at b.now at) x }
 {
-    if wide(b[at]) != 2 {
-        return false;
-    }
-    earlier_at(b, at) == x
+    b[at] == Kind::Replacement as u8 && earlier_at(b, at) == x
 }
 
-fn either(x: bool, y: bool) -> bool
-    ensures { result ≡ (x || y) }
-{
-    if x {
-        return true;
-    }
-    y
-}
-
-// What replaced x when the record at `at` is noted too.
-fn replacer(b: &[u8], at: usize, x: usize, by: usize) -> usize
-    requires { (at + 10 ≤ length b.now) × (by < 4294967296) }
-    ensures { (result ≡ cond (replaces (entry_at b.now at) x) (entry_at b.now at).number by) × (result < 4294967296) }
+// The set that the record at `at` replaces x by, if it does.
+fn replacer(b: &[u8], at: usize, x: usize) -> Option<usize>
+    requires { at + 10 ≤ length b.now }
+    ensures { (result ≡ cond (replaces (entry_at b.now at) x) (Some (entry_at b.now at).number) None) × ((entry_at b.now at).number < 4294967296) }
 {
     if replaces_at(b, at, x) {
-        return set_at(b, at);
+        Some(set_at(b, at))
+    } else {
+        None
     }
-    by
 }
 
 // What the register of the first n records of the roll b notes of x.
 pub fn look_up(b: &[u8], n: usize, x: usize) -> Found
     requires { (is_roll b.now ≡ true) × (n ≤ count_of b.now) }
-    ensures { Notes (register_after (record_of b.now) n) x result.delivered result.retired result.by }
+    ensures notes { Notes (register_after (record_of b.now) n) x result.delivered result.retired (set_or_zero result.by) }
+    ensures named { IfSome result.by (λ m. 0 < m) }
 {
     let mut delivered = false;
     let mut retired = false;
-    let mut by = 0;
+    let mut by = None;
     let mut p = 0;
-    let mut i = 0;
-    while i < n {
-        delivered = either(delivered, delivers_at(b, p, x));
-        retired = either(retired, retires_at(b, p, x));
-        by = replacer(b, p, x, by);
+    for _ in 0..n {
+        delivered |= delivers_at(b, p, x);
+        retired |= retires_at(b, p, x);
+        by = replacer(b, p, x).or(by);
         p = record_end(b, p);
-        i += 1;
     }
     Found {
         delivered,
@@ -128,22 +106,19 @@ fn is_allowed(b: &[u8], n: usize, at: usize) -> bool
     requires { (is_roll b.now ≡ true) × (n < count_of b.now) × (at ≡ record_start b.now n) }
     ensures { result ≡ allowed (register_after (record_of b.now) n) (record_of b.now n) }
 {
-    let kind = wide(b[at]);
+    let kind = b[at];
     let own = look_up(b, n, set_at(b, at));
-    if kind == 3 {
+    if kind == Kind::Retirement as u8 {
         return own.delivered;
     }
     if own.delivered {
         return false;
     }
-    if kind != 2 {
+    if kind != Kind::Replacement as u8 {
         return true;
     }
     let old = look_up(b, n, earlier_at(b, at));
-    if !old.delivered {
-        return false;
-    }
-    old.by == 0
+    old.delivered && old.by.is_none()
 }
 
 // Whether 9 applies to none of the n records.
@@ -152,13 +127,11 @@ pub fn is_lawful(b: &[u8], n: usize) -> bool
     ensures { result ≡ lawful_to (record_of b.now) n }
 {
     let mut p = 0;
-    let mut i = 0;
-    while i < n {
+    for i in 0..n {
         if !is_allowed(b, i, p) {
             return false;
         }
         p = record_end(b, p);
-        i += 1;
     }
     true
 }
@@ -170,11 +143,9 @@ pub fn end_of(b: &[u8], n: usize, x: usize) -> usize
 {
     let mut y = x;
     let mut p = 0;
-    let mut i = 0;
-    while i < n {
-        y = replacer(b, p, y, y);
+    for _ in 0..n {
+        y = replacer(b, p, y).unwrap_or(y);
         p = record_end(b, p);
-        i += 1;
     }
     y
 }
@@ -182,7 +153,7 @@ pub fn end_of(b: &[u8], n: usize, x: usize) -> usize
 // The rules: replacement is followed first, and retirement looked at where the chain ends.
 fn follow(b: &[u8], n: usize, x: usize) -> Standing
     requires { (is_roll b.now ≡ true) × (n ≡ count_of b.now) × (x < 4294967296) × (lawful_to (record_of b.now) n ≡ true) }
-    ensures { result ≡ answer (n + 1) (register_after (record_of b.now) n) x }
+    ensures { Ok result ≡ answer (n + 1) (register_after (record_of b.now) n) x }
 {
     let f = look_up(b, n, x);
     if !f.delivered {
@@ -191,22 +162,24 @@ fn follow(b: &[u8], n: usize, x: usize) -> Standing
     let last = end_of(b, n, x);
     let e = look_up(b, n, last);
     if e.retired {
-        return Standing::Retired;
+        Standing::Retired
+    } else {
+        Standing::Current(last as u32)
     }
-    Standing::Current(last as u32)
 }
 
-// Which set stands now for a set, by the roll in the first count bytes of the lent slice.
-pub fn stands_now(lent: &[u8], count: usize, set: u32) -> Standing
+// Which set stands now for a set, by the roll in the first count bytes of the lent slice. 7: the bytes are not a roll; 9: a record delivers
+// a set again, names one that no record before it delivers, or replaces one for the second time.
+pub fn stands_now(lent: &[u8], count: usize, set: u32) -> Result<Standing, Refusal>
     ensures { result ≡ stands_now (roll_bytes lent.now count) set }
 {
     let b = roll::roll_bytes(lent, count);
     if !is_whole_roll(b) {
-        return Standing::Refused(Refusal::NotARoll);
+        return Err(Refusal::NotARoll);
     }
     let n = count_in(b, b.len());
     if !is_lawful(b, n) {
-        return Standing::Refused(Refusal::NotLawful);
+        return Err(Refusal::NotLawful);
     }
-    follow(b, n, set as usize)
+    Ok(follow(b, n, set as usize))
 }

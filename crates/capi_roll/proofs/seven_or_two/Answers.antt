@@ -4,5 +4,5 @@ use Rattle.capi_roll.proofs.seven_or_two.Goals as goal
 pub returns-then-number-eq7 : goal.returns-then-number-eq7
 returns-then-number-eq7 c = is_seven c.if-number-eq7.true
 
-pub returns : goal.returns
-returns c = is_two c.if-number-eq7.false
+pub returns-else-number-eq7 : goal.returns-else-number-eq7
+returns-else-number-eq7 c = is_two c.if-number-eq7.false

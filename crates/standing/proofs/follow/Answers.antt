@@ -14,12 +14,12 @@ end_of-last-requires c = (c.requires.0, c.requires.1, c.requires.2)
 
 pub returns-then-not-f : goal.returns-then-not-f
 returns-then-not-f c =
-    says_unknown c.args.b.now c.args.n c.args.x c.requires.0 c.requires.1 c.requires.3 c.look_up-f.ensures (not-true _ c.if-not-f.true)
+    says_unknown c.args.b.now c.args.n c.args.x c.requires.0 c.requires.1 c.requires.3 c.look_up-f.ensures.notes (not-true _ c.if-not-f.true)
 
 pub returns-then-e : goal.returns-then-e
 returns-then-e c =
-    says_retired c.args.b.now c.args.n c.args.x c.requires.0 c.requires.1 c.requires.3 c.look_up-f.ensures (not-false _ c.if-not-f.false) c.end_of-last.ensures.0 c.look_up-e.ensures c.if-e.true
+    says_retired c.args.b.now c.args.n c.args.x c.requires.0 c.requires.1 c.requires.3 c.look_up-f.ensures.notes (not-false _ c.if-not-f.false) c.end_of-last.ensures.0 c.look_up-e.ensures.notes c.if-e.true
 
-pub returns : goal.returns
-returns c =
-    says_current c.args.b.now c.args.n c.args.x c.requires.0 c.requires.1 c.requires.3 c.look_up-f.ensures (not-false _ c.if-not-f.false) c.end_of-last.ensures.0 c.look_up-e.ensures c.if-e.false
+pub returns-else-e : goal.returns-else-e
+returns-else-e c =
+    says_current c.args.b.now c.args.n c.args.x c.requires.0 c.requires.1 c.requires.3 c.look_up-f.ensures.notes (not-false _ c.if-not-f.false) c.end_of-last.ensures.0 c.look_up-e.ensures.notes c.if-e.false

@@ -1,52 +1,65 @@
-use mathlib.Core.Path.{◌≡◌, ap, ◌∙◌, subst}
+use Rattle.std.proofs.Common.{◌<◌, sym}
+use Rattle.roll.specs.Reading.{entry_at, count_of}
+use Rattle.standing.specs.Register.{replaces}
+use Rattle.standing.proofs.Laws.{numbered}
+use Rattle.standing.proofs.Replacers.{noted-by, small-by, named-by}
+use mathlib.Core.Path.{◌≡◌, ap, subst}
 use mathlib.Core.Bool.{Bool, ◌||◌}
 use Prim.Native.Nat.{ℕ}
 use native.Mathlib.Omega.{arith}
 use Rattle.roll.specs.StartLaws.{start_first, next_start}
-use Rattle.standing.specs.Walk.{Notes, record_of, register_after, notes_none, notes_more, inside}
+use Rattle.standing.specs.Walk.{Notes, record_of, register_after, set_or_zero, notes_none, notes_more, inside}
 use Rattle.standing.proofs.look_up.Goals as goal
 
-pub loop-i-init : goal.loop-i-init
-loop-i-init c =
-    (omega arith, start_first c.args.b.now, notes_none c.args.b.now c.args.x)
+pub loop-init : goal.loop-init
+loop-init c =
+    (start_first c.args.b.now, notes_none c.args.b.now c.args.x, tt)
 
-pub delivers_at-requires : goal.delivers_at-requires
-delivers_at-requires c =
-    let l = c.loop-i in
-    let r = inside c.args.b.now c.requires.0 l.i l.p (omega (arith, c.loop-i-test.true, c.requires.1)) l.invariant.1 in
+pub delivers_at-delivered-requires : goal.delivers_at-delivered-requires
+delivers_at-delivered-requires c =
+    let l = c.loop in
+    let r = inside c.args.b.now c.requires.0 l.counter l.p (omega (arith, c.loop-test.true, c.requires.1)) l.invariant.0 in
     omega (arith, r.0, r.1)
 
-pub retires_at-requires : goal.retires_at-requires
-retires_at-requires c =
-    let l = c.loop-i in
-    let r = inside c.args.b.now c.requires.0 l.i l.p (omega (arith, c.loop-i-test.true, c.requires.1)) l.invariant.1 in
+pub retires_at-retired-requires : goal.retires_at-retired-requires
+retires_at-retired-requires c =
+    let l = c.loop in
+    let r = inside c.args.b.now c.requires.0 l.counter l.p (omega (arith, c.loop-test.true, c.requires.1)) l.invariant.0 in
     omega (arith, r.0, r.1)
 
-pub replacer-by-requires : goal.replacer-by-requires
-replacer-by-requires c =
-    let l = c.loop-i in
-    let r = inside c.args.b.now c.requires.0 l.i l.p (omega (arith, c.loop-i-test.true, c.requires.1)) l.invariant.1 in
-    (r.1, l.invariant.2.small)
+pub replacer-requires : goal.replacer-requires
+replacer-requires c =
+    let l = c.loop in
+    (inside c.args.b.now c.requires.0 l.counter l.p (omega (arith, c.loop-test.true, c.requires.1)) l.invariant.0).1
 
 pub record_end-p-requires : goal.record_end-p-requires
 record_end-p-requires c =
-    let l = c.loop-i in
-    (inside c.args.b.now c.requires.0 l.i l.p (omega (arith, c.loop-i-test.true, c.requires.1)) l.invariant.1).1
+    let l = c.loop in
+    (inside c.args.b.now c.requires.0 l.counter l.p (omega (arith, c.loop-test.true, c.requires.1)) l.invariant.0).1
 
-pub loop-i-preserved : goal.loop-i-preserved
-loop-i-preserved c =
+pub loop-preserved : goal.loop-preserved
+unfolding record_of
+loop-preserved c =
     let b = c.args.b.now in
-    let l = c.loop-i in (
-      omega arith,
-      next_start b l.i l.p c.record_end-p.result l.invariant.1 c.record_end-p.ensures,
-      notes_more b l.i c.args.x l.p l.invariant.1 l.invariant.2
-          (c.either-delivered.ensures ∙ ap (λ (z : Bool). l.delivered || z) c.delivers_at.ensures)
-          (c.either-retired.ensures ∙ ap (λ (z : Bool). l.retired || z) c.retires_at.ensures)
-          c.replacer-by.ensures.0 c.replacer-by.ensures.1,
+    let l = c.loop in
+    let t = replaces (entry_at b l.p) c.args.x in
+    let m = (entry_at b l.p).number in
+    let h : l.counter < count_of b = omega (arith, c.loop-test.true, c.requires.1) in
+    let named : 0 < m = subst (λ (p : ℕ). 0 < (entry_at b p).number) (sym l.invariant.0) (numbered b c.requires.0 l.counter h) in (
+      next_start b l.counter l.p c.record_end-p.result l.invariant.0 c.record_end-p.ensures,
+      notes_more b l.counter c.args.x l.p l.invariant.0 l.invariant.1
+          (ap (λ (z : Bool). l.delivered || z) c.delivers_at-delivered.ensures)
+          (ap (λ (z : Bool). l.retired || z) c.retires_at-retired.ensures)
+          (noted-by t m l.by c.replacer.ensures.0 c.or-by.ensures)
+          (small-by t m l.by c.replacer.ensures.0 c.or-by.ensures _ c.replacer.ensures.1 l.invariant.1.small),
+      named-by t m l.by c.replacer.ensures.0 c.or-by.ensures named l.invariant.2,
     )
 
 pub returns : goal.returns
 returns c =
-    let l = c.loop-i in
-    let e : l.i ≡ c.args.n = omega arith in
-    subst (λ (m : ℕ). Notes (register_after (record_of c.args.b.now) m) c.args.x l.delivered l.retired l.by) e l.invariant.2
+    let l = c.loop in
+    let e : l.counter ≡ c.args.n = omega arith in
+    record {
+      notes = subst (λ (m : ℕ). Notes (register_after (record_of c.args.b.now) m) c.args.x l.delivered l.retired (set_or_zero l.by)) e l.invariant.1;
+      named = l.invariant.2;
+    }

@@ -1,11 +1,7 @@
-use mathlib.Core.Path.{◌≡◌}
-use Prim.Native.Nat.{◌-◌, ◌≤◌}
+use Rattle.std.proofs.Common.{◌≡◌, ◌<◌, IfSome}
 use Rattle.roll.specs.Reading.{record_start}
-use Rattle.standing.specs.Walk.{Notes, record_of, register_after}
+use Rattle.standing.specs.Walk.{Notes, record_of, register_after, set_or_zero}
 use Rattle.standing.proofs.look_up.Given as goal
 
-abbrev pub invariant-loop-i : goal.invariant-loop-i
-invariant-loop-i l = (l.i ≤ l.n) × (l.p ≡ record_start l.b l.i) × Notes (register_after (record_of l.b) l.i) l.x l.delivered l.retired l.by
-
-abbrev pub decreases-loop-i : goal.decreases-loop-i
-decreases-loop-i l = l.n - l.i
+abbrev pub invariant-loop : goal.invariant-loop
+invariant-loop l = (l.p ≡ record_start l.b l.counter) × Notes (register_after (record_of l.b) l.counter) l.x l.delivered l.retired (set_or_zero l.by) × IfSome l.by (λ m. 0 < m)

@@ -1,4 +1,5 @@
-use mathlib.Core.Path.{sym, ◌∙◌}
+use Rattle.std.proofs.Common.{sym, ◌∙◌}
+use Rattle.std.proofs.lemmas.Result.{err_from_is_err_and}
 use Rattle.roll.specs.Format.{entry}
 use Rattle.roll.specs.NumberLaws.{Bytes}
 use Rattle.roll.proofs.AppendLaws.{may_add, leaves-new, leaves-old}
@@ -10,18 +11,19 @@ add_record-requires c =
     let a = c.args in
     let r = entry a.kind a.set a.earlier a.label.now in
     let B : Bytes a.lent.now = λ k. search rules in
-    let m = may_add a.lent.now a.count r _ B (sym c.judge_append-a.ensures ∙ c.in-Count.is) in
+    let m = may_add a.lent.now a.count r _ B (sym c.judge_append.ensures ∙ c.in_ok-long.was) in
     (m.0, m.1, m.2)
 
-pub returns-in-Count : goal.returns-in-Count
-returns-in-Count c =
+pub returns : goal.returns
+returns c =
     let a = c.args in
     let r = entry a.kind a.set a.earlier a.label.now in
     let B : Bytes a.lent.now = λ k. search rules in
-    leaves-new a.lent.now a.count r _ _ B (sym c.judge_append-a.ensures ∙ c.in-Count.is) c.add_record.ensures
+    leaves-new a.lent.now a.count r _ _ B (sym c.judge_append.ensures ∙ c.in_ok-long.was) c.add_record.ensures
 
-pub returns-in-Refused : goal.returns-in-Refused
-returns-in-Refused c =
+pub returns-in_err-long : goal.returns-in_err-long
+returns-in_err-long c =
     let a = c.args in
     let r = entry a.kind a.set a.earlier a.label.now in
-    leaves-old a.lent.now a.count r _ (sym c.in-Refused.is ∙ c.judge_append-a.ensures)
+    let p = err_from_is_err_and c.from_residual.result c.from_residual.ensures.1 in
+    rw (p.1, p.2) (leaves-old a.lent.now a.count r _ (sym c.in_err-long.was ∙ c.judge_append.ensures))

@@ -9,7 +9,7 @@ use Rattle.roll.specs.StoringLaws.{no-starts, more-starts, still}
 use Rattle.roll.proofs.append.lay_starts.Goals as goal
 
 pub loop-i-init : goal.loop-i-init
-loop-i-init c = let a = c.args in (omega arith, refl, start_first a.s.now, no-starts a.s.now a.t)
+loop-i-init c = let a = c.args in (refl, start_first a.s.now, no-starts a.s.now a.t)
 
 pub lay_four-requires : goal.lay_four-requires
 lay_four-requires c = omega (arith, c.listed_at.ensures)
@@ -22,13 +22,13 @@ loop-i-preserved c =
     let a = c.args in
     let l = c.loop-i in
     let h = c.loop-i-test.true in
-    let q = more-starts a.s.now a.n a.t c.requires.0 c.requires.1 l.s _ l.i l.at _ h l.invariant.2 c.listed_at.ensures l.invariant.3 c.lay_four.ensures in
-    let z = c.record_end-at.ensures ∙ still a.s.now a.n a.t c.requires.0 c.requires.1 _ l.i l.at h l.invariant.2 q in
-    (omega arith, c.lay_four.auto.s ∙ l.invariant.1, next_start a.s.now l.i l.at c.record_end-at.result l.invariant.2 z, q)
+    let q = more-starts a.s.now a.n a.t c.requires.0 c.requires.1 l.s _ l.i l.at _ h l.invariant.1 c.listed_at.ensures l.invariant.2 c.lay_four.ensures in
+    let z = c.record_end-at.ensures ∙ still a.s.now a.n a.t c.requires.0 c.requires.1 _ l.i l.at h l.invariant.1 q in
+    (c.lay_four.auto.s ∙ l.invariant.0, next_start a.s.now l.i l.at c.record_end-at.result l.invariant.1 z, q)
 
 pub returns : goal.returns
 returns c =
     let a = c.args in
     let l = c.loop-i in
     let i : l.i ≡ a.n = omega arith in
-    l.invariant.3 ∙ ap (λ m. laid a.s.now a.t (in_fours (tab m (record_start a.s.now)))) i
+    l.invariant.2 ∙ ap (λ m. laid a.s.now a.t (in_fours (tab m (record_start a.s.now)))) i

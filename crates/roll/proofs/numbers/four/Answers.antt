@@ -1,7 +1,7 @@
+use Rattle.std.proofs.Common.{arith}
 use Rattle.roll.specs.Reading.{four_at}
-use borrow.Author.Rules.{rules}
 use Rattle.roll.proofs.numbers.four.Goals as goal
 
 pub returns : goal.returns
 unfolding four_at
-returns c = search rules
+returns c = (omega arith, c.from_le_bytes.type_inv)
