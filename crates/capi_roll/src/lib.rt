@@ -54,7 +54,7 @@ fn tell(b: &[u8], at: usize, a: Result<Item, Refusal>, slots: &mut [usize]) -> u
             0
         }
         Ok(Item::End) => 68,
-        Err(r) => tables::refusal_number(r),
+        Err(r) => u8::from(r),
     }
 }
 
@@ -105,7 +105,7 @@ fn report(a: Result<usize, Refusal>, slot: &mut [usize]) -> u8
             slot[0] = n;
             0
         }
-        Err(r) => tables::refusal_number(r),
+        Err(r) => u8::from(r),
     }
 }
 
@@ -143,7 +143,7 @@ fn name_set(a: Result<Standing, Refusal>, slot: &mut [usize]) -> u8
             slot[0] = set as usize;
             0
         }
-        Err(r) => tables::refusal_number(r),
+        Err(r) => u8::from(r),
     }
 }
 

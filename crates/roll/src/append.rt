@@ -17,7 +17,7 @@ pub fn number_of_appended(a: Result<usize, Refusal>) -> u8
 {
     match a {
         Ok(_) => 0,
-        Err(r) => tables::refusal_number(r),
+        Err(r) => u8::from(r),
     }
 }
 

@@ -21,7 +21,7 @@ pub fn item_number(a: Result<Item, Refusal>) -> u8
     match a {
         Ok(Item::Record { .. }) => 0,
         Ok(Item::End) => 68,
-        Err(r) => tables::refusal_number(r),
+        Err(r) => u8::from(r),
     }
 }
 

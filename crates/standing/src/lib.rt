@@ -30,7 +30,7 @@ pub fn standing_number(a: Result<Standing, Refusal>) -> u8
         Ok(Standing::Unknown) => 70,
         Ok(Standing::Retired) => 71,
         Ok(Standing::Current(_)) => 0,
-        Err(r) => tables::refusal_number(r),
+        Err(r) => u8::from(r),
     }
 }
 

@@ -12,4 +12,4 @@ pub returns-in-Ok-Current : goal.returns-in-Ok-Current
 returns-in-Ok-Current c = named_current c.args.slot.now c.requires (c.in-Ok-Current.is ∙ ap Ok (rw c.in-Ok-Current.is at c.in-Ok-Current.field-0-is))
 
 pub returns-in-Err : goal.returns-in-Err
-returns-in-Err c = named-refused c.args.slot.now c.in-Err.is c.refusal_number.ensures
+returns-in-Err c = named-refused c.args.slot.now c.in-Err.is c.from.ensures

@@ -7,4 +7,4 @@ returns-in-Ok c =
 
 pub returns-in-Err : goal.returns-in-Err
 returns-in-Err c =
-    reported-refused c.args.slot.now c.requires c.in-Err.is c.refusal_number.ensures
+    reported-refused c.args.slot.now c.requires c.in-Err.is c.from.ensures
