@@ -7,7 +7,6 @@ ghost use Rattle.distribute.specs.Fc2Laws.{Rows, Ready, Placed};
 
 use lines::nines::added;
 use tables::Refusal;
-use tables::atoms::{SuperAtom, perms_at};
 
 // Adds the rotated source block to the target block: c has the rotation's coefficients. The source is read first.
 fn add_block(fc2: &mut [f64], c: &[f64; 81], target: usize, source: usize)
@@ -35,9 +34,9 @@ fn add_row(
     let r = blocks::read9(r_carts, s);
     let c = rotations::coefficients2(blocks::transposed9(r));
     for other in 0..num_pos {
-        let image = perms_at(permutations, num_pos, s, SuperAtom(other));
+        let image = tables::index::entry(permutations, s * num_pos + other);
         let target = places::index_of(todo_first, num_pos, other);
-        let source = places::index_of(done_first, num_pos, image.0);
+        let source = places::index_of(done_first, num_pos, image);
         add_block(fc2, &c, target, source);
     }
 }

@@ -1,8 +1,82 @@
-// The distribute calls of third and fourth order: one guard for both, and the definitions and laws over the order in specs/.
-ghost use Rattle.std.specs.Prelude.{◌≡◌, ◌≤◌};
-ghost use Rattle.distribute.specs.Slab.{judged_slabs};
+// The distribute calls of third and fourth order: one guard, one loop over atoms and one call for both. The definitions and laws over the order
+// are in specs/.
+ghost use Rattle.std.specs.Prelude.{◌≡◌, ℕ, suc, List, ◌+◌, ◌*◌, ◌^◌, ◌≤◌, length, Float};
+ghost use Rattle.tables.specs.Conditions.{IndexTable};
+ghost use Rattle.rotations.specs.Rotation.{coefficients as coefficientsOf, rotated};
+ghost use Rattle.blocks.specs.Inside.{BlocksIn};
+ghost use Rattle.distribute.specs.Slab.{judged_slabs, distribute_slab, move};
 
+use std::marker::PhantomData;
 use tables::Refusal;
+
+// Fills blocks of a set from others of it, rotated: a single block, or all that have some atoms more. C is the number of a rotation's coefficients.
+pub trait Fill<const C: usize> {
+    // how many legs a block has, how many numbers, and how many atoms more there are
+    ghost legs: { ℕ };
+
+    ghost width: { ℕ };
+
+    ghost atoms: { ℕ };
+
+    // a block has numbers, and the coefficients are few
+    ghost some: { 1 ≤ width };
+
+    ghost small: { C ≤ 6561 };
+
+    // The coefficients of a rotation.
+    fn coefficients(m: [f64; 9]) -> [f64; C]
+        ensures { result ≡ coefficientsOf m legs width };
+
+    // Fills the blocks below target from those below source: these number the slab and the atoms before. c has the rotation's coefficients.
+    fn fill(
+        fc: &mut [f64],
+        c: &[f64; C],
+        atom_mapping: &[i64],
+        num_atom: usize,
+        target: usize,
+        source: usize,
+    )
+        requires index_table { IndexTable num_atom num_atom atom_mapping.now }
+        requires blocks_in { BlocksIn num_atom width atoms target (length fc.old) × BlocksIn num_atom width atoms source (length fc.old) }
+        ensures { (m : List Float)
+            → c.now ≡ coefficientsOf m legs width
+            → fc.new ≡ move atom_mapping.now num_atom width (rotated m legs) atoms target source fc.old };
+}
+
+// What F fills, for each atom.
+pub struct EachAtom<F>(PhantomData<F>);
+
+impl<const C: usize, F: Fill<C>> Fill<C> for EachAtom<F> {
+    ghost legs = { F.legs };
+
+    ghost width = { F.width };
+
+    ghost atoms = { suc F.atoms };
+
+    ghost some = { F.some };
+
+    ghost small = { F.small };
+
+    fn coefficients(m: [f64; 9]) -> [f64; C] {
+        F::coefficients(m)
+    }
+
+    fn fill(
+        fc: &mut [f64],
+        c: &[f64; C],
+        atom_mapping: &[i64],
+        num_atom: usize,
+        target: usize,
+        source: usize,
+    ) {
+        for i in 0..num_atom {
+            let image = tables::index::entry(atom_mapping, i);
+            let t = places::index_of(target, num_atom, i);
+            let s = places::index_of(source, num_atom, image);
+            F::fill(fc, c, atom_mapping, num_atom, t, s);
+        }
+    }
+}
 
 // The first of refusals 1, 2, 3 and 4 that applies, or done, for a set of rank k + 1.
 pub fn judge_slabs(
@@ -46,5 +120,38 @@ pub fn judge_slabs(
     if target == source {
         return Err(Refusal::BadSlab);
     }
+    Ok(())
+}
+
+// The call for a set of rank k + 1, whose blocks S fills for a whole slab.
+pub fn distribute<const C: usize, S: Fill<C>>(
+    limit: usize,
+    k: usize,
+    fc: &mut [f64],
+    target: usize,
+    source: usize,
+    atom_mapping: &[i64],
+    num_atom: usize,
+    rot_cart: &[f64],
+    num_first: usize,
+) -> Result<(), Refusal>
+    requires counts { (limit ≤ 1024) × (k ≤ 3) }
+    requires order { (S.atoms ≡ k) × (S.legs ≡ suc k) × (S.width ≡ 3 ^ suc k) }
+    ensures { (result, fc.new)
+        ≡ distribute_slab limit k fc.old target source atom_mapping.now num_atom rot_cart.now num_first }
+{
+    judge_slabs(
+        limit,
+        k,
+        fc.len(),
+        atom_mapping,
+        num_atom,
+        rot_cart.len(),
+        num_first,
+        target,
+        source,
+    )?;
+    let c = S::coefficients(blocks::read9(rot_cart, 0));
+    S::fill(fc, &c, atom_mapping, num_atom, target, source);
     Ok(())
 }

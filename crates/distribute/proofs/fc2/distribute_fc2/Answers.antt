@@ -3,7 +3,6 @@ use Rattle.tables.specs.Answers.{passes, refuses}
 use mathlib.Core.Path.{sym, ap, ◌∙◌}
 use lib.IntN.{pos}
 use lib.ListN.{replicate}
-use Rattle.tables.specs.Answers.{is_done}
 use Rattle.distribute.specs.Fc2Laws.{ready, placing, refused, done_call}
 use Rattle.distribute.proofs.fc2.distribute_fc2.Goals as goal
 

@@ -1,0 +1,15 @@
+use mathlib.Core.Path.{◌≡◌}
+use mathlib.Core.List.{List}
+use Prim.Native.Nat.{◌+◌, ◌*◌}
+use lib.Ieee.{Float}
+use Rattle.lists.specs.Tab.{times}
+use Rattle.tables.specs.Conditions.{index_at}
+use Rattle.rotations.specs.Rotation.{coefficients, rotated}
+use Rattle.distribute.specs.Slab.{move}
+use Rattle.distribute.proofs.slabs.EachAtomFill.fill.Given as goal
+
+abbrev pub invariant-loop-i : goal.invariant-loop-i
+invariant-loop-i g l =
+    let f = g.F.Fill in
+    (m : List Float) → l.c ≡ coefficients m f.legs f.width
+    → l.fc ≡ times l.i (λ i. move l.atom_mapping l.num_atom f.width (rotated m f.legs) f.atoms (l.target * l.num_atom + i) (l.source * l.num_atom + index_at l.atom_mapping i)) l.initial.fc
