@@ -107,7 +107,7 @@ pub fn perm_trans_symmetrize_fc4(
 {
     judge(fc4.len(), done.len(), drift.len(), num_atom, level)?;
     full_symmetrize(fc4, done, drift, num_atom, level);
-    lists::clear_bytes(done);
+    lists::clear(done, 0);
     lists::clear_floats(drift);
     Ok(())
 }

@@ -78,7 +78,7 @@ pub fn perm_trans_symmetrize_compact_fc3(fc3: &mut [f64], tables: &ShiftTables, 
 {
     judge(fc3.len(), done.len(), drift.len(), tables, level)?;
     all_levels(fc3, tables, done, drift, level);
-    lists::clear_bytes(done);
+    lists::clear(done, 0);
     lists::clear_floats(drift);
     Ok(())
 }

@@ -345,6 +345,6 @@ pub fn distribute_fc2(
         atom_list_reverse,
         num_pos,
     );
-    lists::clear_ints(atom_list_reverse);
+    lists::clear(atom_list_reverse, 0);
     Ok(())
 }

@@ -91,7 +91,7 @@ pub fn set_index_permutation_symmetry_compact_fc(
 {
     judge(fc.len(), done.len(), tables)?;
     exchange(fc, tables, transpose);
-    lists::clear_bytes(done);
+    lists::clear(done, 0);
     Ok(())
 }
 
@@ -105,7 +105,7 @@ pub fn true_transpose_compact_fc2(
 {
     judge(fc.len(), done.len(), tables)?;
     transpose_pass(fc, tables, false);
-    lists::clear_bytes(done);
+    lists::clear(done, 0);
     Ok(())
 }
 
@@ -120,6 +120,6 @@ pub fn perm_trans_symmetrize_compact_fc(
 {
     judge_levels(fc.len(), done.len(), tables, level)?;
     symmetrize(fc, tables, level);
-    lists::clear_bytes(done);
+    lists::clear(done, 0);
     Ok(())
 }

@@ -9,7 +9,7 @@ ghost use Rattle.fc3.specs.Symmetrize.{set_permutation_symmetry_compact_fc3};
 ghost use Rattle.fc3.specs.Loops.{Ready, Atoms, at3, Marks6, work_at, visit_at, row3, slab3, all3};
 
 use crate::spread::work_group;
-use lists::clear_bytes;
+use lists::clear;
 use places::{block3, stored_block3};
 use shifts::judge_compact;
 use tables::Refusal;
@@ -110,9 +110,9 @@ pub fn symmetrize(fc3: &mut [f64], tables: &ShiftTables, done: &mut [u8])
     requires { Ready (length fc3.old) 2 (length done.old) (given tables.now) }
     ensures { (fc3.new ≡ symmetrized nan mean6 (shifts_of (given tables.now)) 2 perms3 fc3.old) × (done.new ≡ replicate (length done.old) 0) }
 {
-    clear_bytes(done);
+    clear(done, 0);
     slabs(fc3, tables, done);
-    clear_bytes(done);
+    clear(done, 0);
 }
 
 // The set is symmetrized: all six permutations of any three legs read out the same number. The done table comes in with anything and is left with zeros.

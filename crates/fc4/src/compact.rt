@@ -7,7 +7,7 @@ ghost use Rattle.fc4.specs.Symmetrize.{set_permutation_symmetry_compact_fc4};
 ghost use Rattle.fc4.specs.Loops.{Ready, visit_at};
 
 use crate::group::{group_blocks, take};
-use lists::clear_bytes;
+use lists::clear;
 use positions::addresses;
 use shifts::judge_compact;
 use tables::Refusal;
@@ -47,8 +47,8 @@ pub fn set_permutation_symmetry_compact_fc4(
 {
     judge_compact(LIMIT4, 3, fc4.len(), 3, done.len(), tables)?;
     let t = addresses();
-    clear_bytes(done);
+    clear(done, 0);
     all_blocks(fc4, tables, done, &t);
-    clear_bytes(done);
+    clear(done, 0);
     Ok(())
 }

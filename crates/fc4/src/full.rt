@@ -10,7 +10,7 @@ ghost use Rattle.fc4.specs.Symmetrize.{set_permutation_symmetry_fc4};
 ghost use Rattle.fc4.specs.Loops.{FullReady, visit_at};
 
 use crate::group::{full_group_blocks, take};
-use lists::clear_bytes;
+use lists::clear;
 use positions::addresses;
 use tables::Refusal;
 use tables::limits::LIMIT4;
@@ -59,8 +59,8 @@ pub fn set_permutation_symmetry_fc4(
 {
     judge(fc4.len(), done.len(), num_atom)?;
     let t = addresses();
-    clear_bytes(done);
+    clear(done, 0);
     full_blocks(fc4, done, num_atom, &t);
-    clear_bytes(done);
+    clear(done, 0);
     Ok(())
 }

@@ -12,7 +12,7 @@ use distances::{Cell, Reach, reach_of};
 pub fn unmark(marks: &mut [u8])
     ensures { marks.new ≡ replicate (length marks.old) 0 }
 {
-    lists::clear_bytes(marks);
+    lists::clear(marks, 0);
 }
 
 // Whether slot j holds position i.

@@ -13,7 +13,7 @@ ghost use Rattle.orbits.specs.TrueTransposes.{swapped, legs3, true_transpose_com
 ghost use Rattle.transposes_fc3.specs.Fc3Loops.{Atoms, at3, exchange_at, row_t, slab_t, all_t};
 
 use crate::exchanging::{exchange0, exchange1, exchange2};
-use lists::clear_bytes;
+use lists::clear;
 use orbits::half_shifts::stays;
 use places::{block3, stored_block3};
 use shifts::judge_compact;
@@ -213,7 +213,7 @@ pub fn transpose_compact_fc3(
 {
     judge_compact(LIMIT3, 2, fc3.len(), 1, done.len(), tables)?;
     transpose(fc3, tables, true, t_type);
-    clear_bytes(done);
+    clear(done, 0);
     Ok(())
 }
 
@@ -228,6 +228,6 @@ pub fn true_transpose_compact_fc3(
 {
     judge_compact(LIMIT3, 2, fc3.len(), 1, done.len(), tables)?;
     transpose(fc3, tables, false, t_type);
-    clear_bytes(done);
+    clear(done, 0);
     Ok(())
 }

@@ -13,7 +13,7 @@ ghost use Rattle.orbits.specs.HalfShift.{Trading};
 ghost use Rattle.orbits.specs.TrueTransposes.{swapped, legs4, true_transpose_compact_fc4};
 
 use crate::legs::exchange_legs;
-use lists::clear_bytes;
+use lists::clear;
 use shifts::judge_compact;
 use tables::Refusal;
 use tables::limits::LIMIT4;
@@ -40,7 +40,7 @@ pub fn transpose_compact_fc4(
 {
     judge_compact(LIMIT4, 3, fc4.len(), 1, done.len(), tables)?;
     by_type(fc4, tables, true, t_type);
-    clear_bytes(done);
+    clear(done, 0);
     Ok(())
 }
 
@@ -55,6 +55,6 @@ pub fn true_transpose_compact_fc4(
 {
     judge_compact(LIMIT4, 3, fc4.len(), 1, done.len(), tables)?;
     by_type(fc4, tables, false, t_type);
-    clear_bytes(done);
+    clear(done, 0);
     Ok(())
 }

@@ -8,7 +8,7 @@ ghost use Rattle.transposes_fc4.specs.Swaps.{swap_pairs_compact_fc4};
 ghost use Rattle.transposes_fc4.specs.Guard.{with_bad_leg, with_legs};
 
 use crate::legs::exchange_legs;
-use lists::clear_bytes;
+use lists::clear;
 use shifts::judge_compact;
 use tables::limits::LIMIT4;
 use tables::shift_tables::ShiftTables;
@@ -76,6 +76,6 @@ pub fn swap_pairs_compact_fc4(
     let t = judge_compact(LIMIT4, 3, fc4.len(), 1, done.len(), tables);
     judge_legs(t, leg_a, leg_b)?;
     swap(fc4, tables, leg_a, leg_b);
-    clear_bytes(done);
+    clear(done, 0);
     Ok(())
 }

@@ -25,4 +25,4 @@ pub returns : goal.returns
 returns c =
     let a = c.args in
     let T = given a.tables.now in
-    transpose_done a.fc3.now T a.done.now a.t_type c.judge_compact.result c.judge_compact.ensures (passes c.in_ok-judge_compact.was) (c.transpose.ensures ∙ ap (λ t. transposed_by (shifts_of T) t a.fc3.now) (to_z-of_z w64 a.t_type c.ranges.t_type)) c.clear_bytes.ensures
+    transpose_done a.fc3.now T a.done.now a.t_type c.judge_compact.result c.judge_compact.ensures (passes c.in_ok-judge_compact.was) (c.transpose.ensures ∙ ap (λ t. transposed_by (shifts_of T) t a.fc3.now) (to_z-of_z w64 a.t_type c.ranges.t_type)) c.clear.ensures

@@ -29,4 +29,4 @@ unfolding true_transpose_compact_fc3
 returns c =
     let a = c.args in
     let T = given a.tables.now in
-    true_done limit3 2 a.fc3.now T a.done.now (legs3 a.t_type) c.judge_compact.result c.judge_compact.ensures (passes c.in_ok-judge_compact.was) (c.transpose.ensures ∙ ap (λ t. swapped (shifts_of T) 2 (legs3 t) a.fc3.now) (to_z-of_z w64 a.t_type c.ranges.t_type)) c.clear_bytes.ensures
+    true_done limit3 2 a.fc3.now T a.done.now (legs3 a.t_type) c.judge_compact.result c.judge_compact.ensures (passes c.in_ok-judge_compact.was) (c.transpose.ensures ∙ ap (λ t. swapped (shifts_of T) 2 (legs3 t) a.fc3.now) (to_z-of_z w64 a.t_type c.ranges.t_type)) c.clear.ensures

@@ -20,4 +20,4 @@ by_type-requires c =
 pub returns : goal.returns
 returns c =
     transpose_done c.args.fc4.now _ c.args.done.now c.args.t_type c.judge_compact.result c.judge_compact.ensures (passes c.in_ok-judge_compact.was)
-    (c.by_type.ensures ∙ ap (λ t. transposed_by4 (shifts_of (given c.args.tables.now)) t c.args.fc4.now) (to_z-of_z w64 c.args.t_type c.ranges.t_type)) c.clear_bytes.ensures
+    (c.by_type.ensures ∙ ap (λ t. transposed_by4 (shifts_of (given c.args.tables.now)) t c.args.fc4.now) (to_z-of_z w64 c.args.t_type c.ranges.t_type)) c.clear.ensures

@@ -24,4 +24,4 @@ pub returns : goal.returns
 unfolding true_transpose_compact_fc4
 returns c =
     true_done limit4 3 c.args.fc4.now _ c.args.done.now (legs4 c.args.t_type) c.judge_compact.result c.judge_compact.ensures (passes c.in_ok-judge_compact.was)
-    (c.by_type.ensures ∙ ap (λ t. swapped (shifts_of (given c.args.tables.now)) 3 (legs4 t) c.args.fc4.now) (to_z-of_z w64 c.args.t_type c.ranges.t_type)) c.clear_bytes.ensures
+    (c.by_type.ensures ∙ ap (λ t. swapped (shifts_of (given c.args.tables.now)) 3 (legs4 t) c.args.fc4.now) (to_z-of_z w64 c.args.t_type c.ranges.t_type)) c.clear.ensures

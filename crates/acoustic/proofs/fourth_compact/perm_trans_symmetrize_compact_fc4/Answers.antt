@@ -25,4 +25,4 @@ pub returns : goal.returns
 returns c =
     let a = c.args in
     compact_done limit4 3 mean24 perms4 a.fc4.now _ a.done.now a.drift.now a.level c.judge.ensures (passes c.in_ok-judge.was)
-    c.all_levels.ensures (c.clear_bytes.ensures ∙ ap (λ m. replicate m 0) c.all_levels.auto.done) (c.clear_floats.ensures ∙ ap (λ m. replicate m plus_zero) c.all_levels.auto.drift)
+    c.all_levels.ensures (c.clear.ensures ∙ ap (λ m. replicate m 0) c.all_levels.auto.done) (c.clear_floats.ensures ∙ ap (λ m. replicate m plus_zero) c.all_levels.auto.drift)

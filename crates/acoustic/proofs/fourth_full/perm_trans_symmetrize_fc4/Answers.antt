@@ -25,4 +25,4 @@ pub returns : goal.returns
 returns c =
     let a = c.args in
     full-work-done limit4 3 mean24 perms4 a.fc4.now a.num_atom a.done.now a.drift.now a.level c.judge.ensures (passes c.in_ok-judge.was)
-    c.full_symmetrize.ensures (c.clear_bytes.ensures ∙ ap (λ m. replicate m 0) c.full_symmetrize.auto.done) (c.clear_floats.ensures ∙ ap (λ m. replicate m plus_zero) c.full_symmetrize.auto.drift)
+    c.full_symmetrize.ensures (c.clear.ensures ∙ ap (λ m. replicate m 0) c.full_symmetrize.auto.done) (c.clear_floats.ensures ∙ ap (λ m. replicate m plus_zero) c.full_symmetrize.auto.drift)

@@ -33,4 +33,4 @@ returns c =
     let (R, l) = ready _ _ _ _ _ (sym j.ensures ∙ d) in
     let p = c.place_atoms in
     done_call _ _ _ _ _ j.result j.ensures (passes c.in_ok-judge_distribute_fc2.was) c.distribute_atoms.ensures
-    (c.clear_ints.ensures ∙ ap (λ n. replicate n (pos 0)) (p.auto.atom_list_reverse ∙ l))
+    (c.clear.ensures ∙ ap (λ n. replicate n (pos 0)) (p.auto.atom_list_reverse ∙ l))

@@ -19,4 +19,4 @@ pub returns : goal.returns
 returns c =
     let a = c.args in
     symmetrize_done a.fc.now _ a.done.now a.level c.judge_levels.ensures (passes c.in_ok-judge_levels.was)
-    c.symmetrize.ensures c.clear_bytes.ensures
+    c.symmetrize.ensures c.clear.ensures

@@ -19,4 +19,4 @@ pub returns : goal.returns
 returns c =
     let a = c.args in
     index_done a.fc.now _ a.done.now a.transpose c.judge.ensures (passes c.in_ok-judge.was)
-    c.exchange.ensures c.clear_bytes.ensures
+    c.exchange.ensures c.clear.ensures

@@ -24,4 +24,4 @@ unfolding true_transpose_compact_fc2
 returns c =
     let a = c.args in
     true_done limit2 1 a.fc.now _ a.done.now (0, 1) _ c.judge.ensures (passes c.in_ok-judge.was)
-    c.transpose_pass.ensures c.clear_bytes.ensures
+    c.transpose_pass.ensures c.clear.ensures

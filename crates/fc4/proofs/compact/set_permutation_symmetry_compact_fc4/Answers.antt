@@ -11,9 +11,9 @@ returns-in_err-judge_compact c =
 
 pub all_blocks-requires : goal.all_blocks-requires
 all_blocks-requires c =
-    record { ready = rw c.clear_bytes.auto.w (symmetrize_ready c.args.fc4.now _ c.args.done.now c.judge_compact.result c.judge_compact.ensures (passes c.in_ok-judge_compact.was)); in_range = c.addresses-t.ensures }
+    record { ready = rw c.clear.auto.w (symmetrize_ready c.args.fc4.now _ c.args.done.now c.judge_compact.result c.judge_compact.ensures (passes c.in_ok-judge_compact.was)); in_range = c.addresses-t.ensures }
 
 pub returns : goal.returns
 returns c =
     symmetrize_done c.args.fc4.now _ c.args.done.now c.judge_compact.result c.judge_compact.ensures (passes c.in_ok-judge_compact.was)
-    c.clear_bytes.ensures c.all_blocks.ensures c.clear_bytes-2.ensures c.all_blocks.auto.done
+    c.clear.ensures c.all_blocks.ensures c.clear-2.ensures c.all_blocks.auto.done

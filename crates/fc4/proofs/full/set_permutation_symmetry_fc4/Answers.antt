@@ -11,9 +11,9 @@ returns-in_err-judge c =
 
 pub full_blocks-requires : goal.full_blocks-requires
 full_blocks-requires c =
-    (rw c.clear_bytes.auto.w (full-ready c.args.fc4.now c.args.done.now c.args.num_atom c.judge.result c.judge.ensures (passes c.in_ok-judge.was)), c.addresses-t.ensures)
+    (rw c.clear.auto.w (full-ready c.args.fc4.now c.args.done.now c.args.num_atom c.judge.result c.judge.ensures (passes c.in_ok-judge.was)), c.addresses-t.ensures)
 
 pub returns : goal.returns
 returns c =
     full-done c.args.fc4.now c.args.done.now c.args.num_atom c.judge.result c.judge.ensures (passes c.in_ok-judge.was)
-    c.clear_bytes.ensures c.full_blocks.ensures c.clear_bytes-2.ensures c.full_blocks.auto.done
+    c.clear.ensures c.full_blocks.ensures c.clear-2.ensures c.full_blocks.auto.done

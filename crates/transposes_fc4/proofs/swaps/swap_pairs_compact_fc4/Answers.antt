@@ -19,4 +19,4 @@ pub returns : goal.returns
 returns c =
     swap-done c.args.fc4.now _ c.args.done.now c.args.leg_a c.args.leg_b c.judge_compact-t.result c.judge_legs.result
     c.judge_compact-t.ensures c.judge_legs.ensures
-    (passes c.in_ok-judge_legs.was) c.swap.ensures c.clear_bytes.ensures
+    (passes c.in_ok-judge_legs.was) c.swap.ensures c.clear.ensures
