@@ -1,211 +1,43 @@
-// rotate_delta_fc3s (fc4.rs). The result is cleared and then made row after row: a row is the blocks that have the same first atom. Each pair of a
-// displacement and a site symmetry adds its share to all blocks of the row, with coefficients that are worked out once, so every number is summed pair
-// after pair as in the Rust. The work slice, which has the rotated blocks of all pairs there, is only cleared here.
-ghost use Rattle.std.specs.Prelude.{◌≡◌, List, ◌+◌, ◌*◌, ◌^◌, ◌<◌, ◌≤◌, length, Float};
-ghost use Rattle.lists.specs.Tab.{times};
-ghost use Rattle.blocks.specs.Block.{block};
-ghost use Rattle.tables.specs.Conditions.{index_at};
-ghost use Rattle.rotations.specs.Rotation.{coefficients, rotated};
-ghost use Rattle.blocks.specs.Inside.{BlocksIn};
-ghost use Rattle.deltas.specs.RotateDelta.{Deltas, deltas_of, rotated_deltas, rotate_delta_fc3s};
-ghost use Rattle.deltas.specs.Rows.{axpy, lead, with_share, share, spread, add_pair};
-ghost use Rattle.deltas.specs.Guard.{Ready, Images};
+// rotate_delta_fc3s (fc4.rs).
+ghost use Rattle.std.specs.Prelude.{◌≡◌};
+ghost use Rattle.std.proofs.Common.{lit≤};
+ghost use Rattle.deltas.specs.RotateDelta.{deltas_of, rotate_delta_fc3s};
 
+use crate::rows::{EachAtom, Share, with_share};
 use tables::Refusal;
-use tables::atoms::{SuperAtom, perms_at};
 
-// u times x, added to s number by number.
-fn axpy27(s: [f64; 27], x: [f64; 27], u: f64) -> [f64; 27]
-    ensures { result ≡ axpy 27 u x s }
-{
-    let mut r = s;
-    for p in 0..27usize {
-        r[p] = r[p] + u * x[p];
+// One block of deltas of third order.
+struct Block;
+
+impl Share<729> for Block {
+    ghost legs = { 3 };
+
+    ghost width = { 27 };
+
+    ghost atoms = { 0 };
+
+    ghost some = { lit≤ tt };
+
+    ghost small = { lit≤ tt };
+
+    fn coefficients(m: [f64; 9]) -> [f64; 729] {
+        rotations::coefficients3(m)
     }
-    r
-}
 
-// The same with the g-th 27 numbers of a block.
-fn lead27(s: &mut [f64], g: usize, x: [f64; 27], u: f64)
-    requires { g * 27 + 27 ≤ length s.old }
-    ensures { s.new ≡ lead 27 g u x s.old }
-{
-    let old = blocks::read27(s, g);
-    blocks::write27(s, g, axpy27(old, x, u));
-}
-
-// A block of the result with the share x of a pair added, for each of its three first directions.
-fn with_share81(s: [f64; 81], x: [f64; 27], u: [f64; 3]) -> [f64; 81]
-    ensures { result ≡ with_share 27 u x s }
-{
-    let mut r = s;
-    lead27(&mut r, 0, x, u[0]);
-    lead27(&mut r, 1, x, u[1]);
-    lead27(&mut r, 2, x, u[2]);
-    r
-}
-
-// Adds to block target the share of block source of the deltas, rotated: c has the coefficients, u the column of inv_u.
-fn share81(
-    fc4: &mut [f64],
-    deltas: &[f64],
-    c: &[f64; 729],
-    u: [f64; 3],
-    target: usize,
-    source: usize,
-)
-    requires { (target * 81 + 81 ≤ length fc4.old) × (source * 27 + 27 ≤ length deltas.now) }
-    ensures { (m : List Float)
-        → c.now ≡ coefficients m 3 27
-        → fc4.new ≡ share 27 target u (rotated m 3 (block 27 source deltas.now)) fc4.old }
-{
-    let x = rotations::rotated27(c, blocks::read27(deltas, source));
-    let old = blocks::read81(fc4, target);
-    blocks::write81(fc4, target, with_share81(old, x, u));
-}
-
-// The shares of the blocks with one atom more: target and source number the atoms before, and site symmetry s sends the atoms to their images.
-fn share_line81(
-    fc4: &mut [f64],
-    deltas: &[f64],
-    rot_map_syms: &[i64],
-    c: &[f64; 729],
-    u: [f64; 3],
-    s: usize,
-    target: usize,
-    source: usize,
-    num_atom: usize,
-)
-    requires images { Images rot_map_syms.now (s * num_atom) num_atom }
-    requires blocks_in { BlocksIn num_atom 81 1 target (length fc4.old) × BlocksIn num_atom 27 1 source (length deltas.now) }
-    ensures { (m : List Float)
-        → c.now ≡ coefficients m 3 27
-        → fc4.new
-        ≡ spread (λ j. index_at rot_map_syms.now (s * num_atom + j)) num_atom 27 u (rotated m 3) deltas.now 1 target
-        source fc4.old }
-{
-    for j in 0..num_atom {
-        let image = perms_at(rot_map_syms, num_atom, s, SuperAtom(j));
-        let t = places::index_of(target, num_atom, j);
-        let f = places::index_of(source, num_atom, image.0);
-        share81(fc4, deltas, c, u, t, f);
-    }
-}
-
-// The shares of the blocks with two atoms more: target and source number the atoms before, and site symmetry s sends the atoms to their images.
-fn share_plane81(
-    fc4: &mut [f64],
-    deltas: &[f64],
-    rot_map_syms: &[i64],
-    c: &[f64; 729],
-    u: [f64; 3],
-    s: usize,
-    target: usize,
-    source: usize,
-    num_atom: usize,
-)
-    requires images { Images rot_map_syms.now (s * num_atom) num_atom }
-    requires blocks_in { BlocksIn num_atom 81 2 target (length fc4.old) × BlocksIn num_atom 27 2 source (length deltas.now) }
-    ensures { (m : List Float)
-        → c.now ≡ coefficients m 3 27
-        → fc4.new
-        ≡ spread (λ j. index_at rot_map_syms.now (s * num_atom + j)) num_atom 27 u (rotated m 3) deltas.now 2 target
-        source fc4.old }
-{
-    for j in 0..num_atom {
-        let image = perms_at(rot_map_syms, num_atom, s, SuperAtom(j));
-        let t = places::index_of(target, num_atom, j);
-        let f = places::index_of(source, num_atom, image.0);
-        share_line81(fc4, deltas, rot_map_syms, c, u, s, t, f, num_atom);
-    }
-}
-
-// The share of pair n in row i.
-fn add_pair_fc3s(
-    fc4: &mut [f64],
-    delta_fc3s: &[f64],
-    inv_u: &[f64],
-    site_sym_cart: &[f64],
-    rot_map_syms: &[i64],
-    i: usize,
-    n: usize,
-    num_atom: usize,
-    num_site_sym: usize,
-    num_disp: usize,
-)
-    requires ready { let D : Deltas = deltas_of delta_fc3s.now inv_u.now site_sym_cart.now rot_map_syms.now num_atom num_site_sym num_disp in Ready D 3 }
-    requires in_range { (i < num_atom) × (n < num_disp * num_site_sym) × (length fc4.old ≡ num_atom ^ 3 * 81) }
-    ensures { let D : Deltas = deltas_of delta_fc3s.now inv_u.now site_sym_cart.now rot_map_syms.now num_atom num_site_sym num_disp in fc4.new ≡ add_pair D 2 i n fc4.old }
-{
-    let s = places::column_of(n, num_site_sym);
-    let d = places::row_of(n, num_site_sym);
-    let c = rotations::coefficients3(blocks::read9(site_sym_cart, s));
-    let u = crate::column(inv_u, n, num_disp * num_site_sym);
-    let image = perms_at(rot_map_syms, num_atom, s, SuperAtom(i));
-    let from = places::index_of(d, num_atom, image.0);
-    share_plane81(fc4, delta_fc3s, rot_map_syms, &c, u, s, i, from, num_atom);
-}
-
-// The shares of all pairs in row i.
-fn rotate_row_fc3s(
-    fc4: &mut [f64],
-    delta_fc3s: &[f64],
-    inv_u: &[f64],
-    site_sym_cart: &[f64],
-    rot_map_syms: &[i64],
-    i: usize,
-    num_atom: usize,
-    num_site_sym: usize,
-    num_disp: usize,
-)
-    requires ready { let D : Deltas = deltas_of delta_fc3s.now inv_u.now site_sym_cart.now rot_map_syms.now num_atom num_site_sym num_disp in Ready D 3 }
-    requires in_range { (i < num_atom) × (length fc4.old ≡ num_atom ^ 3 * 81) }
-    ensures { let D : Deltas = deltas_of delta_fc3s.now inv_u.now site_sym_cart.now rot_map_syms.now num_atom num_site_sym num_disp in fc4.new ≡ times (num_disp * num_site_sym) (add_pair D 2 i) fc4.old }
-{
-    for n in 0..num_disp * num_site_sym {
-        add_pair_fc3s(
-            fc4,
-            delta_fc3s,
-            inv_u,
-            site_sym_cart,
-            rot_map_syms,
-            i,
-            n,
-            num_atom,
-            num_site_sym,
-            num_disp,
-        );
-    }
-}
-
-// All rows, whatever stood there before.
-fn rotate_rows_fc3s(
-    fc4: &mut [f64],
-    delta_fc3s: &[f64],
-    inv_u: &[f64],
-    site_sym_cart: &[f64],
-    rot_map_syms: &[i64],
-    num_atom: usize,
-    num_site_sym: usize,
-    num_disp: usize,
-)
-    requires ready { let D : Deltas = deltas_of delta_fc3s.now inv_u.now site_sym_cart.now rot_map_syms.now num_atom num_site_sym num_disp in Ready D 3 }
-    requires in_range { length fc4.old ≡ num_atom ^ 3 * 81 }
-    ensures { let D : Deltas = deltas_of delta_fc3s.now inv_u.now site_sym_cart.now rot_map_syms.now num_atom num_site_sym num_disp in fc4.new ≡ rotated_deltas D 3 }
-{
-    lists::clear_floats(fc4);
-    for i in 0..num_atom {
-        rotate_row_fc3s(
-            fc4,
-            delta_fc3s,
-            inv_u,
-            site_sym_cart,
-            rot_map_syms,
-            i,
-            num_atom,
-            num_site_sym,
-            num_disp,
-        );
+    fn share(
+        res: &mut [f64],
+        deltas: &[f64],
+        _rot_map_syms: &[i64],
+        c: &[f64; 729],
+        u: [f64; 3],
+        _s: usize,
+        target: usize,
+        source: usize,
+        _num_atom: usize,
+    ) {
+        let x = rotations::rotated27(c, blocks::read27(deltas, source));
+        let old = blocks::read81(res, target);
+        blocks::write81(res, target, with_share(old, x, u));
     }
 }
 
@@ -226,7 +58,7 @@ pub fn rotate_delta_fc3s(
         rot_map_syms.now num_atom num_site_sym num_disp in
         (result, fc4.new, rot_delta.new) ≡ rotate_delta_fc3s D fc4.old rot_delta.old }
 {
-    crate::judge_deltas(
+    crate::rows::rotate_delta::<729, EachAtom<EachAtom<Block>>>(
         tables::limits::LIMIT4,
         3,
         27,
@@ -239,17 +71,5 @@ pub fn rotate_delta_fc3s(
         num_atom,
         num_site_sym,
         num_disp,
-    )?;
-    rotate_rows_fc3s(
-        fc4,
-        delta_fc3s,
-        inv_u,
-        site_sym_cart,
-        rot_map_syms,
-        num_atom,
-        num_site_sym,
-        num_disp,
-    );
-    lists::clear_floats(rot_delta);
-    Ok(())
+    )
 }

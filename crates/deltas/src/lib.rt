@@ -3,6 +3,7 @@
 
 pub mod fc2s;
 pub mod fc3s;
+pub mod rows;
 
 ghost use Rattle.std.specs.Prelude.{◌≡◌, ◌*◌, ◌^◌, ◌<◌, ◌≤◌, length};
 ghost use Rattle.tables.specs.Conditions.{any_wrong};
