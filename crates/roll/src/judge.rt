@@ -15,7 +15,11 @@ pub fn is_ruled(kind: usize, number: usize, earlier: usize) -> bool
     if kind < 1 || 3 < kind || number < 1 {
         return false;
     }
-    (kind == Kind::Replacement as usize) == (earlier != 0)
+    if kind == Kind::Replacement as usize {
+        earlier != 0
+    } else {
+        earlier == 0
+    }
 }
 
 // Whether the record at `at` ends at or before t and keeps the rules.

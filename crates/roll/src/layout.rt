@@ -5,6 +5,8 @@ ghost use Rattle.roll.specs.Reading.{four_at, size_at};
 use super::numbers::four;
 
 // The kinds of a record, by their numbers in a roll.
+// Bytes that are no roll have any number there and each test asks for one kind, so a byte is compared with that kind's number: no plainer by
+// `TryFrom`.
 #[derive(Clone, Copy)]
 pub enum Kind {
     Delivery = 1,
