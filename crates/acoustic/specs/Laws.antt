@@ -8,17 +8,16 @@ use Rattle.std.proofs.Math.Nat.{suc_inj}
 use native.Mathlib.Omega.{arith}
 use Rattle.std.proofs.Math.ListN.{get_or}
 use Rattle.std.specs.Float.Ieee.{Float, nan, sub, mul, binary64}
-use Rattle.lists.specs.Tab.{tab, length-tab, get_or-tab, is_tab, tab_ext, fill_more, times, times_nest}
+use Rattle.lists.specs.Tab.{tab, get_or-tab, is_tab, tab_ext, fill_more, times, times_nest}
 use Rattle.lists.specs.Stages.{Stage, next, stages}
 use Rattle.lists.specs.Elements.{Below}
 use Rattle.lists.specs.Digits.{horner, times_power, rest, digits, length_digits, digits-below, rest_below, horner-zero, in_row, quotient, remainder}
-use Rattle.blocks.specs.Block.{block, put_block, length-block, length-put_block, get_or-block, put-inside, put-outside, block_of_lem, inside, fits}
+use Rattle.blocks.specs.Block.{block, put_block, length-block, length-put_block, get_or-block, put-inside, put-outside, block_of_lem, fits}
 use Rattle.tables.specs.Shifts.{Shifts, Laws, p2s_at}
 use Rattle.tables.specs.Limits.{limit3, limit4}
 use Rattle.tables.specs.Conditions.{index_at}
 use Rattle.tables.specs.Compact.{ShiftTables, shifts_of, TablesFit, p2s_is}
 use Rattle.places.specs.Places.{size, in_block}
-use Rattle.places.specs.Addresses.{stored_block}
 use Rattle.places.specs.ReadOuts.{stored_in, stored_in_lem}
 use Rattle.orbits.specs.Transposed.{in_block_pos, size_blocks}
 use Rattle.lines.specs.Sums3x3.{inverse}

@@ -33,25 +33,6 @@ fn answer(
     ))
 }
 
-// The record r, with room for its slices.
-fn compare(
-    t: Tally,
-    r: &[u8],
-    slots: &mut [i64],
-    lattice: &mut [f64],
-    pos: &mut [f64],
-    rot_pos: &mut [f64],
-    pair: &mut [usize],
-) -> Tally {
-    let mut words = Cursor { record: r, at: 13 };
-    words.floats(lattice);
-    words.floats(pos);
-    words.floats(rot_pos);
-    let m = answer(r, slots, lattice, pos, rot_pos, pair);
-    let got = [m, mix_integers(slots, 0), mix_slots(pair, 0)];
-    t.compared(r, m, &got)
-}
-
 // The record r. The slots and the pair hold 7 before the call.
 pub fn step(t: Tally, r: &[u8]) -> Tally {
     let mut slots = [7i64; 64];
@@ -59,15 +40,18 @@ pub fn step(t: Tally, r: &[u8]) -> Tally {
     let mut pos = [0.0f64; 192];
     let mut rot_pos = [0.0f64; 192];
     let mut pair = [7usize; 3];
-    compare(
-        t,
-        r,
-        part(r, 5, &mut slots),
-        part(r, 8, &mut lattice),
-        part(r, 6, &mut pos),
-        part(r, 7, &mut rot_pos),
-        part(r, 10, &mut pair),
-    )
+    let slots = part(r, 5, &mut slots);
+    let pos = part(r, 6, &mut pos);
+    let rot_pos = part(r, 7, &mut rot_pos);
+    let lattice = part(r, 8, &mut lattice);
+    let pair = part(r, 10, &mut pair);
+    let mut words = Cursor { record: r, at: 13 };
+    words.floats(lattice);
+    words.floats(pos);
+    words.floats(rot_pos);
+    let a = answer(r, slots, lattice, pos, rot_pos, pair);
+    let got = [a, mix_integers(slots, 0), mix_slots(pair, 0)];
+    t.compared(r, a, &got)
 }
 
 // True is 0, false 64, or 69 where it names a pair.

@@ -112,55 +112,29 @@ fn kind(r: &[u8], a: u64) -> u64 {
     a
 }
 
-// The call of the record r, and what it is to leave; `at` is where the near slots begin.
-fn compare(
-    t: Tally,
-    r: &[u8],
-    at: usize,
-    slots: &mut [i64],
-    marks: &mut [u8],
-    lattice: &[f64],
-    pos: &[f64],
-    rot_pos: &[f64],
-) -> Tally {
-    let a = answer(r, slots, marks, lattice, pos, rot_pos);
-    let got = [a, slots_left(r, at, slots), marks_left(r, at, marks)];
-    t.compared(r, kind(r, a), &got)
-}
-
-// The record r, with room for its slices.
-fn fill_and_compare(
-    t: Tally,
-    r: &[u8],
-    slots: &mut [i64],
-    marks: &mut [u8],
-    lattice: &mut [f64],
-    pos: &mut [f64],
-    rot_pos: &mut [f64],
-) -> Tally {
-    let mut words = Cursor { record: r, at: 14 };
-    words.floats(lattice);
-    words.floats(pos);
-    words.floats(rot_pos);
-    compare(t, r, words.at, slots, marks, lattice, pos, rot_pos)
-}
-
-// The record r. The slots and the marks hold 7 before the call.
+// The record r. The slots and the marks hold 7 before the call. The near slots are the words after those of the three slices.
 pub fn step(t: Tally, r: &[u8]) -> Tally {
     let mut slots = [7i64; 16];
     let mut marks = [7u8; 16];
     let mut lattice = [0.0f64; 16];
     let mut pos = [0.0f64; 48];
     let mut rot_pos = [0.0f64; 48];
-    fill_and_compare(
-        t,
-        r,
-        part(r, 6, &mut slots),
-        part(r, 7, &mut marks),
-        part(r, 8, &mut lattice),
-        part(r, 10, &mut pos),
-        part(r, 11, &mut rot_pos),
-    )
+    let slots = part(r, 6, &mut slots);
+    let marks = part(r, 7, &mut marks);
+    let lattice = part(r, 8, &mut lattice);
+    let pos = part(r, 10, &mut pos);
+    let rot_pos = part(r, 11, &mut rot_pos);
+    let mut words = Cursor { record: r, at: 14 };
+    words.floats(lattice);
+    words.floats(pos);
+    words.floats(rot_pos);
+    let a = answer(r, slots, marks, lattice, pos, rot_pos);
+    let got = [
+        a,
+        slots_left(r, words.at, slots),
+        marks_left(r, words.at, marks),
+    ];
+    t.compared(r, kind(r, a), &got)
 }
 
 // A call that finds no match is 72.

@@ -30,35 +30,21 @@ fn call(r: &[u8], set: &mut [f64], reverse: &mut [i64], r_carts: &[f64], all: &[
     ))
 }
 
-// Makes the slices, which are as long as the record says, from its seed and the next two, and calls: the answer, and the checksums of the set and
-// of the work slice.
-fn run(
-    r: &[u8],
-    set: &mut [f64],
-    reverse: &mut [i64],
-    r_carts: &mut [f64],
-    all: &[i64],
-) -> [u64; 3] {
-    let seed = word_of(r, 4);
-    fill(set, seed, word_of(r, 5));
-    fill_integers(reverse, plus(seed, 1));
-    fill(r_carts, plus(seed, 2), word_of(r, 6));
-    let a = call(r, set, reverse, r_carts, all);
-    [a, mix_floats(set, 0), mix_integers(reverse, 0)]
-}
-
-// The record r, with room for its set. There is room for 2,560 entries of its tables.
+// The record r, with room for its set. There is room for 2,560 entries of its tables. The other slices are made from the record's seed and the
+// next two.
 pub fn step(t: Tally, r: &[u8], set: &mut [f64]) -> Tally {
     let mut all = [0i64; 2560];
     let mut reverse = [0i64; 64];
     let mut r_carts = [0.0f64; 64];
     integers(r, 18, &mut all);
-    let got = run(
-        r,
-        part(r, 7, set),
-        part(r, 8, &mut reverse),
-        part(r, 9, &mut r_carts),
-        &all,
-    );
-    t.compared(r, got[0], &got)
+    let set = part(r, 7, set);
+    let reverse = part(r, 8, &mut reverse);
+    let r_carts = part(r, 9, &mut r_carts);
+    let seed = word_of(r, 4);
+    fill(set, seed, word_of(r, 5));
+    fill_integers(reverse, plus(seed, 1));
+    fill(r_carts, plus(seed, 2), word_of(r, 6));
+    let a = call(r, set, reverse, r_carts, &all);
+    let got = [a, mix_floats(set, 0), mix_integers(reverse, 0)];
+    t.compared(r, a, &got)
 }

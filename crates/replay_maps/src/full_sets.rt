@@ -52,16 +52,12 @@ fn call(r: &[u8], full: &mut [f64], set: &[f64]) -> u64 {
     wide(read_out(r, full, set, ShiftTables::of(r, 9, 12, &all)))
 }
 
-// What the call of the record gave: the number of its answer, and the checksum of the full set. Both sets are made from seeds first.
-fn run(r: &[u8], full: &mut [f64], set: &mut [f64]) -> [u64; 2] {
+// The record r, with room for its sets, which are made from two seeds.
+pub fn step(t: Tally, r: &[u8], full: &mut [f64], set: &mut [f64]) -> Tally {
+    let full = part(r, 7, full);
+    let set = part(r, 8, set);
     fill(full, word_of(r, 5), word_of(r, 6));
     fill(set, word_of(r, 4), word_of(r, 6));
     let a = call(r, full, set);
-    [a, mix_floats(full, 0)]
-}
-
-// The record r, with room for its sets.
-pub fn step(t: Tally, r: &[u8], full: &mut [f64], set: &mut [f64]) -> Tally {
-    let got = run(r, part(r, 7, full), part(r, 8, set));
-    t.compared(r, got[0], &got)
+    t.compared(r, a, &[a, mix_floats(full, 0)])
 }

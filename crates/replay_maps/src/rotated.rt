@@ -45,62 +45,26 @@ fn call(
     ))
 }
 
-// What the set and the work slice hold before the call.
-fn prepare(r: &[u8], set: &mut [f64], rot_delta: &mut [f64]) {
-    let seed = word_of(r, 5);
-    fill(set, plus(seed, 3), word_of(r, 6));
-    fill(rot_delta, plus(seed, 4), word_of(r, 6));
-}
-
-// What inv_u and site_sym_cart hold.
-fn matrices(r: &[u8], inv_u: &mut [f64], site_sym_cart: &mut [f64]) {
-    let seed = word_of(r, 5);
-    fill(inv_u, plus(seed, 1), word_of(r, 7));
-    fill(site_sym_cart, plus(seed, 2), word_of(r, 7));
-}
-
-// Reads the map, makes the other slices, which are as long as the record says, and calls.
-fn answer(
-    r: &[u8],
-    set: &mut [f64],
-    rot_delta: &mut [f64],
-    delta: &mut [f64],
-    inv_u: &mut [f64],
-    site_sym_cart: &mut [f64],
-    rot_map_syms: &mut [i64],
-) -> u64 {
-    fill(delta, word_of(r, 5), word_of(r, 6));
-    matrices(r, inv_u, site_sym_cart);
-    prepare(r, set, rot_delta);
-    integers(r, 17, rot_map_syms);
-    call(r, set, rot_delta, delta, inv_u, site_sym_cart, rot_map_syms)
-}
-
-// The call of the record r on the set and the work slice, which are as long as the record says.
-fn work_out(r: &[u8], set: &mut [f64], rot_delta: &mut [f64]) -> u64 {
+// The record r, with room for its set and its work slice. The map is read, the other slices are made from the record's seed and the next four.
+pub fn step(t: Tally, r: &[u8], set: &mut [f64], work: &mut [f64]) -> Tally {
     let mut delta = [0.0f64; 4096];
     let mut inv_u = [0.0f64; 128];
     let mut site_sym_cart = [0.0f64; 128];
     let mut rot_map_syms = [0i64; 128];
-    answer(
-        r,
-        set,
-        rot_delta,
-        part(r, 9, &mut delta),
-        part(r, 10, &mut inv_u),
-        part(r, 11, &mut site_sym_cart),
-        part(r, 12, &mut rot_map_syms),
-    )
-}
-
-// What the call of the record gave: the number of its answer, and the checksums of the set and of the work slice.
-fn run(r: &[u8], set: &mut [f64], rot_delta: &mut [f64]) -> [u64; 3] {
-    let a = work_out(r, set, rot_delta);
-    [a, mix_floats(set, 0), mix_floats(rot_delta, 0)]
-}
-
-// The record r, with room for its set and its work slice.
-pub fn step(t: Tally, r: &[u8], set: &mut [f64], work: &mut [f64]) -> Tally {
-    let got = run(r, part(r, 8, set), part(r, 13, work));
-    t.compared(r, got[0], &got)
+    let set = part(r, 8, set);
+    let delta = part(r, 9, &mut delta);
+    let inv_u = part(r, 10, &mut inv_u);
+    let site_sym_cart = part(r, 11, &mut site_sym_cart);
+    let rot_map_syms = part(r, 12, &mut rot_map_syms);
+    let rot_delta = part(r, 13, work);
+    let seed = word_of(r, 5);
+    fill(delta, seed, word_of(r, 6));
+    fill(inv_u, plus(seed, 1), word_of(r, 7));
+    fill(site_sym_cart, plus(seed, 2), word_of(r, 7));
+    fill(set, plus(seed, 3), word_of(r, 6));
+    fill(rot_delta, plus(seed, 4), word_of(r, 6));
+    integers(r, 17, rot_map_syms);
+    let a = call(r, set, rot_delta, delta, inv_u, site_sym_cart, rot_map_syms);
+    let got = [a, mix_floats(set, 0), mix_floats(rot_delta, 0)];
+    t.compared(r, a, &got)
 }

@@ -7,59 +7,12 @@
 mod retired;
 mod rolls;
 
-use replays::Tally;
-use replays::steps::first;
+use replays::pages::replay;
 use std::io;
-use std::io::Read;
-
-// The records of a page, each taken by `step`, after those of the pages before.
-fn replay<F: Fn(Tally, &[u8]) -> Tally>(step: &F, s: &[u8], so_far: Tally) -> Tally
-    requires { F.IsAlwaysCallable step.now }
-{
-    let mut t = so_far;
-    let mut at = first(s);
-    for _ in 0..replays::records::count(s) {
-        let e = replays::records::end(s, at);
-        t = step(t, &s[at..e]);
-        at = e;
-    }
-    t
-}
-
-fn read_page<R: Read, F: Fn(Tally, &[u8]) -> Tally>(
-    step: &F,
-    so_far: Tally,
-    input: &mut R,
-) -> io::Result<Tally>
-    requires { F.IsAlwaysCallable step.now }
-{
-    let mut page = replays::pages::empty_page();
-    let n = replays::pages::read_page(input, &mut page)?;
-    Ok(replay(step, &page[..n], so_far))
-}
-
-// The records of the next n pages.
-fn pages<R: Read, F: Fn(Tally, &[u8]) -> Tally>(
-    step: F,
-    n: usize,
-    input: &mut R,
-) -> io::Result<Tally>
-    requires { F.IsAlwaysCallable step }
-{
-    let mut t = replays::none();
-    for _ in 0..n {
-        t = read_page(&step, t, input)?;
-    }
-    Ok(t)
-}
 
 fn main(rt: HostRuntime) -> io::Result<()> {
     let mut input = rt.reader();
     let mut out = io::writer(&rt);
-    rolls::report(&mut out, pages(rolls::step, 6, &mut input)?)?;
-    replays::report(
-        &mut out,
-        b"sets retired everywhere",
-        pages(retired::step, 3, &mut input)?,
-    )
+    rolls::report(&mut out, replay(&mut input, 6, rolls::step)?)?;
+    replay(&mut input, 3, retired::step)?.report(&mut out, b"sets retired everywhere")
 }

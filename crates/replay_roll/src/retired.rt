@@ -15,7 +15,7 @@ fn compare(t: Tally, r: &[u8], lent: &mut [u8], slots: &mut [usize]) -> Tally {
     bytes(r, 72, lent);
     let a = u64::from(gf_retire_all(lent, count_of(r, 5), set, slots));
     let got = [a, mix_bytes(lent, 0), slot(slots, 0), slot(slots, 1)];
-    replays::compared(t, r, a, &got)
+    t.compared(r, a, &got)
 }
 
 // The record r. The slots hold 9 before the call.

@@ -77,7 +77,7 @@ fn answer(r: &[u8], lent: &mut [u8], slots: &mut [usize], label: &[u8]) -> u64 {
 fn compare(t: Tally, r: &[u8], lent: &mut [u8], slots: &mut [usize], label: &[u8]) -> Tally {
     let a = answer(r, lent, slots, label);
     let got = [a, mix_bytes(lent, 0), mix_slots(slots, 0)];
-    replays::compared(t, r, a, &got)
+    t.compared(r, a, &got)
 }
 
 // The record r, with room for its slices.

@@ -1,4 +1,3 @@
-use mathlib.Core.Path.{sym}
 use lib.Ieee.{mul, binary64}
 use Rattle.acoustic.specs.Laws.{mapping_none, mapping_more, mapping_all}
 use Rattle.acoustic.proofs.scale_all.Goals as goal

@@ -1,5 +1,3 @@
-use Prim.Native.Nat.{◌-◌}
-use lib.ListN.{length}
 use lib.Ieee.{mul, binary64}
 use Rattle.acoustic.specs.Laws.{Mapping}
 use Rattle.acoustic.proofs.scale_all.Given as goal

@@ -1,5 +1,4 @@
-use Prim.Native.Nat.{◌-◌}
-use lib.ListN.{length, get_or}
+use lib.ListN.{get_or}
 use lib.Ieee.{nan, sub, binary64}
 use Rattle.acoustic.specs.Laws.{Mapping}
 use Rattle.acoustic.proofs.take_all.Given as goal

@@ -1,5 +1,3 @@
-use Prim.Native.Nat.{◌-◌}
-use lib.ListN.{length}
 use Rattle.legs.specs.Laws.{Adding}
 use Rattle.legs.proofs.add_all.Given as goal
 

@@ -11,7 +11,6 @@ use Rattle.lists.specs.Tab.{times, times_none, times_more}
 use Rattle.blocks.specs.Block.{block, put_block}
 use Rattle.audits.specs.Guard.{block_inside}
 use Rattle.acoustic.specs.Laws.{less, less_at, row_less, other_block, other-below, drift_inside, row4_is, in81, rows4}
-use borrow.Author.Rules.{rules}
 use Rattle.acoustic.proofs.fourth.row_off.Goals as goal
 
 pub row_of-pj-requires : goal.row_of-pj-requires

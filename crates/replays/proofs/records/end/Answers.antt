@@ -19,18 +19,6 @@ stays s at h b = (rw (le-ltb (word_at s at) ((length s - at) / 8) b), omega arit
 pub returns-then-room-eq0 : goal.returns-then-room-eq0
 returns-then-room-eq0 c = stays _ _ (omega arith) (omega arith)
 
-pub word-n-requires : goal.word-n-requires
-word-n-requires c = omega arith
-
-pub overflow_add-result : goal.overflow_add-result
-overflow_add-result c = omega arith
-
-pub overflow_mul-result : goal.overflow_mul-result
-overflow_mul-result c = omega arith
-
-pub overflow_add-result-then-n-room : goal.overflow_add-result-then-n-room
-overflow_add-result-then-n-room c = omega arith
-
 pub returns-then-n-room : goal.returns-then-n-room
 returns-then-n-room c = goes _ _ _ (omega arith) (omega arith) (omega arith)
 

@@ -10,12 +10,6 @@ past : (s : List ℕ) (k : ℕ) → length s / 8 ≤ k → 0 ≡ word_of s k
 unfolding word_of
 past s k h = rw (le-ltb k (length s / 8) h)
 
-pub overflow_mul-k : goal.overflow_mul-k
-overflow_mul-k c = omega arith
-
-pub word-requires : goal.word-requires
-word-requires c = omega arith
-
 pub returns-then-k-s : goal.returns-then-k-s
 returns-then-k-s c = within _ _ _ (omega arith) c.word.ensures
 

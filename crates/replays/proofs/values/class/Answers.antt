@@ -2,9 +2,6 @@ use Rattle.std.proofs.Common.{refl, arith}
 use Rattle.replays.specs.Values.{classes}
 use Rattle.replays.proofs.values.class.Goals as goal
 
-pub index_of-requires : goal.index_of-requires
-index_of-requires c = omega arith
-
 pub bounds-index_of : goal.bounds-index_of
 bounds-index_of c = rw c.index_of.ensures (omega arith)
 

@@ -8,9 +8,6 @@ use Rattle.reports.proofs.seen.look_differences.Goals as goal
 pub loop-k-init : goal.loop-k-init
 loop-k-init c = times_none _ _
 
-pub overflow_add-first : goal.overflow_add-first
-overflow_add-first c = omega arith
-
 pub loop-k-preserved : goal.loop-k-preserved
 loop-k-preserved c = let l = c.loop-k in times_more l.k _ _ l.invariant c.look-seen.ensures
 
