@@ -1,7 +1,7 @@
 // The tables of a full set.
 ghost use Rattle.std.specs.Prelude.{◌≡◌, ℕ, ◌≤◌};
 ghost use Rattle.tables.specs.Compact.{given};
-ghost use Rattle.audits.specs.Guard.{counted as countedTo, noughts, full_tables};
+ghost use Rattle.audits.specs.Guard.{counted as countedTo, noughts as noughtsTo, full_tables};
 
 use std::marker::Model;
 use tables::shift_tables::ShiftTables;
@@ -30,7 +30,7 @@ impl Model for FullTables {
 
     ghost view = { λ t. t.n_atoms };
 
-    ghost invariant = { λ t. (t.n_atoms ≤ 1024) × (t.numbers ≡ countedTo 1024) × (t.noughts ≡ noughts 1024) };
+    ghost invariant = { λ t. (t.n_atoms ≤ 1024) × (t.numbers ≡ countedTo 1024) × (t.noughts ≡ noughtsTo 1024) };
 }
 
 impl FullTables {

@@ -10,7 +10,7 @@ ghost use Rattle.audits.specs.Blocks.{position_table, AlikeTo};
 ghost use Rattle.audits.specs.Guard.{Ready, full_tables};
 
 use crate::Difference;
-use crate::guard::counted;
+use crate::guard::FullTables;
 use crate::kernel::{difference, look};
 use places::{column_of, row_of, stored_block3};
 use shifts::judge_set;
@@ -105,20 +105,8 @@ fn scan_full(fc: &[f64], n: usize) -> Result<Option<Difference>, Refusal>
     requires { Ready limit3 2 (length fc.now) (full_tables n) × (n ≤ 1024) }
     ensures { result ≡ audited (shifts_of (full_tables n)) 2 perms3 fc.now }
 {
-    let p2s = counted();
-    let s2pp = counted();
-    let nsym_list = [0i64; 1024];
-    let perms = counted();
-    let tables = ShiftTables {
-        p2s: &p2s[0..n],
-        s2pp: &s2pp[0..n],
-        nsym_list: &nsym_list[0..n],
-        perms: &perms[0..n],
-        n_satom: n,
-        n_patom: n,
-        num_trans: 1,
-    };
-    settle(fc, &tables)
+    let whole = FullTables::new(n);
+    settle(fc, &whole.tables())
 }
 
 // The audit of a full set.
