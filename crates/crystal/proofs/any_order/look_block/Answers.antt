@@ -1,26 +1,27 @@
+use Prim.Native.Nat.{suc}
 use native.Mathlib.Omega.{arith}
 use mathlib.Core.Path.{ap, ap₂, ◌∙◌}
 use lib.ListN.{length}
 use Rattle.blocks.specs.Block.{length-block}
 use Rattle.rotations.specs.Rotation.{rotated}
-use Rattle.rotations.specs.Laws.{rotated_by}
+use Rattle.crystal.proofs.Widths.{rotated_in}
 use Rattle.reports.specs.Loops.{look_differences}
 use borrow.Author.Rules.{rules}
-use Rattle.crystal.proofs.third.look_block.Goals as goal
+use Rattle.crystal.proofs.any_order.look_block.Goals as goal
 
-pub read27-x-requires : goal.read27-x-requires
-read27-x-requires c = c.requires.0
+pub read-x-requires : goal.read-x-requires
+read-x-requires g c = let n = g.met.O.Order.small.3 in (omega (arith, n), c.requires.0)
 
-pub read27-requires : goal.read27-requires
-read27-requires c = c.requires.1
+pub read-requires : goal.read-requires
+read-requires g c = let n = g.met.O.Order.small.3 in (omega (arith, n), c.requires.1)
 
 pub look_differences-requires : goal.look_differences-requires
-look_differences-requires c =
-    let l = ap length c.read27-x.ensures ∙ length-block 27 c.args.to c.args.fc.now in
+look_differences-requires g c =
+    let l = ap length c.read-x.ensures ∙ length-block g.row.N c.args.to c.args.fc.now in
     (search rules, omega (arith, c.requires.2, l))
 
 pub returns : goal.returns
-returns c =
+returns g c =
     let a = c.args in
     λ m e. c.look_differences.ensures
-    ∙ ap₂ (λ x y. look_differences a.first x y a.seen) c.read27-x.ensures (rotated_by m 3 _ e c.rotated27-y.ensures ∙ ap (rotated m 3) c.read27.ensures)
+    ∙ ap₂ (λ x y. look_differences a.first x y a.seen) c.read-x.ensures (rotated_in m g.O.Order.RANK g.row.N _ g.met.O.Order.width e c.rotated-y.ensures ∙ ap (rotated m (suc g.O.Order.RANK)) c.read.ensures)

@@ -4,7 +4,7 @@ use mathlib.Core.Path.{◌≡◌, ap, ◌∙◌}
 use Rattle.tables.specs.Conditions.{index_at}
 use Rattle.tables.specs.Compact.{ShiftTables, given}
 use Rattle.crystal.specs.FourthImages as images
-use Rattle.crystal.proofs.fourth.image_block.Goals as goal
+use Rattle.crystal.proofs.fourth.FourthOrder816561.image_block.Goals as goal
 
 pub column_of-requires : goal.column_of-requires
 column_of-requires c = images.satoms_pos _ c.requires.0 c.args.b c.requires.2
@@ -31,8 +31,8 @@ p2s_at-i-requires c =
     let ep : c.row_of.result ≡ a.b / a.tables.now.n_satom / a.tables.now.n_satom / a.tables.now.n_satom = c.row_of.ensures ∙ ap (λ x. x / a.tables.now.n_satom) er in
     rw ep (images.p2s-read _ c.requires.0 a.b c.requires.2).0
 
-pub perms_at-x-requires : goal.perms_at-x-requires
-perms_at-x-requires c =
+pub image-x-requires : goal.image-x-requires
+image-x-requires c =
     let a = c.args in
     let h = images.satoms_pos _ c.requires.0 a.b c.requires.2 in
     let er : c.row_of-pj.result ≡ a.b / a.tables.now.n_satom / a.tables.now.n_satom = c.row_of-pj.ensures ∙ ap (λ x. x / a.tables.now.n_satom) c.row_of-pjk.ensures in
@@ -43,8 +43,8 @@ perms_at-x-requires c =
     let l : c.column_of.result < a.tables.now.n_satom = rw c.column_of.ensures (mod-lt _ h) in
     (c.requires.1.each _ i).0
 
-pub perms_at-y-requires : goal.perms_at-y-requires
-perms_at-y-requires c =
+pub image-y-requires : goal.image-y-requires
+image-y-requires c =
     let a = c.args in
     let h = images.satoms_pos _ c.requires.0 a.b c.requires.2 in
     let er : c.row_of-pj.result ≡ a.b / a.tables.now.n_satom / a.tables.now.n_satom = c.row_of-pj.ensures ∙ ap (λ x. x / a.tables.now.n_satom) c.row_of-pjk.ensures in
@@ -55,8 +55,8 @@ perms_at-y-requires c =
     let l : c.column_of.result < a.tables.now.n_satom = rw c.column_of.ensures (mod-lt _ h) in
     (c.requires.1.each _ j).0
 
-pub perms_at-z-requires : goal.perms_at-z-requires
-perms_at-z-requires c =
+pub image-z-requires : goal.image-z-requires
+image-z-requires c =
     let a = c.args in
     let h = images.satoms_pos _ c.requires.0 a.b c.requires.2 in
     let er : c.row_of-pj.result ≡ a.b / a.tables.now.n_satom / a.tables.now.n_satom = c.row_of-pj.ensures ∙ ap (λ x. x / a.tables.now.n_satom) c.row_of-pjk.ensures in
@@ -67,8 +67,8 @@ perms_at-z-requires c =
     let l : c.column_of.result < a.tables.now.n_satom = rw c.column_of.ensures (mod-lt _ h) in
     (c.requires.1.each _ k).0
 
-pub perms_at-w-requires : goal.perms_at-w-requires
-perms_at-w-requires c =
+pub image-w-requires : goal.image-w-requires
+image-w-requires c =
     let a = c.args in
     let h = images.satoms_pos _ c.requires.0 a.b c.requires.2 in
     let er : c.row_of-pj.result ≡ a.b / a.tables.now.n_satom / a.tables.now.n_satom = c.row_of-pj.ensures ∙ ap (λ x. x / a.tables.now.n_satom) c.row_of-pjk.ensures in
@@ -89,10 +89,10 @@ stored_block4-requires c =
     let j : c.column_of-3.result < a.tables.now.n_satom = rw c.column_of-3.ensures (mod-lt _ h) in
     let k : c.column_of-2.result < a.tables.now.n_satom = rw c.column_of-2.ensures (mod-lt _ h) in
     let l : c.column_of.result < a.tables.now.n_satom = rw c.column_of.ensures (mod-lt _ h) in
-    let x : c.perms_at-x.result.0 < a.tables.now.n_satom = rw c.perms_at-x.ensures (c.requires.1.each _ i).1 in
-    let y : c.perms_at-y.result.0 < a.tables.now.n_satom = rw c.perms_at-y.ensures (c.requires.1.each _ j).1 in
-    let z : c.perms_at-z.result.0 < a.tables.now.n_satom = rw c.perms_at-z.ensures (c.requires.1.each _ k).1 in
-    let v : c.perms_at-w.result.0 < a.tables.now.n_satom = rw c.perms_at-w.ensures (c.requires.1.each _ l).1 in
+    let x : c.image-x.result.0 < a.tables.now.n_satom = rw c.image-x.ensures (c.requires.1.each _ i).1 in
+    let y : c.image-y.result.0 < a.tables.now.n_satom = rw c.image-y.ensures (c.requires.1.each _ j).1 in
+    let z : c.image-z.result.0 < a.tables.now.n_satom = rw c.image-z.ensures (c.requires.1.each _ k).1 in
+    let v : c.image-w.result.0 < a.tables.now.n_satom = rw c.image-w.ensures (c.requires.1.each _ l).1 in
     (images.read-tables _ c.requires.0 a.b c.requires.2, x, y, z, v)
 
 pub returns : goal.returns
@@ -104,7 +104,7 @@ returns c =
     let ej : c.column_of-3.result ≡ a.b / a.tables.now.n_satom / a.tables.now.n_satom % a.tables.now.n_satom = c.column_of-3.ensures ∙ ap (λ x. x % a.tables.now.n_satom) er in
     let ek : c.column_of-2.result ≡ a.b / a.tables.now.n_satom % a.tables.now.n_satom = c.column_of-2.ensures ∙ ap (λ x. x % a.tables.now.n_satom) c.row_of-pjk.ensures in
     images.image_is T c.requires.0 a.b c.requires.2 a.operations.now a.r
-    (c.p2s_at-i.ensures ∙ ap (index_at a.tables.now.p2s.now) ep) c.perms_at-x.ensures
-    (c.perms_at-y.ensures ∙ ap (λ j. index_at a.operations.now (a.r * a.tables.now.n_satom + j)) ej)
-    (c.perms_at-z.ensures ∙ ap (λ j. index_at a.operations.now (a.r * a.tables.now.n_satom + j)) ek)
-    (c.perms_at-w.ensures ∙ ap (λ j. index_at a.operations.now (a.r * a.tables.now.n_satom + j)) c.column_of.ensures) c.stored_block4.ensures
+    (c.p2s_at-i.ensures ∙ ap (index_at a.tables.now.p2s.now) ep) c.image-x.ensures
+    (c.image-y.ensures ∙ ap (λ j. index_at a.operations.now (a.r * a.tables.now.n_satom + j)) ej)
+    (c.image-z.ensures ∙ ap (λ j. index_at a.operations.now (a.r * a.tables.now.n_satom + j)) ek)
+    (c.image-w.ensures ∙ ap (λ j. index_at a.operations.now (a.r * a.tables.now.n_satom + j)) c.column_of.ensures) c.stored_block4.ensures
