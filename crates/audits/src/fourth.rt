@@ -1,13 +1,16 @@
 // The audits of fourth order: whether all 24 permutations of any four legs read out the same bits.
 ghost use Rattle.std.specs.Prelude.{◌≡◌, ◌≤◌, ◌<◌, length};
+ghost use Rattle.std.proofs.Common.{rules};
 ghost use Rattle.tables.specs.Limits.{limit4};
 ghost use Rattle.tables.specs.Compact.{shifts_of, given};
 ghost use Rattle.places.specs.Permutations.{perms4};
 ghost use Rattle.audits.specs.Later.{falling, Next};
 ghost use Rattle.audits.specs.Audit.{audited, audit_compact, audit_full};
+ghost use Rattle.audits.specs.FourthScanLaws.{in81};
 ghost use Rattle.audits.specs.Guard.{Ready, full_tables};
 
 use crate::Difference;
+use crate::any_order::Order;
 use crate::guard::FullTables;
 use crate::kernel::{difference, look};
 use fc4::group::group_blocks;
@@ -46,6 +49,33 @@ fn next(b: usize, count: usize, n: usize) -> usize
         }
     }
     count
+}
+
+// Sets of fourth order.
+pub struct Fourth;
+
+impl Order<81, 24, 1944> for Fourth {
+    ghost LIMIT = { limit4 };
+
+    ghost RANK = { 3 };
+
+    ghost permutations = { perms4 };
+
+    const LIMIT: usize = LIMIT4;
+
+    const RANK: usize = 3;
+
+    fn positions() -> [u8; 1944] {
+        addresses()
+    }
+
+    fn group_blocks(tables: &ShiftTables, b: usize) -> [usize; 24] {
+        group_blocks(tables, b)
+    }
+
+    ghost width = { in81 };
+
+    ghost small = { Prim.search rules };
 }
 
 // Block after block, up to the first place at which some permutation reads another number.

@@ -1,5 +1,6 @@
 // The audits of third order: whether all 6 permutations of any three legs read out the same bits.
 ghost use Rattle.std.specs.Prelude.{◌≡◌, ◌+◌, ◌<◌, ◌≤◌, length};
+ghost use Rattle.std.proofs.Common.{rules};
 ghost use Rattle.lists.specs.Digits.{times_power};
 ghost use Rattle.tables.specs.Limits.{limit3};
 ghost use Rattle.tables.specs.Compact.{shifts_of, TablesFit, given};
@@ -7,9 +8,11 @@ ghost use Rattle.places.specs.Permutations.{perms3};
 ghost use Rattle.orbits.specs.Groups.{group_blocks};
 ghost use Rattle.audits.specs.Audit.{audited, audit_compact, audit_full};
 ghost use Rattle.audits.specs.Blocks.{position_table, AlikeTo};
+ghost use Rattle.audits.specs.ThirdScanLaws.{in27};
 ghost use Rattle.audits.specs.Guard.{Ready, full_tables};
 
 use crate::Difference;
+use crate::any_order::Order;
 use crate::guard::FullTables;
 use crate::kernel::{difference, look};
 use places::{column_of, row_of, stored_block3};
@@ -65,6 +68,33 @@ pub fn group_blocks(tables: &ShiftTables, b: usize) -> [usize; 6]
     let kij = stored_block3(tables, k, i, j);
     let kji = stored_block3(tables, k, j, i);
     [ijk, ikj, jik, jki, kij, kji]
+}
+
+// Sets of third order.
+pub struct Third;
+
+impl Order<27, 6, 162> for Third {
+    ghost LIMIT = { limit3 };
+
+    ghost RANK = { 2 };
+
+    ghost permutations = { perms3 };
+
+    const LIMIT: usize = LIMIT3;
+
+    const RANK: usize = 2;
+
+    fn positions() -> [u8; 162] {
+        positions()
+    }
+
+    fn group_blocks(tables: &ShiftTables, b: usize) -> [usize; 6] {
+        group_blocks(tables, b)
+    }
+
+    ghost width = { in27 };
+
+    ghost small = { Prim.search rules };
 }
 
 // Block after block from block `from` on, up to the first place at which some permutation reads another number.
