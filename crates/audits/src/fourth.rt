@@ -1,14 +1,17 @@
 // The audits of fourth order: whether all 24 permutations of any four legs read out the same bits.
 ghost use Rattle.std.specs.Prelude.{◌≡◌, ◌≤◌, ◌<◌, length};
+ghost use Rattle.std.proofs.Common.{rules};
 ghost use Rattle.tables.specs.Limits.{limit4};
 ghost use Rattle.tables.specs.Compact.{shifts_of, given};
 ghost use Rattle.places.specs.Permutations.{perms4};
 ghost use Rattle.audits.specs.Later.{falling, Next};
 ghost use Rattle.audits.specs.Audit.{audited, audit_compact, audit_full};
+ghost use Rattle.audits.specs.FourthScanLaws.{in81};
 ghost use Rattle.audits.specs.Guard.{Ready, full_tables};
 
 use crate::Difference;
-use crate::guard::counted;
+use crate::any_order::Order;
+use crate::guard::FullTables;
 use crate::kernel::{difference, look};
 use fc4::group::group_blocks;
 use places::{column_of, row_of};
@@ -48,6 +51,33 @@ fn next(b: usize, count: usize, n: usize) -> usize
     count
 }
 
+// Sets of fourth order.
+pub struct Fourth;
+
+impl Order<81, 24, 1944> for Fourth {
+    ghost LIMIT = { limit4 };
+
+    ghost RANK = { 3 };
+
+    ghost permutations = { perms4 };
+
+    const LIMIT: usize = LIMIT4;
+
+    const RANK: usize = 3;
+
+    fn positions() -> [u8; 1944] {
+        addresses()
+    }
+
+    fn group_blocks(tables: &ShiftTables, b: usize) -> [usize; 24] {
+        group_blocks(tables, b)
+    }
+
+    ghost width = { in81 };
+
+    ghost small = { Prim.search rules };
+}
+
 // Block after block, up to the first place at which some permutation reads another number.
 fn scan(fc: &[f64], tables: &ShiftTables) -> Result<Option<Difference>, Refusal>
     requires { Ready limit4 3 (length fc.now) (given tables.now) }
@@ -81,20 +111,8 @@ fn scan_full(fc: &[f64], n: usize) -> Result<Option<Difference>, Refusal>
     requires { Ready limit4 3 (length fc.now) (full_tables n) × (n ≤ 1024) }
     ensures { result ≡ audited (shifts_of (full_tables n)) 3 perms4 fc.now }
 {
-    let p2s = counted();
-    let s2pp = counted();
-    let nsym_list = [0i64; 1024];
-    let perms = counted();
-    let tables = ShiftTables {
-        p2s: &p2s[0..n],
-        s2pp: &s2pp[0..n],
-        nsym_list: &nsym_list[0..n],
-        perms: &perms[0..n],
-        n_satom: n,
-        n_patom: n,
-        num_trans: 1,
-    };
-    scan(fc, &tables)
+    let whole = FullTables::new(n);
+    scan(fc, &whole.tables())
 }
 
 // The audit of a full set.

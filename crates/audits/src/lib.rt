@@ -1,6 +1,7 @@
 // What an audit says of a set, the comparison of two sets, and the audits of second, third and fourth order.
 #![tactic(auto)]
 
+pub mod any_order;
 pub mod fourth;
 pub mod guard;
 pub mod kernel;

@@ -1,5 +1,6 @@
 // The audits of second order: whether all 2 permutations of any two legs read out the same bits.
 ghost use Rattle.std.specs.Prelude.{◌≡◌, ◌+◌, ◌<◌, ◌≤◌, length};
+ghost use Rattle.std.proofs.Common.{rules};
 ghost use Rattle.lists.specs.Digits.{times_power};
 ghost use Rattle.tables.specs.Limits.{limit2};
 ghost use Rattle.tables.specs.Compact.{shifts_of, TablesFit, given};
@@ -7,10 +8,12 @@ ghost use Rattle.places.specs.Permutations.{perms2};
 ghost use Rattle.orbits.specs.Groups.{group_blocks};
 ghost use Rattle.audits.specs.Audit.{audited, audit_compact, audit_full};
 ghost use Rattle.audits.specs.Blocks.{position_table, AlikeTo};
+ghost use Rattle.audits.specs.SecondScanLaws.{in9};
 ghost use Rattle.audits.specs.Guard.{Ready, full_tables};
 
 use crate::Difference;
-use crate::guard::counted;
+use crate::any_order::Order;
+use crate::guard::FullTables;
 use crate::kernel::{difference, look};
 use places::{column_of, row_of, stored_block2};
 use shifts::judge_set;
@@ -45,6 +48,33 @@ pub fn group_blocks(tables: &ShiftTables, b: usize) -> [usize; 2]
     let ij = stored_block2(tables, i, j);
     let ji = stored_block2(tables, j, i);
     [ij, ji]
+}
+
+// Sets of second order.
+pub struct Second;
+
+impl Order<9, 2, 18> for Second {
+    ghost LIMIT = { limit2 };
+
+    ghost RANK = { 1 };
+
+    ghost permutations = { perms2 };
+
+    const LIMIT: usize = LIMIT2;
+
+    const RANK: usize = 1;
+
+    fn positions() -> [u8; 18] {
+        positions()
+    }
+
+    fn group_blocks(tables: &ShiftTables, b: usize) -> [usize; 2] {
+        group_blocks(tables, b)
+    }
+
+    ghost width = { in9 };
+
+    ghost small = { Prim.search rules };
 }
 
 // Block after block from block `from` on, up to the first place at which some permutation reads another number.
@@ -85,20 +115,8 @@ fn scan_full(fc: &[f64], n: usize) -> Result<Option<Difference>, Refusal>
     requires { Ready limit2 1 (length fc.now) (full_tables n) × (n ≤ 1024) }
     ensures { result ≡ audited (shifts_of (full_tables n)) 1 perms2 fc.now }
 {
-    let p2s = counted();
-    let s2pp = counted();
-    let nsym_list = [0i64; 1024];
-    let perms = counted();
-    let tables = ShiftTables {
-        p2s: &p2s[0..n],
-        s2pp: &s2pp[0..n],
-        nsym_list: &nsym_list[0..n],
-        perms: &perms[0..n],
-        n_satom: n,
-        n_patom: n,
-        num_trans: 1,
-    };
-    settle(fc, &tables)
+    let whole = FullTables::new(n);
+    settle(fc, &whole.tables())
 }
 
 // The audit of a full set.

@@ -1,5 +1,6 @@
 // The audits of third order: whether all 6 permutations of any three legs read out the same bits.
 ghost use Rattle.std.specs.Prelude.{◌≡◌, ◌+◌, ◌<◌, ◌≤◌, length};
+ghost use Rattle.std.proofs.Common.{rules};
 ghost use Rattle.lists.specs.Digits.{times_power};
 ghost use Rattle.tables.specs.Limits.{limit3};
 ghost use Rattle.tables.specs.Compact.{shifts_of, TablesFit, given};
@@ -7,10 +8,12 @@ ghost use Rattle.places.specs.Permutations.{perms3};
 ghost use Rattle.orbits.specs.Groups.{group_blocks};
 ghost use Rattle.audits.specs.Audit.{audited, audit_compact, audit_full};
 ghost use Rattle.audits.specs.Blocks.{position_table, AlikeTo};
+ghost use Rattle.audits.specs.ThirdScanLaws.{in27};
 ghost use Rattle.audits.specs.Guard.{Ready, full_tables};
 
 use crate::Difference;
-use crate::guard::counted;
+use crate::any_order::Order;
+use crate::guard::FullTables;
 use crate::kernel::{difference, look};
 use places::{column_of, row_of, stored_block3};
 use shifts::judge_set;
@@ -67,6 +70,33 @@ pub fn group_blocks(tables: &ShiftTables, b: usize) -> [usize; 6]
     [ijk, ikj, jik, jki, kij, kji]
 }
 
+// Sets of third order.
+pub struct Third;
+
+impl Order<27, 6, 162> for Third {
+    ghost LIMIT = { limit3 };
+
+    ghost RANK = { 2 };
+
+    ghost permutations = { perms3 };
+
+    const LIMIT: usize = LIMIT3;
+
+    const RANK: usize = 2;
+
+    fn positions() -> [u8; 162] {
+        positions()
+    }
+
+    fn group_blocks(tables: &ShiftTables, b: usize) -> [usize; 6] {
+        group_blocks(tables, b)
+    }
+
+    ghost width = { in27 };
+
+    ghost small = { Prim.search rules };
+}
+
 // Block after block from block `from` on, up to the first place at which some permutation reads another number.
 fn scan(fc: &[f64], tables: &ShiftTables, from: usize) -> Result<Option<Difference>, Refusal>
     requires { let T = given tables.now in Ready limit3 2 (length fc.now) T × AlikeTo (shifts_of T) 2 perms3 fc.now from }
@@ -105,20 +135,8 @@ fn scan_full(fc: &[f64], n: usize) -> Result<Option<Difference>, Refusal>
     requires { Ready limit3 2 (length fc.now) (full_tables n) × (n ≤ 1024) }
     ensures { result ≡ audited (shifts_of (full_tables n)) 2 perms3 fc.now }
 {
-    let p2s = counted();
-    let s2pp = counted();
-    let nsym_list = [0i64; 1024];
-    let perms = counted();
-    let tables = ShiftTables {
-        p2s: &p2s[0..n],
-        s2pp: &s2pp[0..n],
-        nsym_list: &nsym_list[0..n],
-        perms: &perms[0..n],
-        n_satom: n,
-        n_patom: n,
-        num_trans: 1,
-    };
-    settle(fc, &tables)
+    let whole = FullTables::new(n);
+    settle(fc, &whole.tables())
 }
 
 // The audit of a full set.

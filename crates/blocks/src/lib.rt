@@ -3,6 +3,7 @@
 #![tactic(auto)]
 
 pub mod permute;
+pub mod sized;
 
 ghost use Rattle.std.specs.Prelude.{◌≡◌, length, ◌+◌, ◌*◌, ◌≤◌};
 ghost use Rattle.blocks.specs.Block.{block, put_block};

@@ -1,35 +1,24 @@
 -- What the loops see, operation by operation and block by block, are the deviations of the definition, one after another. Assumes nothing.
-use Rattle.std.specs.Prelude.{◌≡◌, refl, Bool, true, false, cond, ◌⊎◌, List, [], ◌∷◌, map, eqb, leb, ℤ, length, Float}
-use Rattle.std.proofs.Math.Path.{sym, ap, ap₂, fun_ext}
-use Rattle.std.proofs.Common.{◌∙◌, subst, inl, inr, mul-le-mul_right, eq-eqb, ne_eqb, le-leb}
-use Prim.Native.Nat.{ℕ, suc, ◌+◌, ◌*◌, ◌/◌, ◌%◌, ◌≤◌, ◌<◌}
+use Rattle.std.specs.Prelude.{◌≡◌, refl, List, ℤ, Float}
+use Rattle.std.proofs.Math.Path.{sym, ap, ap₂}
+use Rattle.std.proofs.Common.{◌∙◌}
+use Prim.Native.Nat.{ℕ, suc, ◌+◌, ◌*◌, ◌/◌, ◌%◌, ◌<◌}
 use native.Mathlib.Omega.{arith}
 use Rattle.std.proofs.Math.ListN.{get_or}
 use Rattle.std.proofs.lemmas.List.{length-map}
 use Rattle.std.specs.Float.Ieee.{nan, sub, binary64}
 use Rattle.lists.specs.Tab.{times, times-same, times_nest}
-use Rattle.lists.specs.Digits.{times_power, rest, digits, length_digits, rest_div, rest_below, digits-below, quotient, remainder, in_row}
-use Rattle.lists.specs.Elements.{Below, all_map}
-use Rattle.blocks.specs.Block.{block, length-block, get_or-block, fits}
-use Rattle.tables.specs.Answers.{Answer}
-use Rattle.tables.specs.declared.Refusal.{Refusal}
-use Rattle.tables.specs.declared.Refusal.TheVariants.{CountAboveLimit, WrongLength, IndexOutOfRange, BadSlab, BadRepresentative, BadShiftTables, NotARoll, NoRoom, NotLawful, OffGrid, UnknownSet}
-use Rattle.tables.specs.Answers.{number_of, refusal_number, refuse_if, passed}
-use Rattle.tables.specs.Conditions.{Readable, IndexTable, read, not_above, not-wrong}
-use Rattle.tables.specs.Shifts.{Shifts, p2s_at}
-use Rattle.tables.specs.Full.{judged_full}
-use Rattle.tables.specs.Compact.{ShiftTables, shifts_of, judged_tables, judged_set}
-use Rattle.places.specs.Places.{Leg, atom, dir, legs_of, legs_at, place, read_out, size, in_block, full_shifts}
-use Rattle.places.specs.Addresses.{stored_block}
-use Rattle.places.specs.ReadOuts.{stored_in_lem}
+use Rattle.lists.specs.Digits.{times_power, rest, digits, length_digits, rest_div, quotient, remainder}
+use Rattle.blocks.specs.Block.{block, length-block, get_or-block}
+use Rattle.tables.specs.Shifts.{Shifts}
+use Rattle.places.specs.Places.{read_out, size, in_block}
 use Rattle.orbits.specs.Transposed.{size_blocks}
 use Rattle.rotations.specs.Rotation.{rotated}
-use Rattle.read_out.specs.Blocks.{block_of, read_at_lem}
-use Rattle.audits.specs.Guard.{Ready, block_inside, stored-within, full_tables, whole-shifts}
+use Rattle.read_out.specs.Blocks.{read_at_lem}
 use Rattle.reports.specs.declared.seen.Seen.{Seen}
-use Rattle.reports.specs.Loops.{look, look_at, look_differences, nothing_seen, concluded}
-use Rattle.reports.specs.Seen.{rows-looked, look-same, report_of, after-done, after-refused}
-use Rattle.crystal.specs.Crystal.{image, image_legs, deviation, deviation_at, crystal_report, judged_operations, earlier, crystal_report_compact, crystal_report_full}
+use Rattle.reports.specs.Loops.{look, look_at, nothing_seen}
+use Rattle.reports.specs.Seen.{rows-looked, look-same}
+use Rattle.crystal.specs.Crystal.{image, image_legs, deviation, deviation_at}
 use Rattle.crystal.specs.Laws.{image_atoms, image_block, images_legs, block_seen, operation_seen, all_seen}
 
 module _ (S : Shifts) (m : ℕ) (r_carts : List Float) (operations : List ℤ) (set : List Float) where

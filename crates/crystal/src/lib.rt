@@ -2,6 +2,7 @@
 // operations.
 #![tactic(auto)]
 
+pub mod any_order;
 pub mod fourth;
 pub mod second;
 pub mod third;
