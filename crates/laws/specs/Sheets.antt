@@ -111,13 +111,13 @@ pub record Sheets : Type 0 where
       × (block_at 2 0 1 0 (transpose_compact_fc3 set two_atoms work (pos 0)).1 ≡ block_at 2 0 1 0 set)
       × (block_at 2 0 1 1 (transpose_compact_fc3 set two_atoms work (pos 0)).1 ≡ block_at 2 0 1 1 set)
   -- 8. No positions: true. One position at the origin, and the same rotated, unit lattice: true at 2^-600; false at 0, the slot -1.
-  pub sheet8 : ((cell : Cell) → compute_permutation [] cell [] [] 0 ≡ (Matched, []))
-      × ((old : ℤ) → compute_permutation (old ∷ []) (unit_lattice (1 over (2 ^ 600))) (positions (f64 0 ∷ [])) (positions (f64 0 ∷ [])) 1 ≡ (Matched, pos 0 ∷ []))
-      × ((old : ℤ) → compute_permutation (old ∷ []) (unit_lattice (f64 0)) (positions (f64 0 ∷ [])) (positions (f64 0 ∷ [])) 1 ≡ (NotMatched, negsuc 0 ∷ []))
+  pub sheet8 : ((cell : Cell) → compute_permutation [] cell [] [] 0 ≡ (Ok Matched, []))
+      × ((old : ℤ) → compute_permutation (old ∷ []) (unit_lattice (1 over (2 ^ 600))) (positions (f64 0 ∷ [])) (positions (f64 0 ∷ [])) 1 ≡ (Ok Matched, pos 0 ∷ []))
+      × ((old : ℤ) → compute_permutation (old ∷ []) (unit_lattice (f64 0)) (positions (f64 0 ∷ [])) (positions (f64 0 ∷ [])) 1 ≡ (Ok NotMatched, negsuc 0 ∷ []))
   -- 9. Unit lattice, tolerance 0.1875, x = 0.25 and 0, rotated x = 0.125 and 0.375, else 0: false, slots 0 and -1.
   pub sheet9 : (old old' : ℤ)
       → compute_permutation (old ∷ old' ∷ []) (unit_lattice (1875 over 10000)) (positions (25 over 100 ∷ f64 0 ∷ [])) (positions (125 over 1000 ∷ 375 over 1000 ∷ [])) 2
-      ≡ (NotMatched, pos 0 ∷ negsuc 0 ∷ [])
+      ≡ (Ok NotMatched, pos 0 ∷ negsuc 0 ∷ [])
 
 -- ---- sheet 5
 

@@ -1,6 +1,6 @@
 -- True is answered exactly if no slot is left over, and then the slots are a bijection of near pairs (document 01, "Matched atoms").
 -- Assumes nothing.
-use Rattle.std.specs.Prelude.{Ok, ◌≡◌, refl, Bool, true, false, cond, not, ◌⊎◌, ◌↔◌, List, [], ◌∷◌, ltb, ℤ, pos, negsuc, length, set, replicate, Float}
+use Rattle.std.specs.Prelude.{Result, Ok, ◌≡◌, refl, Bool, true, false, cond, not, ◌⊎◌, ◌↔◌, List, [], ◌∷◌, ltb, ℤ, pos, negsuc, length, set, replicate, Float}
 use Rattle.std.proofs.Common.{sym, ap, ◌∙◌, subst, true≢false, inl, inr, not-suc-le-zero, arith, length-set, get_or-set_same, get_or-set_other}
 use Prim.Native.Nat.{ℕ, zero, suc, ◌≤◌, ◌<◌}
 use Rattle.std.proofs.lemmas.List.{length-replicate, get_or-replicate}
@@ -9,12 +9,13 @@ use Rattle.std.proofs.lemmas.Bool.{not-true}
 use Rattle.lists.specs.Cases.{lt_or_le, eq_or_ne}
 use Rattle.lists.specs.Tests.{and_fst, and_snd, not-both}
 use Rattle.lists.specs.Tab.{times}
+use Rattle.tables.specs.declared.Refusal.{Refusal}
 use Rattle.distances.specs.declared.Cell.{Cell}
 use Rattle.distances.specs.Near.{near, distance}
 use Rattle.matching.specs.declared.cells.Pair.{Pair}
 use Rattle.matching.specs.declared.cells.Matching.{Matching}
 use Rattle.matching.specs.declared.cells.Matching.TheVariants.{Matched, NotMatched, NoNumber}
-use Rattle.matching.specs.Matching.{is_matched, is_filled, takes, match_one, placed_to, matched_up_to, all_filled, judged_matching, first_none, failed_by, compute_permutation}
+use Rattle.matching.specs.Matching.{is_matched, answers_true, is_filled, takes, match_one, placed_to, matched_up_to, all_filled, judged_matching, first_none, failed_by, compute_permutation}
 use Rattle.lists.specs.Lowest.{lowest, lowest-passes}
 use Rattle.matching.specs.Slots.{slot_at, filled_at, all-filled}
 use Rattle.matching.proofs.CellsOutcomeLaws.{ended}
@@ -225,7 +226,7 @@ module _ (slots : List ℤ) (cell : Cell) (positions rotated : List Float) (n : 
   abbrev left : List ℤ
   left = (compute_permutation slots cell positions rotated n).1
 
-  abbrev answer : Matching
+  abbrev answer : Result Matching Refusal
   answer = (compute_permutation slots cell positions rotated n).0
 
   left_is : matched_up_to (near cell positions rotated) n ≡ left
@@ -238,25 +239,25 @@ module _ (slots : List ℤ) (cell : Cell) (positions rotated : List Float) (n : 
   abbrev pair : Pair
   pair = first_none (distance cell positions rotated) n
 
-  answer_is : cond (all_filled left) Matched (failed_by n pair) ≡ answer
-  answer_is = ap (λ s. cond (all_filled s) Matched (failed_by n pair)) (sym left_is) ∙ ap (λ r. r.0) (ended slots cell positions rotated n taken-on)
+  answer_is : Ok (cond (all_filled left) Matched (failed_by n pair)) ≡ answer
+  answer_is = ap (λ s. Ok (cond (all_filled s) Matched (failed_by n pair))) (sym left_is) ∙ ap (λ r. r.0) (ended slots cell positions rotated n taken-on)
 
-  all_of_lem : is_matched answer ≡ all_filled left
-  all_of_lem = ap is_matched (sym answer_is) ∙ matched_is (all_filled left) (ltb pair.position n) pair
+  all_of_lem : answers_true answer ≡ all_filled left
+  all_of_lem = ap answers_true (sym answer_is) ∙ matched_is (all_filled left) (ltb pair.position n) pair
 
   -- the answer is true exactly if no slot is left at -1
-  pub matched_exactly : (is_matched answer ≡ true) ↔ ((j : ℕ) → j < n → slot_at left j ≡ negsuc 0 → ⊥)
+  pub matched_exactly : (answers_true answer ≡ true) ↔ ((j : ℕ) → j < n → slot_at left j ≡ negsuc 0 → ⊥)
   matched_exactly = (
     λ e. none_free (near cell positions rotated) n left after_call (sym all_of_lem ∙ e),
     λ f. all_of_lem ∙ all-taken (near cell positions rotated) n left after_call f,
   )
 
   -- then the slots are a bijection of near pairs
-  pub matched-bijection : is_matched answer ≡ true → Bijection (near cell positions rotated) n left
+  pub matched-bijection : answers_true answer ≡ true → Bijection (near cell positions rotated) n left
   matched-bijection e = bijective (near cell positions rotated) n left after_call (sym all_of_lem ∙ e)
 
   -- and what the search placed
-  pub matched-placed : is_matched answer ≡ true → (all_filled (matched_up_to (near cell positions rotated) n) ≡ true) × (left ≡ matched_up_to (near cell positions rotated) n)
+  pub matched-placed : answers_true answer ≡ true → (all_filled (matched_up_to (near cell positions rotated) n) ≡ true) × (left ≡ matched_up_to (near cell positions rotated) n)
   matched-placed e = (ap all_filled left_is ∙ sym all_of_lem ∙ e, sym left_is)
 
 -- ---- where a further search may start from: what the search leaves, whether or not all slots are filled

@@ -16,7 +16,7 @@ use Rattle.distances.specs.declared.Distance.{Distance}
 use Rattle.distances.specs.Near.{near_by, near, distance}
 use Rattle.matching.specs.declared.cells.Pair.{Pair}
 use Rattle.matching.specs.declared.cells.Matching.{Matching}
-use Rattle.matching.specs.declared.cells.Matching.TheVariants.{Matched, Refused}
+use Rattle.matching.specs.declared.cells.Matching.TheVariants.{Matched}
 use Rattle.matching.specs.Matching.{match_one, placed_to, matched_up_to, all_filled, judged_matching, first_none, failed_by, searched, answered, compute_permutation}
 use Rattle.matching.specs.Slots.{Triples}
 use Rattle.matching.specs.Search.{pair_after}
@@ -72,17 +72,17 @@ module _ (slots : List ℤ) (cell : Cell) (positions rotated : List Float) (n : 
   guard = judged_matching (length slots) (length positions) (length rotated) n
 
   -- a refused call leaves the slots
-  pub refused : (r : Refusal) → guard ≡ Err r → (Refused r, slots) ≡ compute_permutation slots cell positions rotated n
+  pub refused : (r : Refusal) → guard ≡ Err r → (Err r, slots) ≡ compute_permutation slots cell positions rotated n
   unfolding compute_permutation answered
   refused r e = rw e
 
-  pub done : guard ≡ Ok tt → searched (distance cell positions rotated) n ≡ compute_permutation slots cell positions rotated n
+  pub done : (m : Matching) (left : List ℤ) → guard ≡ Ok tt → (m, left) ≡ searched (distance cell positions rotated) n → (Ok m, left) ≡ compute_permutation slots cell positions rotated n
   unfolding compute_permutation answered
-  done e = rw e
+  done m left e f = ap (λ (x : Matching × List ℤ). answered (Ok tt) slots x) f ∙ rw e
 
   -- the same, with what the search leaves
   pub ended : guard ≡ Ok tt
-      → (cond (all_filled (matched_up_to (near cell positions rotated) n)) Matched (failed_by n (first_none (distance cell positions rotated) n)), matched_up_to (near cell positions rotated) n)
+      → (Ok (cond (all_filled (matched_up_to (near cell positions rotated) n)) Matched (failed_by n (first_none (distance cell positions rotated) n))), matched_up_to (near cell positions rotated) n)
       ≡ compute_permutation slots cell positions rotated n
   unfolding searched
-  ended e = done e
+  ended e = done _ _ e refl

@@ -1,5 +1,5 @@
 -- What greedy leaves is where the search starts, and the ways in which the call ends. Assumes nothing.
-use Rattle.std.specs.Prelude.{Err, Ok, ◌≡◌, Bool, true, false, ℕ, ◌≤◌, ◌<◌, ltb, ℤ, negsuc, length, replicate, Float}
+use Rattle.std.specs.Prelude.{Result, Err, Ok, ◌≡◌, Bool, true, false, ℕ, ◌≤◌, ◌<◌, ltb, ℤ, negsuc, length, replicate, Float}
 use Rattle.std.proofs.Math.Path.{refl, ap}
 use Rattle.std.proofs.Common.{sym, ◌∙◌, subst, true≢false, eq-eqb, ne_eqb}
 use Rattle.std.proofs.lemmas.Bool.{false≢true}
@@ -22,8 +22,8 @@ use Rattle.matching.specs.Bijection.{Bijection}
 use Rattle.matching.proofs.BijectionLaws.{matched_is, placed-length, placed-each, placed-apart, placed-bijection}
 use Rattle.matching.specs.Groups.{Held, Partial}
 use Rattle.matching.specs.declared.finding.Finding.{Finding}
-use Rattle.matching.specs.declared.finding.Finding.TheVariants.{Found, NoMatch, Refused}
-use Rattle.matching.specs.FindPermutation.{judged_finding, ended, Result, Promise}
+use Rattle.matching.specs.declared.finding.Finding.TheVariants.{Found, NoMatch}
+use Rattle.matching.specs.FindPermutation.{judged_finding, ended, Outcome, Promise}
 use Rattle.matching.specs.Rest.{PlacedAll}
 
 -- ---- what greedy leaves is where the search starts
@@ -63,21 +63,21 @@ module _ (dist : ℕ → ℕ → Distance) (n : ℕ) (m : Matching) (left : List
 -- ---- the ways in which the search ends
 
 module _ (is_near : ℕ → ℕ → Bool) (n : ℕ) where
-  is_found_lem : (new : List ℤ) → ◌≡◌ {A = Finding × List ℤ × List ℕ} (Found, new, replicate n 0) (ended n true new [])
+  is_found_lem : (new : List ℤ) → ◌≡◌ {A = Result Finding Refusal × List ℤ × List ℕ} (Ok Found, new, replicate n 0) (ended n true new [])
   unfolding ended
   is_found_lem new = refl
 
-  is_none_lem : (group : List ℕ) → ◌≡◌ {A = Finding × List ℤ × List ℕ} (NoMatch, replicate n (negsuc 0), group) (ended n false [] group)
+  is_none_lem : (group : List ℕ) → ◌≡◌ {A = Result Finding Refusal × List ℤ × List ℕ} (Ok NoMatch, replicate n (negsuc 0), group) (ended n false [] group)
   unfolding ended
   is_none_lem group = refl
 
   -- greedy's bijection, where it has one
-  pub found-greedy : (new : List ℤ) (marks : List ℕ) → all_filled (matched_up_to is_near n) ≡ true → new ≡ matched_up_to is_near n → marks ≡ replicate n 0 → Result is_near n (Found, new, marks)
+  pub found-greedy : (new : List ℤ) (marks : List ℕ) → all_filled (matched_up_to is_near n) ≡ true → new ≡ matched_up_to is_near n → marks ≡ replicate n 0 → Outcome is_near n (Ok Found, new, marks)
   found-greedy new marks f e z = record {
     found = true;
     chosen = new;
     group = [];
-    answer = ap (λ (m : List ℕ). (Found, new, m)) z ∙ is_found_lem new;
+    answer = ap (λ (m : List ℕ). (Ok Found, new, m)) z ∙ is_found_lem new;
     ends = record {
       slots_len = λ _. ap length e ∙ placed-length is_near n;
       bijection = λ _. subst (Bijection is_near n) (sym e) (placed-bijection is_near n f);
@@ -87,12 +87,12 @@ module _ (is_near : ℕ → ℕ → Bool) (n : ℕ) where
   }
 
   -- one by chains of exchanges
-  pub found-one : (r : Bool) (new : List ℤ) (old marks : List ℕ) → PlacedAll is_near n (matched_up_to is_near n) r new old → r ≡ true → length new ≡ n → marks ≡ replicate n 0 → Result is_near n (Found, new, marks)
+  pub found-one : (r : Bool) (new : List ℤ) (old marks : List ℕ) → PlacedAll is_near n (matched_up_to is_near n) r new old → r ≡ true → length new ≡ n → marks ≡ replicate n 0 → Outcome is_near n (Ok Found, new, marks)
   found-one r new old marks H t l z = record {
     found = true;
     chosen = new;
     group = [];
-    answer = ap (λ (m : List ℕ). (Found, new, m)) z ∙ is_found_lem new;
+    answer = ap (λ (m : List ℕ). (Ok Found, new, m)) z ∙ is_found_lem new;
     ends = record {
       slots_len = λ _. l;
       bijection = λ _. H.bijection t;
@@ -103,12 +103,12 @@ module _ (is_near : ℕ → ℕ → Bool) (n : ℕ) where
 
   -- none
   pub found_none : (r : Bool) (new slots : List ℤ) (marks : List ℕ) (f : Finding) → PlacedAll is_near n (matched_up_to is_near n) r new marks → r ≡ false → f ≡ NoMatch → slots ≡ replicate n (negsuc 0)
-      → Result is_near n (f, slots, marks)
+      → Outcome is_near n (Ok f, slots, marks)
   found_none r new slots marks f H t a z = record {
     found = false;
     chosen = [];
     group = marks;
-    answer = ap (λ (x : Finding). (x, slots, marks)) a ∙ ap (λ (s : List ℤ). (NoMatch, s, marks)) z ∙ is_none_lem marks;
+    answer = ap (λ (x : Finding). (Ok x, slots, marks)) a ∙ ap (λ (s : List ℤ). (Ok NoMatch, s, marks)) z ∙ is_none_lem marks;
     ends = record {
       slots_len = λ e. absurd (false≢true e);
       bijection = λ e. absurd (false≢true e);
@@ -157,8 +157,8 @@ module _ (slots : List ℤ) (marks : List ℕ) (cell : Cell) (positions rotated 
   guard = judged_finding (length slots) (length marks) (length positions) (length rotated) n
 
   -- a refused call leaves what it was lent
-  pub refused : (r : Refusal) → guard ≡ Err r → Promise slots marks cell positions rotated n (Refused r, slots, marks)
+  pub refused : (r : Refusal) → guard ≡ Err r → Promise slots marks cell positions rotated n (Err r, slots, marks)
   refused r e = rw e refl
 
-  pub finished : (k : ℕ) (r : Finding × List ℤ × List ℕ) → guard ≡ Ok tt → k ≡ n → Result (near cell positions rotated) k r → Promise slots marks cell positions rotated n r
-  finished k r e q R = rw e (subst (λ (k : ℕ). Result (near cell positions rotated) k r) q R)
+  pub finished : (k : ℕ) (r : Result Finding Refusal × List ℤ × List ℕ) → guard ≡ Ok tt → k ≡ n → Outcome (near cell positions rotated) k r → Promise slots marks cell positions rotated n r
+  finished k r e q R = rw e (subst (λ (k : ℕ). Outcome (near cell positions rotated) k r) q R)

@@ -1,6 +1,6 @@
 -- What a match that fails says of distances that are no number (document 02, A.3): the pair it names was tried, is no number, and no pair tried before it is; if it
 -- names none, no pair that was tried is. Assumes nothing.
-use Rattle.std.specs.Prelude.{Ok, ◌≡◌, false, cond, not, ◌⊎◌, List, ltb, ℤ, length, Float}
+use Rattle.std.specs.Prelude.{Result, Err, Ok, ◌≡◌, false, cond, not, ◌⊎◌, List, ltb, ℤ, length, Float}
 use Rattle.std.proofs.Math.Path.{refl, ap}
 use Rattle.std.proofs.Common.{sym, ◌∙◌, subst, inl, inr, arith}
 use Rattle.std.proofs.Math.Bool.{Bool, true}
@@ -9,13 +9,14 @@ use Prim.Native.Nat.{ℕ, ◌≤◌, ◌<◌}
 use borrow.Author.Tests.{not-true, lt-ltb, ltb-true, ltb-false}
 use Rattle.lists.specs.Cases.{lt_or_le}
 use Rattle.lists.specs.Tests.{and_fst, and_snd, not-both}
+use Rattle.tables.specs.declared.Refusal.{Refusal}
 use Rattle.distances.specs.declared.Cell.{Cell}
 use Rattle.distances.specs.declared.Distance.{Distance}
 use Rattle.distances.specs.declared.Distance.TheVariants.{Near, Far, NoNumber as NoDistance}
 use Rattle.distances.specs.Near.{is_none, near_by, near, distance}
 use Rattle.matching.specs.declared.cells.Pair.{Pair}
 use Rattle.matching.specs.declared.cells.Matching.{Matching}
-use Rattle.matching.specs.declared.cells.Matching.TheVariants.{Matched, NotMatched, NoNumber, Refused}
+use Rattle.matching.specs.declared.cells.Matching.TheVariants.{Matched, NotMatched, NoNumber}
 use Rattle.matching.specs.Matching.{is_filled, takes, placed_to, matched_up_to, all_filled, slot_for, no_number_at, none_at, has_none, first_none, failed_by, judged_matching, compute_permutation}
 use Rattle.lists.specs.Lowest.{lowest, lowest_le, lowest-passes, lowest_fails}
 use Rattle.matching.specs.Slots.{slot_at}
@@ -132,31 +133,31 @@ module _ (dist : ℕ → ℕ → Distance) (n : ℕ) where
 
 -- ---- what a call that is not refused answers
 
-pair_in : Matching → Pair → Pair
-pair_in Matched p = p
-pair_in NotMatched p = p
-pair_in (NoNumber q) p = q
-pair_in (Refused r) p = p
+pair_in : Result Matching Refusal → Pair → Pair
+pair_in (Ok Matched) p = p
+pair_in (Ok NotMatched) p = p
+pair_in (Ok (NoNumber q)) p = q
+pair_in (Err r) p = p
 
-is_named : Matching → Bool
-is_named Matched = false
-is_named NotMatched = false
-is_named (NoNumber q) = true
-is_named (Refused r) = false
+is_named : Result Matching Refusal → Bool
+is_named (Ok Matched) = false
+is_named (Ok NotMatched) = false
+is_named (Ok (NoNumber q)) = true
+is_named (Err r) = false
 
-is_plain : Matching → Bool
-is_plain Matched = false
-is_plain NotMatched = true
-is_plain (NoNumber q) = false
-is_plain (Refused r) = false
+is_plain : Result Matching Refusal → Bool
+is_plain (Ok Matched) = false
+is_plain (Ok NotMatched) = true
+is_plain (Ok (NoNumber q)) = false
+is_plain (Err r) = false
 
-by-named : (b c : Bool) (q p : Pair) → cond b Matched (cond c (NoNumber q) NotMatched) ≡ NoNumber p → (c ≡ true) × (q ≡ p)
+by-named : (b c : Bool) (q p : Pair) → ◌≡◌ {A = Result Matching Refusal} (Ok (cond b Matched (cond c (NoNumber q) NotMatched))) (Ok (NoNumber p)) → (c ≡ true) × (q ≡ p)
 unfolding is_named pair_in
 by-named true c q p e = absurd (false≢true (ap is_named e))
 by-named false true q p e = (refl, ap (λ m. pair_in m p) e)
 by-named false false q p e = absurd (false≢true (ap is_named e))
 
-by_plain : (b c : Bool) (q : Pair) → cond b Matched (cond c (NoNumber q) NotMatched) ≡ NotMatched → c ≡ false
+by_plain : (b c : Bool) (q : Pair) → ◌≡◌ {A = Result Matching Refusal} (Ok (cond b Matched (cond c (NoNumber q) NotMatched))) (Ok NotMatched) → c ≡ false
 unfolding is_plain
 by_plain true c q e = absurd (false≢true (ap is_plain e))
 by_plain false true q e = absurd (false≢true (ap is_plain e))
@@ -166,20 +167,20 @@ module _ (slots : List ℤ) (cell : Cell) (positions rotated : List Float) (n : 
   abbrev dist : ℕ → ℕ → Distance
   dist = distance cell positions rotated
 
-  abbrev answer : Matching
+  abbrev answer : Result Matching Refusal
   answer = (compute_permutation slots cell positions rotated n).0
 
-  answer_is : cond (all_filled (matched_up_to (near cell positions rotated) n)) Matched (failed_by n (first_none dist n)) ≡ answer
+  answer_is : Ok (cond (all_filled (matched_up_to (near cell positions rotated) n)) Matched (failed_by n (first_none dist n))) ≡ answer
   answer_is = ap (λ r. r.0) (ended slots cell positions rotated n taken-on)
 
   -- the pair that is named is the first that was tried and is no number
-  pub names-first : (p : Pair) → answer ≡ NoNumber p → FirstTried dist n p
+  pub names-first : (p : Pair) → answer ≡ Ok (NoNumber p) → FirstTried dist n p
   names-first p e =
       let (c, q) = by-named (all_filled (matched_up_to (near cell positions rotated) n)) (ltb (first_none dist n).position n) (first_none dist n) p (answer_is ∙ e) in
       subst (FirstTried dist n) q (named-first dist n (ltb-true (first_none dist n).position n c))
 
   -- after a plain false none that was tried is
-  pub names-none : answer ≡ NotMatched → (i j : ℕ) → Tried dist n i j → dist i j ≡ NoDistance → ⊥
+  pub names-none : answer ≡ Ok NotMatched → (i j : ℕ) → Tried dist n i j → dist i j ≡ NoDistance → ⊥
   names-none e =
       let c = by_plain (all_filled (matched_up_to (near cell positions rotated) n)) (ltb (first_none dist n).position n) (first_none dist n) (answer_is ∙ e) in
       none_tried dist n (ltb-false (first_none dist n).position n c)

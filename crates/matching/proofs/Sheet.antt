@@ -1,12 +1,13 @@
 -- Sheet 9 of document 01 for the second matcher (document 02, A.6): x = 0.25 and 0, rotated x = 0.125 and 0.375, tolerance 0.1875. Position 1 is near
 -- slot 0 alone, so one bijection exists, and the call gives slots 1, 0, whatever the slots and marks held. Assumes nothing.
-use Rattle.std.specs.Prelude.{◌≡◌, refl, Bool, true, false, List, [], ◌∷◌, ℕ, zero, suc, ◌<◌, ℤ, pos, length, Float}
+use Rattle.std.specs.Prelude.{Result, Ok, ◌≡◌, refl, Bool, true, false, List, [], ◌∷◌, ℕ, zero, suc, ◌<◌, ℤ, pos, length, Float}
 use Rattle.std.proofs.Common.{sym, ap, ap₂, ◌∙◌, arith}
 use Rattle.std.specs.Float.{binary64}
 use Rattle.std.specs.Float.Ieee.{of_bits, add, sub, mul, lt, is_nan, round}
 use Rattle.common.specs.Whole.{nearest_whole}
 use Rattle.common.specs.Root.{sqrt}
 use Rattle.lists.specs.Tests.{not-both}
+use Rattle.tables.specs.declared.Refusal.{Refusal}
 use Rattle.distances.specs.declared.Cell.{Cell}
 use Rattle.distances.specs.Near.{squares, distance2, distance, near}
 use Rattle.matching.specs.Slots.{slot_at}
@@ -15,7 +16,7 @@ use Rattle.matching.specs.Sheets.{unit_cell, at_x}
 use Rattle.matching.specs.Bijection.{Bijection, Taken}
 use Rattle.matching.specs.declared.finding.Finding.{Finding}
 use Rattle.matching.specs.declared.finding.Finding.TheVariants.{Found}
-use Rattle.matching.specs.FindPermutation.{judged_finding, ended, Result, Promise}
+use Rattle.matching.specs.FindPermutation.{judged_finding, ended, Outcome, Promise}
 use Rattle.matching.proofs.Laws.{found_if_any}
 
 abbrev cell9 : Cell
@@ -91,17 +92,17 @@ only (x ∷ (y ∷ [])) e B = ap₂ (λ (a b : ℤ). a ∷ b ∷ []) (first (B.t
     first (suc zero, h, q, c) = q
     first (suc (suc i), h, q, c) = absurd (omega arith)
 
-is_it : (chosen : List ℤ) (group : List ℕ) → chosen ≡ (pos 1 ∷ pos 0 ∷ []) → ended 2 true chosen group ≡ (Found, pos 1 ∷ pos 0 ∷ [], 0 ∷ 0 ∷ [])
+is_it : (chosen : List ℤ) (group : List ℕ) → chosen ≡ (pos 1 ∷ pos 0 ∷ []) → ended 2 true chosen group ≡ (Ok Found, pos 1 ∷ pos 0 ∷ [], 0 ∷ 0 ∷ [])
 unfolding ended
 is_it chosen group e = rw e refl
 
 -- the result that a call that is not refused promises, at sheet 9
-of_result : (r : Finding × List ℤ × List ℕ) → Result is_near 2 r → r ≡ (Found, pos 1 ∷ pos 0 ∷ [], 0 ∷ 0 ∷ [])
+of_result : (r : Result Finding Refusal × List ℤ × List ℕ) → Outcome is_near 2 r → r ≡ (Ok Found, pos 1 ∷ pos 0 ∷ [], 0 ∷ 0 ∷ [])
 of_result r R =
     let t = found_if_any is_near 2 R.found R.chosen R.group R.ends (pos 1 ∷ pos 0 ∷ []) exchanged in
     R.answer ∙ ap (λ (b : Bool). ended 2 b R.chosen R.group) t ∙ is_it R.chosen R.group (only R.chosen (R.ends.slots_len t) (R.ends.bijection t))
 
-pub sheet_9 : (old old' : ℤ) (mark mark' : ℕ) (r : Finding × List ℤ × List ℕ) → Promise (old ∷ old' ∷ []) (mark ∷ mark' ∷ []) cell9 positions rotated 2 r
-    → r ≡ (Found, pos 1 ∷ pos 0 ∷ [], 0 ∷ 0 ∷ [])
+pub sheet_9 : (old old' : ℤ) (mark mark' : ℕ) (r : Result Finding Refusal × List ℤ × List ℕ) → Promise (old ∷ old' ∷ []) (mark ∷ mark' ∷ []) cell9 positions rotated 2 r
+    → r ≡ (Ok Found, pos 1 ∷ pos 0 ∷ [], 0 ∷ 0 ∷ [])
 unfolding judged_finding judged_matching
 sheet_9 old old' mark mark' r P = of_result r P

@@ -1,9 +1,10 @@
 -- Matching atoms (document 01, "Matched atoms"; document 02, A.3): which position each rotated position comes from. Definitions only.
-use Rattle.std.specs.Prelude.{Err, Ok, Bool, true, false, cond, not, ◌&&◌, List, [], ◌∷◌, ℕ, ◌*◌, ltb, ℤ, pos, negsuc, length, get_or, set, replicate, Float}
+use Rattle.std.specs.Prelude.{Result, Err, Ok, Bool, true, false, cond, not, ◌&&◌, List, [], ◌∷◌, ℕ, ◌*◌, ltb, ℤ, pos, negsuc, length, get_or, set, replicate, Float}
 use Rattle.lists.specs.Tab.{times}
 use Rattle.lists.specs.Members.{all_of}
 use Rattle.lists.specs.Lowest.{lowest}
 use Rattle.tables.specs.Answers.{Answer}
+use Rattle.tables.specs.declared.Refusal.{Refusal}
 use Rattle.tables.specs.declared.Refusal.TheVariants.{CountAboveLimit, WrongLength}
 use Rattle.tables.specs.Answers.{refusal_number, refuse_if}
 use Rattle.tables.specs.Limits.{limit2}
@@ -13,22 +14,26 @@ use Rattle.distances.specs.declared.Distance.{Distance}
 use Rattle.distances.specs.Near.{is_none, near_by, distance}
 use Rattle.matching.specs.declared.cells.Pair.{Pair}
 use Rattle.matching.specs.declared.cells.Matching.{Matching}
-use Rattle.matching.specs.declared.cells.Matching.TheVariants.{Matched, NotMatched, NoNumber, Refused}
+use Rattle.matching.specs.declared.cells.Matching.TheVariants.{Matched, NotMatched, NoNumber}
 
 -- The number of an answer: 0 for true, 64 for a plain false, 69 for a false that names a pair, and document 01's number of a refusal. 64 and more are far from
 -- the refusals, 1 to 6, and from the further answers of document 02, 7 to 11; 0 says of every call that its work is done whole.
-abbrev pub matching_number : Matching → ℕ
-matching_number Matched = 0
-matching_number NotMatched = 64
-matching_number (NoNumber p) = 69
-matching_number (Refused r) = refusal_number r
+abbrev pub matching_number : Result Matching Refusal → ℕ
+matching_number (Ok Matched) = 0
+matching_number (Ok NotMatched) = 64
+matching_number (Ok (NoNumber p)) = 69
+matching_number (Err r) = refusal_number r
 
--- document 01's answer in each case: true for a match, false for everything else
+-- what the search says: true for a match, false for everything else
 abbrev pub is_matched : Matching → Bool
 is_matched Matched = true
 is_matched NotMatched = false
 is_matched (NoNumber p) = false
-is_matched (Refused r) = false
+
+-- document 01's answer of the whole call: true for a match, false for everything else
+abbrev pub answers_true : Result Matching Refusal → Bool
+answers_true (Ok m) = is_matched m
+answers_true (Err r) = false
 
 -- a slot is filled if it holds a position's number, and free while it holds -1
 abbrev pub is_filled : ℤ → Bool
@@ -97,11 +102,11 @@ searched dist n =
     (cond (all_filled s) Matched (failed_by n (first_none dist n)), s)
 
 -- what the call answers and leaves, by its guard: a refused call leaves the slots
-unfoldable pub answered : Answer → List ℤ → Matching × List ℤ → Matching × List ℤ
-answered (Ok u) slots found = found
-answered (Err r) slots found = (Refused r, slots)
+unfoldable pub answered : Answer → List ℤ → Matching × List ℤ → Result Matching Refusal × List ℤ
+answered (Ok u) slots found = (Ok found.0, found.1)
+answered (Err r) slots found = (Err r, slots)
 
 -- the answer, and the slots that the call leaves
-unfoldable pub compute_permutation : List ℤ → Cell → List Float → List Float → ℕ → Matching × List ℤ
+unfoldable pub compute_permutation : List ℤ → Cell → List Float → List Float → ℕ → Result Matching Refusal × List ℤ
 compute_permutation slots cell positions rotated n =
     answered (judged_matching (length slots) (length positions) (length rotated) n) slots (searched (distance cell positions rotated) n)

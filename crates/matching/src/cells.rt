@@ -14,25 +14,24 @@ pub struct Pair {
     pub slot: usize,
 }
 
-// What matching answers: document 01's true and false, or a refusal. A false is NoNumber where the search met a distance that is no number; the pair is the first
-// such position and slot.
+// What a call that is not refused answers: document 01's true and false. A false is NoNumber where the search met a distance that is no number; the pair is the
+// first such position and slot.
 #[derive(Clone, Copy)]
 pub enum Matching {
     Matched,
     NotMatched,
     NoNumber(Pair),
-    Refused(Refusal),
 }
 
 // The number of an answer: 0 for true, 64 for a plain false, 69 for a false with a pair that is no number, and document 01's number of a refusal.
-pub fn matching_number(m: Matching) -> u8
-    ensures { result ≡ matching_number m }
+pub fn matching_number(a: Result<Matching, Refusal>) -> u8
+    ensures { result ≡ matching_number a }
 {
-    match m {
-        Matching::Matched => 0,
-        Matching::NotMatched => 64,
-        Matching::NoNumber(_) => 69,
-        Matching::Refused(r) => u8::from(r),
+    match a {
+        Ok(Matching::Matched) => 0,
+        Ok(Matching::NotMatched) => 64,
+        Ok(Matching::NoNumber(_)) => 69,
+        Err(r) => u8::from(r),
     }
 }
 
@@ -68,11 +67,9 @@ pub fn compute_permutation(
     pos: &[f64],
     rot_pos: &[f64],
     num_pos: usize,
-) -> Matching
+) -> Result<Matching, Refusal>
     ensures { (result, rot_atom.new) ≡ compute_permutation rot_atom.old cell pos.now rot_pos.now num_pos }
 {
-    match judge_matching(rot_atom.len(), pos.len(), rot_pos.len(), num_pos) {
-        Ok(()) => crate::slots::fill(rot_atom, cell, pos, rot_pos),
-        Err(r) => Matching::Refused(r),
-    }
+    judge_matching(rot_atom.len(), pos.len(), rot_pos.len(), num_pos)?;
+    Ok(crate::slots::fill(rot_atom, cell, pos, rot_pos))
 }

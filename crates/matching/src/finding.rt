@@ -1,31 +1,30 @@
 // The matcher that finds a match whenever there is one.
 
-ghost use Rattle.std.specs.Prelude.{◌≡◌, ◌≤◌, negsuc, length, replicate};
+ghost use Rattle.std.specs.Prelude.{Ok, ◌≡◌, ◌≤◌, negsuc, length, replicate};
 ghost use Rattle.distances.specs.Near.{near as nearOf};
 ghost use Rattle.matching.specs.Slots.{Triples};
-ghost use Rattle.matching.specs.FindPermutation.{finding_number, judged_finding, Result, Promise};
+ghost use Rattle.matching.specs.FindPermutation.{finding_number, judged_finding, Outcome, Promise};
 ghost use Rattle.matching.specs.Matching.{is_matched};
 
 use crate::cells::{Matching, judge_matching};
 use distances::Cell;
 use tables::Refusal;
 
-// What the call answers: a match was found, none exists, or a refusal.
+// What a call that is not refused answers: a match was found, or none exists.
 #[derive(Clone, Copy)]
 pub enum Finding {
     Found,
     NoMatch,
-    Refused(Refusal),
 }
 
 // The number of an answer: 0 found, 72 no match exists, and document 01's number of a refusal.
-pub fn finding_number(f: Finding) -> u8
-    ensures { result ≡ finding_number f }
+pub fn finding_number(a: Result<Finding, Refusal>) -> u8
+    ensures { result ≡ finding_number a }
 {
-    match f {
-        Finding::Found => 0,
-        Finding::NoMatch => 72,
-        Finding::Refused(r) => u8::from(r),
+    match a {
+        Ok(Finding::Found) => 0,
+        Ok(Finding::NoMatch) => 72,
+        Err(r) => u8::from(r),
     }
 }
 
@@ -53,7 +52,6 @@ fn is_matched(m: Matching) -> bool
         Matching::Matched => true,
         Matching::NotMatched => false,
         Matching::NoNumber(_) => false,
-        Matching::Refused(_) => false,
     }
 }
 
@@ -70,8 +68,8 @@ fn find(rot_atom: &mut [i64], marks: &mut [u8], cell: Cell, pos: &[f64], rot_pos
     requires { (length rot_atom.old ≤ 1024)
         × (length marks.old ≡ length rot_atom.old)
         × Triples (length rot_atom.old) (length pos.now) (length rot_pos.now) }
-    ensures { Result (nearOf cell pos.now rot_pos.now) (length rot_atom.old)
-        (result, rot_atom.new, marks.new) }
+    ensures { Outcome (nearOf cell pos.now rot_pos.now) (length rot_atom.old)
+        (Ok result, rot_atom.new, marks.new) }
 {
     let m = crate::slots::fill(rot_atom, cell, pos, rot_pos);
     if is_matched(m) {
@@ -94,19 +92,16 @@ pub fn find_permutation(
     pos: &[f64],
     rot_pos: &[f64],
     num_pos: usize,
-) -> Finding
+) -> Result<Finding, Refusal>
     ensures { Promise rot_atom.old marks.old cell pos.now rot_pos.now num_pos
         (result, rot_atom.new, marks.new) }
 {
-    let judged = judge_finding(
+    judge_finding(
         rot_atom.len(),
         marks.len(),
         pos.len(),
         rot_pos.len(),
         num_pos,
-    );
-    match judged {
-        Ok(()) => find(rot_atom, marks, cell, pos, rot_pos),
-        Err(r) => Finding::Refused(r),
-    }
+    )?;
+    Ok(find(rot_atom, marks, cell, pos, rot_pos))
 }

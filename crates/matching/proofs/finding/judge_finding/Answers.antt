@@ -1,7 +1,5 @@
 use Rattle.std.proofs.lemmas.Result.{err_from_is_err_and}
 use Rattle.tables.specs.Answers.{passes, refuses}
-use mathlib.Core.Path.{sym, ◌∙◌}
-use Rattle.tables.specs.Answers.{is_done}
 use Rattle.matching.proofs.FindingOutcomeLaws.{positions-refused, marks-wrong, marks-right}
 use Rattle.matching.proofs.finding.judge_finding.Goals as goal
 
