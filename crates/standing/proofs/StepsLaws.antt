@@ -177,6 +177,9 @@ gathered-no b w l = refl
 
 -- ---- the loop that appends
 
+pub adds-first : (s l : List ℕ) (count m : ℕ) → add_all s count (take m l) ≡ add_all s count (drop 0 (take m l))
+adds-first s l count m = refl
+
 pub adds-more : (s lent left l : List ℕ) (count long i : ℕ) {r : Result ℕ Refusal} → i < length l → (r, left) ≡ appended lent long (retirement (get_or l i 0))
     → add_all s count l ≡ add_all lent long (drop i l) → add_all s count l ≡ add_all left (long + 14) (drop (i + 1) l)
 adds-more s lent left l count long i h e q =
