@@ -1,6 +1,6 @@
 -- What a difference report says of a set that is alike: still, or no number where a number is NaN or an infinity. So what a symmetrizer leaves is still
 -- where it is finite: `SameReadOuts` is what crate `laws` proves of it. Assumes nothing.
-use Rattle.std.specs.Prelude.{None, Ok, ◌≡◌, refl, Bool, true, false, ◌&&◌, ◌⊎◌, ℕ, zero, suc, ◌+◌, ◌*◌, ◌-◌, ◌/◌, ◌%◌, ◌^◌, ◌<◌, ℤ, length, get_or, Float}
+use Rattle.std.specs.Prelude.{None, Ok, ◌≡◌, refl, Bool, true, false, ◌⊎◌, ℕ, zero, suc, ◌+◌, ◌*◌, ◌-◌, ◌/◌, ◌%◌, ◌^◌, ◌<◌, length, get_or, Float}
 use Rattle.std.proofs.Common.{sym, ◌∙◌, subst, inl, inr, mul-pos, zero-lt-suc, le_refl, div-lt_iff_lt-mul, mod-lt, arith, pow_pos, eq-eqb, le-ltb}
 use Rattle.std.proofs.Math.Path.{ap}
 use Rattle.std.proofs.lemmas.Bool.{false≢true}

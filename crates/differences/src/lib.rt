@@ -3,6 +3,7 @@
 // each position of a block, a row for each.
 #![tactic(auto)]
 
+pub mod any_order;
 pub mod fourth;
 pub mod second;
 pub mod third;
