@@ -1,6 +1,6 @@
 -- What gf_compute_permutation answers and leaves: the lattice comes as a slice, which may have another length than nine, the flags of the axes as one that may have
 -- another than three, and the pair that a failed match names goes into two lent slots. Assumes nothing.
-use Rattle.std.specs.Prelude.{Err, ◌≡◌, Bool, true, false, cond, not, ◌&&◌, ℕ, ◌≤◌, ◌<◌, eqb, ℤ, length, get_or, set, Float}
+use Rattle.std.specs.Prelude.{Result, Ok, Err, ◌≡◌, Bool, true, false, cond, not, ◌&&◌, ℕ, ◌≤◌, ◌<◌, eqb, ℤ, length, get_or, set, Float}
 use Rattle.std.proofs.Math.Path.{refl, ap}
 use Rattle.std.proofs.Common.{◌∙◌, arith}
 use mathlib.Core.List.{List, [], ◌∷◌}
@@ -14,18 +14,18 @@ use Rattle.tables.specs.Conditions.{any_above}
 use Rattle.distances.specs.declared.Cell.{Cell}
 use Rattle.matching.specs.declared.cells.Pair.{Pair}
 use Rattle.matching.specs.declared.cells.Matching.{Matching}
-use Rattle.matching.specs.declared.cells.Matching.TheVariants.{Matched, NotMatched, NoNumber, Refused}
+use Rattle.matching.specs.declared.cells.Matching.TheVariants.{Matched, NotMatched, NoNumber}
 use Rattle.matching.specs.Matching.{matching_number, compute_permutation}
 
 -- what the two slots are left at: the pair that a failed match names, or what they held
-unfoldable pub pair_left : Matching → List ℕ → List ℕ
-pair_left Matched pair = pair
-pair_left NotMatched pair = pair
-pair_left (NoNumber p) pair = p.position ∷ p.slot ∷ []
-pair_left (Refused r) pair = pair
+unfoldable pub pair_left : Result Matching Refusal → List ℕ → List ℕ
+pair_left (Ok Matched) pair = pair
+pair_left (Ok NotMatched) pair = pair
+pair_left (Ok (NoNumber p)) pair = p.position ∷ p.slot ∷ []
+pair_left (Err r) pair = pair
 
 -- the number of the answer, the slots that the call leaves, and the pair
-abbrev pub matching_slots : Matching × List ℤ → List ℕ → ℕ × List ℤ × List ℕ
+abbrev pub matching_slots : Result Matching Refusal × List ℤ → List ℕ → ℕ × List ℤ × List ℕ
 matching_slots (m, slots) pair = (matching_number m, slots, pair_left m pair)
 
 -- a byte for each axis: 0 where the cell does not repeat along it
@@ -65,31 +65,31 @@ two_slots (_ ∷ []) i j e = absurd (omega (arith, e))
 two_slots (_ ∷ (_ ∷ [])) i j e = refl
 two_slots (_ ∷ (_ ∷ (_ ∷ _))) i j e = absurd (omega (arith, e))
 
-module _ (pair : List ℕ) (m : Matching) where
+module _ (pair : List ℕ) (m : Result Matching Refusal) where
   -- each answer, as it is told
-  pub of_matched : m ≡ Matched → pair ≡ pair_left m pair
+  pub of_matched : m ≡ Ok Matched → pair ≡ pair_left m pair
   unfolding pair_left
   of_matched e = rw e refl
 
-  pub of_not : m ≡ NotMatched → pair ≡ pair_left m pair
+  pub of_not : m ≡ Ok NotMatched → pair ≡ pair_left m pair
   unfolding pair_left
   of_not e = rw e refl
 
-  pub of_none : (p : Pair) (left : List ℕ) → m ≡ NoNumber p → left ≡ (p.position ∷ p.slot ∷ []) → left ≡ pair_left m pair
+  pub of_none : (p : Pair) (left : List ℕ) → m ≡ Ok (NoNumber p) → left ≡ (p.position ∷ p.slot ∷ []) → left ≡ pair_left m pair
   unfolding pair_left
   of_none p left e l = rw (l, e) refl
 
-  pub of_refused : (r : Refusal) → m ≡ Refused r → pair ≡ pair_left m pair
+  pub of_refused : (r : Refusal) → m ≡ Err r → pair ≡ pair_left m pair
   unfolding pair_left
   of_refused r e = rw e refl
 
 module _ (slots : List ℤ) (lattice : List Float) (symprec : Float) (periodic : List ℕ) (positions rotated : List Float) (pair : List ℕ) (n : ℕ) where
   -- the call, step by step: cell is the cell that was made, m the answer, left the slots after the call, q what the pair is left at, r the answer's number
-  pub matched : (cell : Cell) (m : Matching) (left : List ℤ) (q : List ℕ) (r : ℕ) → (m, left) ≡ compute_permutation slots cell positions rotated n → q ≡ pair_left m pair → r ≡ matching_number m
+  pub matched : (cell : Cell) (m : Result Matching Refusal) (left : List ℤ) (q : List ℕ) (r : ℕ) → (m, left) ≡ compute_permutation slots cell positions rotated n → q ≡ pair_left m pair → r ≡ matching_number m
       → call_fits (length lattice) (length periodic) (length pair) ≡ true → cell ≡ cell_of lattice symprec periodic → (r, left, q) ≡ permutation slots lattice symprec periodic positions rotated pair n
   unfolding permutation
   matched cell m left q r p t k fit made =
-      ap (λ (x : ℕ). (x, left, q)) k ∙ ap (λ (x : List ℕ). (matching_number m, left, x)) t ∙ ap (λ (x : Matching × List ℤ). matching_slots x pair) p
+      ap (λ (x : ℕ). (x, left, q)) k ∙ ap (λ (x : List ℕ). (matching_number m, left, x)) t ∙ ap (λ (x : Result Matching Refusal × List ℤ). matching_slots x pair) p
       ∙ ap (λ (x : Cell). matching_slots (compute_permutation slots x positions rotated n) pair) made
       ∙ rw fit refl
 

@@ -1,7 +1,7 @@
 -- What the explanation of shift tables leaves in its five slots. Assumes nothing.
 use Rattle.std.specs.Prelude.{◌≡◌, cond, List, [], ◌∷◌, ℕ, eqb, length, set}
 use Rattle.std.proofs.Math.Path.{refl, ap}
-use Rattle.std.proofs.Common.{sym, ◌∙◌, arith, eq-eqb, ne_eqb}
+use Rattle.std.proofs.Common.{◌∙◌, arith, eq-eqb, ne_eqb}
 use Rattle.tables.specs.Answers.{number_of}
 use Rattle.tables.specs.Compact.{ShiftTables}
 use Rattle.explain.specs.declared.Explanation.{Explanation}

@@ -3,8 +3,8 @@ ghost use Rattle.std.specs.Prelude.{◌≡◌, length};
 ghost use Rattle.tables.specs.Compact.{shift_tables};
 ghost use Rattle.capi_cells.specs.Explained.{slots_of, explain_call};
 
-use tables::shift_tables::ShiftTables;
 use explain::Explanation;
+use tables::shift_tables::ShiftTables;
 
 // Puts an explanation into the five slots.
 fn put(e: Explanation, place: &mut [usize])

@@ -21,8 +21,8 @@ pub extern "C" fn gf_find_permutation(
 {
     if crate::cell_fits(lattice.len(), periodic.len()) {
         let cell = crate::cell_of(lattice, symprec, periodic);
-        let f = matching::finding::find_permutation(rot_atom, marks, cell, pos, rot_pos, num_pos);
-        return matching::finding::finding_number(f);
+        let a = matching::finding::find_permutation(rot_atom, marks, cell, pos, rot_pos, num_pos);
+        return matching::finding::finding_number(a);
     }
     if num_pos > LIMIT2 {
         return 1;

@@ -13,10 +13,11 @@ ghost use Rattle.tables.specs.Limits.{limit2};
 ghost use Rattle.tables.specs.Compact.{shift_tables, judged_tables};
 ghost use Rattle.capi_cells.specs.Cells.{flags_of, cell_of, cell_fits, call_fits, pair_left, permutation};
 
-use tables::shift_tables::ShiftTables;
 use distances::Cell;
 use matching::cells::{Matching, Pair};
+use tables::Refusal;
 use tables::limits::LIMIT2;
+use tables::shift_tables::ShiftTables;
 
 // The nearest whole number as an integer.
 #[unsafe(no_mangle)]
@@ -127,17 +128,13 @@ fn put(p: Pair, pair: &mut [usize])
 }
 
 // Puts the pair that a failed match names into the two slots.
-fn tell(m: Matching, pair: &mut [usize])
+#[tactic(auto, unfolding(crate::specs::Cells::pair_left))]
+fn tell(a: Result<Matching, Refusal>, pair: &mut [usize])
     requires { length pair.old ≡ 2 }
-    ensures { pair.new ≡ pair_left m pair.old }
+    ensures { pair.new ≡ pair_left a pair.old }
 {
-    match m {
-        Matching::Matched => {}
-        Matching::NotMatched => {}
-        Matching::NoNumber(p) => {
-            put(p, pair);
-        }
-        Matching::Refused(_) => {}
+    if let Ok(Matching::NoNumber(p)) = a {
+        put(p, pair);
     }
 }
 
@@ -161,9 +158,9 @@ pub extern "C" fn gf_compute_permutation(
 {
     if call_fits(lattice.len(), periodic.len(), pair.len()) {
         let cell = cell_of(lattice, symprec, periodic);
-        let m = matching::cells::compute_permutation(rot_atom, cell, pos, rot_pos, num_pos);
-        tell(m, pair);
-        return matching::cells::matching_number(m);
+        let a = matching::cells::compute_permutation(rot_atom, cell, pos, rot_pos, num_pos);
+        tell(a, pair);
+        return matching::cells::matching_number(a);
     }
     if num_pos > LIMIT2 {
         return 1;

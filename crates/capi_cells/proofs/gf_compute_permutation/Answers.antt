@@ -17,7 +17,7 @@ pub returns-then-call_fits : goal.returns-then-call_fits
 returns-then-call_fits c =
     let a = c.args in
     matched a.rot_atom.now a.lattice.now a.symprec a.periodic.now a.pos.now a.rot_pos.now a.pair.now a.num_pos _ _ _ _ _
-    c.compute_permutation-m.ensures c.tell.ensures c.matching_number.ensures (sym c.call_fits.ensures ∙ c.if-call_fits.true) c.cell_of-cell.ensures
+    c.compute_permutation-a.ensures c.tell.ensures c.matching_number.ensures (sym c.call_fits.ensures ∙ c.if-call_fits.true) c.cell_of-cell.ensures
 
 pub returns-then-num_pos-gt-LIMIT2 : goal.returns-then-num_pos-gt-LIMIT2
 returns-then-num_pos-gt-LIMIT2 c =

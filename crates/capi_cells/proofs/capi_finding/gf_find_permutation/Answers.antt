@@ -13,7 +13,7 @@ pub returns-then-cell_fits : goal.returns-then-cell_fits
 returns-then-cell_fits c =
     let a = c.args in
     found a.rot_atom.now a.marks.now a.lattice.now a.symprec a.periodic.now a.pos.now a.rot_pos.now a.num_pos _ _ _ _ _
-    c.find_permutation-f.ensures c.finding_number.ensures (sym c.cell_fits.ensures ∙ c.if-cell_fits.true) c.cell_of-cell.ensures
+    c.find_permutation-a.ensures c.finding_number.ensures (sym c.cell_fits.ensures ∙ c.if-cell_fits.true) c.cell_of-cell.ensures
 
 pub returns-then-num_pos-gt-LIMIT2 : goal.returns-then-num_pos-gt-LIMIT2
 returns-then-num_pos-gt-LIMIT2 c =
