@@ -1,5 +1,5 @@
 -- The audit block by block: what a look at a block says of the set. For every rank at once. Assumes nothing.
-use Rattle.std.specs.Prelude.{None, Ok, Some, ◌≡◌, refl, Bool, ◌||◌, ◌⊎◌, ℕ, zero, suc, ◌+◌, ◌*◌, ◌-◌, ◌/◌, ◌%◌, ◌≤◌, ◌<◌, Float}
+use Rattle.std.specs.Prelude.{None, Ok, Some, ◌≡◌, refl, ◌⊎◌, ℕ, ◌+◌, ◌*◌, ◌≤◌, ◌<◌, Float}
 use Rattle.std.proofs.Math.Path.{sym, ap, ap₂, subst}
 use Rattle.std.proofs.Common.{◌∙◌, inl, inr, arith, ltb-true, lt-ltb}
 use Rattle.std.proofs.Math.Bool.{true, false, cond}
@@ -14,8 +14,6 @@ use Rattle.tables.specs.Shifts.{Shifts, Laws}
 use Rattle.places.specs.Places.{size, in_block}
 use Rattle.orbits.specs.Transposed.{counterpart, size_blocks}
 use Rattle.orbits.specs.Groups.{group_blocks}
-use Rattle.orbits.proofs.Scatter.{permuted-straight}
-use Rattle.audits.specs.declared.Difference.{Difference}
 use Rattle.lists.specs.Lowest.{lowest, Lowest, lowest_is, is_lowest, lowest-same}
 use Rattle.audits.specs.Audit.{reads, reads_another, unlike, first_place, first_order, difference_at, audited}
 use Rattle.audits.specs.Demand.{index_in}

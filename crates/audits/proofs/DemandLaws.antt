@@ -1,8 +1,6 @@
 -- ALIKE IS DEMAND 3'S STATEMENT: a set is alike exactly where all permutations of any legs read out the same number, for every rank at once.
 -- Assumes nothing.
-use Rattle.audits.specs.declared.Difference.{Difference}
-use Rattle.tables.specs.declared.Refusal.{Refusal}
-use Rattle.std.specs.Prelude.{None, Ok, ◌≡◌, refl, true, not, T, eqb, length}
+use Rattle.std.specs.Prelude.{None, Ok, ◌≡◌}
 use Rattle.std.proofs.Math.Path.{sym, ap}
 use Rattle.std.proofs.Common.{◌∙◌}
 use mathlib.Core.List.{List}
@@ -12,9 +10,7 @@ use lib.Ieee.{Float, nan, binary64, to_bits}
 use Rattle.tables.specs.Shifts.{Shifts, Laws}
 use Rattle.places.specs.Places.{stored, legs_at, address, place, at, read_out, stored-place, opened_legs, place-place, address_below}
 use Rattle.places.specs.Permutations.{permute_legs, Group}
-use Rattle.places.specs.Moves.{source, source-stored}
-use Rattle.lists.specs.Lowest.{lowest, lowest_is, is_lowest}
-use Rattle.audits.specs.Audit.{differ, reads, reads_another, unlike, first_place, audited, difference_at}
+use Rattle.audits.specs.Audit.{reads, audited}
 use Rattle.audits.specs.Demand.{Doubles, SameReadOuts, same-doubles, alike_at, at-alike, none_alike, alike-none, own-number, reads_legs}
 
 module _ (S : Shifts) (L : Laws S) (m : ℕ) (os : List (List ℕ)) (G : Group m os) (set : List Float) where

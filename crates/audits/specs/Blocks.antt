@@ -21,8 +21,7 @@ use Rattle.orbits.specs.Transposed.{counterpart, counterpart-below, permuted_is_
 use Rattle.orbits.specs.Groups.{group_blocks}
 use Rattle.orbits.proofs.Scatter.{permuted-straight}
 use Rattle.audits.specs.declared.Difference.{Difference}
-use Rattle.lists.specs.Lowest.{lowest, Lowest, lowest_is, is_lowest, lowest-same}
-use Rattle.audits.specs.Audit.{differ, reads, reads_another, unlike, first_place, first_order, difference_at, audited}
+use Rattle.audits.specs.Audit.{differ, reads, reads_another, unlike, audited}
 use Rattle.audits.specs.Demand.{index_in, none_alike}
 use Rattle.audits.specs.PlaceLaws.{reads-block, own_block}
 use Rattle.audits.specs.Kernel.{there, another, position_to, BlocksFit}
