@@ -1,13 +1,14 @@
 -- How the call goes from the guard's number to the explanation. Assumes nothing.
-use Rattle.std.specs.Prelude.{Ok, ◌≡◌, Bool, not, cond, ℕ, ◌≤◌, ◌<◌}
+use Rattle.std.specs.Prelude.{Ok, Err, ◌≡◌, Bool, not, cond, ℕ, ◌≤◌, ◌<◌}
 use Rattle.std.proofs.Math.Path.{refl}
 use Rattle.std.proofs.Common.{sym, ap, ◌∙◌, arith}
 use Rattle.std.proofs.Math.Bool.{true, false}
 use mathlib.Core.List.{[]}
 use borrow.Author.Tests.{not-true}
 use Rattle.tables.specs.Answers.{Answer}
-use Rattle.tables.specs.declared.Refusal.TheVariants.{CountAboveLimit, WrongLength, BadShiftTables}
-use Rattle.tables.specs.Answers.{number_of}
+use Rattle.tables.specs.declared.Refusal.{Refusal}
+use Rattle.tables.specs.declared.Refusal.TheVariants.{CountAboveLimit, WrongLength, IndexOutOfRange, BadShiftTables}
+use Rattle.tables.specs.Answers.{refusal_number, number_of}
 use Rattle.tables.specs.Limits.{limit2}
 use Rattle.tables.specs.Conditions.{any_above, any_wrong, not_above}
 use Rattle.tables.specs.Shifts.{Shifts, ruled}
@@ -78,6 +79,19 @@ module _ {A : Type 0} {k : ℕ} (x1 x2 x3 x6 x0 : A) where
   chain_0 false false false true e n1 n2 n3 n6 = absurd (n6 e)
   chain_0 false false false false e n1 n2 n3 n6 = refl
 
+-- the refusal of an answer, the sixth where it has none
+abbrev refusal_in : Answer → Refusal
+refusal_in (Ok u) = BadShiftTables
+refusal_in (Err q) = q
+
+fourth : (a w o r : Bool) (q : Refusal) → ◌≡◌ {A = Answer} (Err q) (chain a w o r (Err CountAboveLimit) (Err WrongLength) (Err IndexOutOfRange) (Err BadShiftTables) (Ok tt))
+    → (q ≡ CountAboveLimit → ⊥) → (q ≡ WrongLength → ⊥) → (q ≡ IndexOutOfRange → ⊥) → q ≡ BadShiftTables
+fourth true w o r q e n1 n2 n3 = absurd (n1 (ap refusal_in e))
+fourth false true o r q e n1 n2 n3 = absurd (n2 (ap refusal_in e))
+fourth false false true r q e n1 n2 n3 = absurd (n3 (ap refusal_in e))
+fourth false false false true q e n1 n2 n3 = ap refusal_in e
+fourth false false false false q e n1 n2 n3 = ap refusal_in e
+
 module _ (T : ShiftTables) where
   abbrev a : Bool
   a = any_above limit2 (counts T)
@@ -101,6 +115,10 @@ module _ (T : ShiftTables) where
       go false false true r' ea ew eo er = rw (ea, ew, eo) refl
       go false false false true ea ew eo er = rw (ea, ew, eo, er) refl
       go false false false false ea ew eo er = rw (ea, ew, eo, er) refl
+
+  judged : judged_tables limit2 [] T ≡ chain a w o r (Err CountAboveLimit) (Err WrongLength) (Err IndexOutOfRange) (Err BadShiftTables) (Ok tt)
+  unfolding judged_tables judged_entries
+  judged = refl
 
   abbrev x1 : Explanation
   x1 = because CountAboveLimit (first_above limit2 (counts T)) 0 0 0
@@ -140,3 +158,26 @@ module _ (T : ShiftTables) where
     pub told_0 : (k ≡ 1 → ⊥) → (k ≡ 2 → ⊥) → (k ≡ 3 → ⊥) → (k ≡ 6 → ⊥) → x0 ≡ explain_shift_tables T
     unfolding explain_shift_tables
     told_0 n1 n2 n3 n6 = chain_0 x1 x2 (bad_entry T) (broken_rule (shifts_of T)) x0 a w o r number_is n1 n2 n3 n6
+
+  -- the same by the refusal itself
+  module _ {x : Answer} {q : Refusal} (ex : x ≡ judged_tables limit2 [] T) (is : x ≡ Err q) where
+    pub refused_1 : q ≡ CountAboveLimit → x1 ≡ explain_shift_tables T
+    refused_1 e = told_1 ex refl (ap number_of is ∙ ap refusal_number e)
+
+    pub refused_2 : q ≡ WrongLength → (T.n_satom ≤ 1024) × (T.num_trans ≤ 1024) × (x2 ≡ explain_shift_tables T)
+    refused_2 e = told_2 ex refl (ap number_of is ∙ ap refusal_number e)
+
+    pub refused_3 : q ≡ IndexOutOfRange → bad_entry T ≡ explain_shift_tables T
+    refused_3 e = told_3 ex refl (ap number_of is ∙ ap refusal_number e)
+
+    -- the guard has no other refusal than the sixth
+    pub refused_else : (q ≡ CountAboveLimit → ⊥) → (q ≡ WrongLength → ⊥) → (q ≡ IndexOutOfRange → ⊥)
+        → TablesFit 1024 T × (ruled (shifts_of T) ≡ false) × (broken_rule (shifts_of T) ≡ explain_shift_tables T)
+    refused_else n1 n2 n3 =
+        let e : q ≡ BadShiftTables = fourth a w o r q (sym is ∙ ex ∙ judged) n1 n2 n3 in
+        told_6 ex refl (ap number_of is ∙ ap refusal_number e)
+
+  pub accepted : {x : Answer} {u : Unit {0}} → x ≡ judged_tables limit2 [] T → x ≡ Ok u → x0 ≡ explain_shift_tables T
+  accepted {x = x} ex is =
+      let z : number_of x ≡ 0 = ap number_of is in
+      told_0 ex refl (λ h. absurd (omega (arith, z, h))) (λ h. absurd (omega (arith, z, h))) (λ h. absurd (omega (arith, z, h))) (λ h. absurd (omega (arith, z, h)))

@@ -1,13 +1,13 @@
 -- What an explanation means: its answer is the guard's, and what it names is the first thing that is wrong. Assumes nothing.
-use Rattle.std.specs.Prelude.{◌≡◌, refl, false, cond, ◌&&◌, ◌||◌, ◌⊎◌, List, [], ℤ, pos, length, get_or}
+use Rattle.std.specs.Prelude.{◌≡◌, refl, false, ◌&&◌, ◌||◌, List, [], ℤ, pos, length, get_or}
 use Rattle.std.proofs.Math.Path.{sym, ap}
-use Rattle.std.proofs.Common.{◌∙◌, inl, inr, arith}
+use Rattle.std.proofs.Common.{◌∙◌, arith}
 use Rattle.std.proofs.Math.Bool.{Bool, true, not}
 use Prim.Native.Nat.{ℕ, zero, suc, ◌<◌}
 use Rattle.std.proofs.Math.Dec.{eqb}
 use borrow.Author.Tests.{not-true, not-false}
-use Rattle.lists.specs.Tests.{every, some, every-at, every_of, some_at, some_of, and_fst, and_snd, both, same_test, split, refuted, not-both}
-use Rattle.lists.specs.Lowest.{lowest, lowest-passes, lowest_fails}
+use Rattle.lists.specs.Tests.{every, some, every-at, every_of, some_at, some_of, and_fst, and_snd, both, same_test, refuted, not-both}
+use Rattle.lists.specs.Lowest.{lowest_fails}
 use Rattle.tables.specs.Limits.{limit2}
 use Rattle.tables.specs.Conditions.{any_above, any_wrong, below, out_of_range, none_out}
 use Rattle.tables.specs.Shifts.{Shifts, row, p2s_at, s2pp_at, nsym_at, distinct, is_after, follows, counts_agree, rows_injective, has_null, rows_closed, rows_free, p2s_back, s2pp_kept, nsym_lands, ruled}

@@ -142,26 +142,20 @@ fn broken_rule(tables: &ShiftTables) -> Explanation
 pub fn explain_shift_tables(tables: &ShiftTables) -> Explanation
     ensures { result ≡ explain_shift_tables (given tables.now) }
 {
-    let a = check_shift_tables(tables);
-    let n = tables::number(a);
-    if n == 1 {
-        return because(Refusal::CountAboveLimit, first_above(tables), 0, 0, 0);
-    }
-    if n == 2 {
-        let i = first_wrong(tables);
-        return because(Refusal::WrongLength, i, 0, 0, 0);
-    }
-    if n == 3 {
-        return bad_entry(tables);
-    }
-    if n == 6 {
-        return broken_rule(tables);
-    }
-    Explanation {
-        answer: Ok(()),
-        which: 0,
-        first: 0,
-        second: 0,
-        third: 0,
+    match check_shift_tables(tables) {
+        Ok(()) => Explanation {
+            answer: Ok(()),
+            which: 0,
+            first: 0,
+            second: 0,
+            third: 0,
+        },
+        Err(r) => match r {
+            Refusal::CountAboveLimit => because(r, first_above(tables), 0, 0, 0),
+            Refusal::WrongLength => because(r, first_wrong(tables), 0, 0, 0),
+            Refusal::IndexOutOfRange => bad_entry(tables),
+            // BadShiftTables: the guard has no other refusal
+            _ => broken_rule(tables),
+        },
     }
 }
