@@ -1,15 +1,12 @@
 -- A swap that is not refused has lawful tables and legs below 4, and what it leaves is what its definition says. Assumes nothing.
-use Rattle.std.specs.Prelude.{Ok, ◌≡◌, refl, Bool, true, false, not, ◌||◌, cond, List, [], ◌∷◌, ℕ, ◌≤◌, ◌<◌, eqb, length, replicate, Float}
-use Rattle.std.proofs.Common.{sym, ◌∙◌, true≢false, arith, lit≤, lt-ltb, le-ltb, eq-eqb, ne_eqb}
+use Rattle.std.specs.Prelude.{Ok, ◌≡◌, true, false, List, ℕ, ◌<◌, length, replicate, Float}
+use Rattle.std.proofs.Common.{sym, ◌∙◌, lit≤}
 use Rattle.std.proofs.Math.Path.{ap, ap₂}
 use Rattle.tables.specs.Answers.{Answer}
-use Rattle.tables.specs.declared.Refusal.TheVariants.{CountAboveLimit, WrongLength, IndexOutOfRange, BadShiftTables}
-use Rattle.tables.specs.Answers.{number_of, is_refusal, after, refuse_if, is_done, refused_call, done_call}
-use Rattle.tables.specs.Conditions.{any_above, any_wrong, not_above}
-use Rattle.tables.specs.Shifts.{Shifts, Laws, ruled}
-use Rattle.tables.specs.Compact.{ShiftTables, shifts_of, table_lengths, tables_out_of_range, judged_entries, judged_tables, judged_compact}
+use Rattle.tables.specs.Answers.{is_refusal, after, is_done, refused_call, done_call}
+use Rattle.tables.specs.Shifts.{Laws}
+use Rattle.tables.specs.Compact.{ShiftTables, shifts_of, judged_compact}
 use Rattle.tables.proofs.CompactLaws.{done_compact}
-use Rattle.tables.specs.Lengths.{set_blocks, set_length}
 use Rattle.tables.specs.Limits.{limit4}
 use Rattle.orbits.specs.HalfShift.{Trading, trading}
 use Rattle.orbits.specs.TrueTransposes.{swapped}

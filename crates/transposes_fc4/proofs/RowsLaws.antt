@@ -1,20 +1,12 @@
 -- The pairs of numbers of a block that the table of direction addresses gives for two legs are those that change places where these legs do. Assumes nothing.
-use Rattle.std.specs.Prelude.{◌≡◌, Bool, true, ℕ, zero, suc, ◌+◌, ◌*◌, ◌<◌, List, [], ◌∷◌, eqb, ltb, get_or}
-use Rattle.std.proofs.Math.Path.{refl, sym, ap, ap₂}
-use Rattle.std.proofs.Common.{◌∙◌, arith, lit<}
-use Rattle.std.proofs.Math.Decide.{ℕ_discrete}
-use borrow.Author.Tests.{eqb-true, ltb-true}
-use Rattle.lists.specs.Tab.{tab, tab_from, get_or-tab}
-use Rattle.lists.specs.Tests.{every, every-at}
-use Rattle.lists.specs.Elements.{pick}
-use Rattle.lists.specs.Digits.{horner, rest, digits}
+use Rattle.std.specs.Prelude.{◌≡◌, ℕ, ◌<◌, List, get_or}
+use borrow.Author.Tests.{eqb-true}
+use Rattle.lists.specs.Tab.{get_or-tab}
+use Rattle.lists.specs.Tests.{every-at}
 use Rattle.blocks.specs.Permuted.{permuted}
 use Rattle.transposes_fc4.specs.Pairs.{from_pairs, Inside54}
-use Rattle.places.specs.Permutations.{perms4}
 use Rattle.positions.specs.Positions.{permutation_at, permuted_in}
-use Rattle.places.specs.Moves.{order4}
-use Rattle.orbits.specs.Exchanging.{partner, exchanging, partner-one, partner-two, partner_else}
-use Rattle.orbits.specs.Moved.{exchanges4}
+use Rattle.orbits.specs.Exchanging.{exchanging}
 use Rattle.orbits.specs.Exchanging.{exchanging_permutes, exchanging-twice}
 use Rattle.transposes_fc4.specs.Rows.{first_pairs, pair_row, taken_to, first_in_lem, exchanged_at, two-rows, first_two_lem}
 use Rattle.transposes_fc4.specs.Loops.{Swap}

@@ -1,20 +1,18 @@
 -- How a program judges the legs: by what the guard of the transposes answers for the tables. A leg above 3 is refusal 3, after 1 and 2 and before 6.
 -- Assumes nothing.
-use Rattle.std.specs.Prelude.{Err, Ok, ◌≡◌, refl, Bool, true, false, not, ◌||◌, cond, List, [], ◌∷◌, ℕ, ◌≤◌, ◌<◌, eqb, length, replicate, Float}
-use Rattle.std.proofs.Common.{sym, ◌∙◌, true≢false, arith, lit≤, lt-ltb, le-ltb, eq-eqb, ne_eqb}
-use Rattle.std.proofs.Math.Path.{ap, ap₂}
+use Rattle.std.specs.Prelude.{Err, Ok, ◌≡◌, refl, Bool, true, false, not, ◌||◌, cond, List, [], ◌∷◌, ℕ, ◌≤◌, ◌<◌, eqb, Float}
+use Rattle.std.proofs.Common.{sym, ◌∙◌, true≢false, arith, lt-ltb, le-ltb, eq-eqb, ne_eqb}
+use Rattle.std.proofs.Math.Path.{ap}
 use Rattle.tables.specs.Answers.{Answer}
 use Rattle.tables.specs.declared.Refusal.TheVariants.{CountAboveLimit, WrongLength, IndexOutOfRange, BadShiftTables}
-use Rattle.tables.specs.Answers.{number_of, is_refusal, after, refuse_if, is_done, refused_call, done_call}
+use Rattle.tables.specs.Answers.{number_of, is_refusal, refuse_if}
 use Rattle.tables.specs.Conditions.{any_above, any_wrong, not_above}
-use Rattle.tables.specs.Shifts.{Shifts, Laws, ruled}
+use Rattle.tables.specs.Shifts.{Shifts, ruled}
 use Rattle.tables.specs.Compact.{ShiftTables, shifts_of, table_lengths, tables_out_of_range, judged_entries, judged_tables, judged_compact}
-use Rattle.tables.proofs.CompactLaws.{done_compact}
 use Rattle.tables.specs.Lengths.{set_blocks, set_length}
 use Rattle.tables.specs.Limits.{limit4}
-use Rattle.orbits.specs.HalfShift.{Trading, trading}
 use Rattle.orbits.specs.TrueTransposes.{swapped}
-use Rattle.transposes_fc4.specs.Swaps.{judged_swap, swap_pairs_compact_fc4}
+use Rattle.transposes_fc4.specs.Swaps.{judged_swap}
 
 -- what the tables answer, with a leg above 3: refusals 1 and 2 come before it
 abbrev pub with_bad_leg : Answer → Answer

@@ -30,7 +30,6 @@ use Rattle.orbits.specs.HalfShift.{Sound, block_in, PairAt}
 use Rattle.orbits.specs.TrueTransposes.{swapped}
 use Rattle.orbits.specs.Moved.{stay_if, stay_if_lem}
 use Rattle.transposes_fc4.specs.Pairs.{from_pairs, Inside54, FirstTwo, same-positions}
-use Rattle.transposes_fc4.specs.Rows.{pair_row, taken_to, first_two_lem}
 
 -- an order of four legs that undoes itself and moves leg 1 to leg 0 only where no other moves, and the pairs of numbers of a block that change places
 -- under it

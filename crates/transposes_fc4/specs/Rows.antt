@@ -3,15 +3,15 @@ use Rattle.std.specs.Prelude.{◌≡◌, Bool, true, ℕ, zero, suc, ◌+◌, �
 use Rattle.std.proofs.Math.Path.{refl}
 use Rattle.std.proofs.Common.{sym, ap₂, ◌∙◌, arith, lit<}
 use Rattle.std.proofs.Math.Decide.{ℕ_discrete}
-use borrow.Author.Tests.{eqb-true, ltb-true}
+use borrow.Author.Tests.{ltb-true}
 use Rattle.lists.specs.Tab.{tab, tab_from, get_or-tab}
 use Rattle.lists.specs.Tests.{every, every-at}
 use Rattle.lists.specs.Elements.{pick}
 use Rattle.lists.specs.Digits.{horner, rest, digits}
 use Rattle.blocks.specs.Permuted.{permuted}
-use Rattle.transposes_fc4.specs.Pairs.{from_pairs, Inside54}
+use Rattle.transposes_fc4.specs.Pairs.{from_pairs}
 use Rattle.places.specs.Permutations.{perms4}
-use Rattle.positions.specs.Positions.{permutation_at, permuted_in}
+use Rattle.positions.specs.Positions.{permutation_at}
 use Rattle.places.specs.Moves.{order4}
 use Rattle.orbits.specs.Exchanging.{partner, exchanging, partner-one, partner-two, partner_else}
 use Rattle.orbits.specs.Moved.{exchanges4}

@@ -10,9 +10,9 @@ ghost use Rattle.transposes_fc4.specs.Guard.{with_bad_leg, with_legs};
 use crate::legs::exchange_legs;
 use lists::clear;
 use shifts::judge_compact;
+use tables::Refusal;
 use tables::limits::LIMIT4;
 use tables::shift_tables::ShiftTables;
-use tables::{Refusal, number};
 
 // Whether one of two legs is above 3.
 fn any_leg_above(leg_a: usize, leg_b: usize) -> bool
@@ -31,14 +31,10 @@ fn any_leg_above(leg_a: usize, leg_b: usize) -> bool
 fn with_bad_leg(t: Result<(), Refusal>) -> Result<(), Refusal>
     ensures { result ≡ with_bad_leg t }
 {
-    let n = number(t);
-    if n == 1 {
-        return t;
+    match t {
+        Err(Refusal::CountAboveLimit) | Err(Refusal::WrongLength) => t,
+        _ => Err(Refusal::IndexOutOfRange),
     }
-    if n == 2 {
-        return t;
-    }
-    Err(Refusal::IndexOutOfRange)
 }
 
 // What the tables answer, with two legs.

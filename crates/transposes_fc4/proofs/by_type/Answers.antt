@@ -7,7 +7,6 @@ use mir.Val.{to_z, of_z}
 use mir.ValLaws.{to_z-of_z}
 use Rattle.tables.specs.Compact.{shifts_of, given}
 use Rattle.transposes_fc4.specs.Fc4LoopLaws.{by_zero, by-other}
-use borrow.Author.Rules.{rules}
 use Rattle.transposes_fc4.proofs.by_type.Goals as goal
 
 pub exchange_legs-requires : goal.exchange_legs-requires

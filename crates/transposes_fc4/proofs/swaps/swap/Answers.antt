@@ -2,7 +2,6 @@ use mathlib.Core.Path.{◌∙◌}
 use Rattle.tables.specs.Compact.{given}
 use Rattle.transposes_fc4.specs.Loops.{swaps}
 use Rattle.transposes_fc4.specs.Guard.{swapped-none}
-use borrow.Author.Rules.{rules}
 use Rattle.transposes_fc4.proofs.swaps.swap.Goals as goal
 
 pub returns-then-leg_a-leg_b : goal.returns-then-leg_a-leg_b

@@ -1,6 +1,5 @@
 use Rattle.std.proofs.lemmas.Result.{err_from_is_err_and}
 use Rattle.tables.specs.Answers.{passes, refuses}
-use mathlib.Core.Path.{sym, ◌∙◌}
 use Rattle.transposes_fc4.proofs.GuardLaws.{swap-refused, swap-ready, swap-done}
 use Rattle.transposes_fc4.proofs.swaps.swap_pairs_compact_fc4.Goals as goal
 
