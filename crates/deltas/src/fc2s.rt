@@ -1,28 +1,16 @@
 // rotate_delta_fc2s (fc3.rs).
 ghost use Rattle.std.specs.Prelude.{◌≡◌};
-ghost use Rattle.std.proofs.Common.{lit≤};
 ghost use Rattle.deltas.specs.RotateDelta.{deltas_of, rotate_delta_fc2s};
 
 use crate::rows::{EachAtom, Share, with_share};
+use rotations::orders::Second;
 use tables::Refusal;
 
-// One block of deltas of second order.
-struct Block;
-
-impl Share<81> for Block {
-    ghost legs = { 2 };
-
-    ghost width = { 9 };
+// The share of a single block of second order.
+impl Share<81> for Second {
+    type Block = Second;
 
     ghost atoms = { 0 };
-
-    ghost some = { lit≤ tt };
-
-    ghost small = { lit≤ tt };
-
-    fn coefficients(m: [f64; 9]) -> [f64; 81] {
-        rotations::coefficients2(m)
-    }
 
     fn share(
         res: &mut [f64],
@@ -59,7 +47,7 @@ pub fn rotate_delta_fc2s(
         rot_map_syms.now num_atom num_site_sym num_disp in
         (result, fc3.new, rot_delta.new) ≡ rotate_delta_fc2s D fc3.old rot_delta.old }
 {
-    crate::rows::rotate_delta::<81, EachAtom<Block>>(
+    crate::rows::rotate_delta::<81, EachAtom<Second>>(
         tables::limits::LIMIT3,
         2,
         9,

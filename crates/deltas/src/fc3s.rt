@@ -1,28 +1,16 @@
 // rotate_delta_fc3s (fc4.rs).
 ghost use Rattle.std.specs.Prelude.{◌≡◌};
-ghost use Rattle.std.proofs.Common.{lit≤};
 ghost use Rattle.deltas.specs.RotateDelta.{deltas_of, rotate_delta_fc3s};
 
 use crate::rows::{EachAtom, Share, with_share};
+use rotations::orders::Third;
 use tables::Refusal;
 
-// One block of deltas of third order.
-struct Block;
-
-impl Share<729> for Block {
-    ghost legs = { 3 };
-
-    ghost width = { 27 };
+// The share of a single block of third order.
+impl Share<729> for Third {
+    type Block = Third;
 
     ghost atoms = { 0 };
-
-    ghost some = { lit≤ tt };
-
-    ghost small = { lit≤ tt };
-
-    fn coefficients(m: [f64; 9]) -> [f64; 729] {
-        rotations::coefficients3(m)
-    }
 
     fn share(
         res: &mut [f64],
@@ -58,7 +46,7 @@ pub fn rotate_delta_fc3s(
         rot_map_syms.now num_atom num_site_sym num_disp in
         (result, fc4.new, rot_delta.new) ≡ rotate_delta_fc3s D fc4.old rot_delta.old }
 {
-    crate::rows::rotate_delta::<729, EachAtom<EachAtom<Block>>>(
+    crate::rows::rotate_delta::<729, EachAtom<EachAtom<Third>>>(
         tables::limits::LIMIT4,
         3,
         27,

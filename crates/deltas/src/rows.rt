@@ -10,6 +10,7 @@ ghost use Rattle.deltas.specs.RotateDelta.{Deltas, deltas_of, rotated_deltas, ro
 ghost use Rattle.deltas.specs.Rows.{axpy, lead, with_share, spread, add_pair};
 ghost use Rattle.deltas.specs.Guard.{Ready, Images};
 
+use rotations::orders::Order;
 use std::marker::PhantomData;
 use tables::Refusal;
 
@@ -44,24 +45,12 @@ pub fn with_share<const W: usize, const B: usize>(s: [f64; B], x: [f64; W], u: [
     r
 }
 
-// Adds shares of the deltas, rotated, to blocks of the result: to a single block, or to all that have some atoms more. C is the number of a
-// rotation's coefficients.
+// Adds shares of the deltas, rotated, to blocks of the result: to a single block, or to all that have some atoms more.
 pub trait Share<const C: usize> {
-    // how many legs a block of the deltas has, how many numbers, and how many atoms more there are
-    ghost legs: { ℕ };
+    type Block: Order<C>;
 
-    ghost width: { ℕ };
-
+    // how many atoms more
     ghost atoms: { ℕ };
-
-    // a block has numbers, and the coefficients are few
-    ghost some: { 1 ≤ width };
-
-    ghost small: { C ≤ 6561 };
-
-    // The coefficients of a rotation.
-    fn coefficients(m: [f64; 9]) -> [f64; C]
-        ensures { result ≡ coefficientsOf m legs width };
 
     // Adds to the blocks below target the shares of those below source: target and source number the atoms before, and site symmetry s sends the atoms
     // to their images. c has the coefficients, u the column of inv_u.
@@ -77,11 +66,11 @@ pub trait Share<const C: usize> {
         num_atom: usize,
     )
         requires images { Images rot_map_syms.now (s * num_atom) num_atom }
-        requires blocks_in { BlocksIn num_atom (3 * width) atoms target (length res.old) × BlocksIn num_atom width atoms source (length deltas.now) }
+        requires blocks_in { BlocksIn num_atom (3 * Self.Block.width) atoms target (length res.old) × BlocksIn num_atom Self.Block.width atoms source (length deltas.now) }
         ensures { (m : List Float)
-            → c.now ≡ coefficientsOf m legs width
+            → c.now ≡ coefficientsOf m Self.Block.legs Self.Block.width
             → res.new
-            ≡ spread (λ j. index_at rot_map_syms.now (s * num_atom + j)) num_atom width u (rotated m legs) deltas.now atoms target
+            ≡ spread (λ j. index_at rot_map_syms.now (s * num_atom + j)) num_atom Self.Block.width u (rotated m Self.Block.legs) deltas.now atoms target
             source res.old };
 }
 
@@ -89,19 +78,9 @@ pub trait Share<const C: usize> {
 pub struct EachAtom<S>(PhantomData<S>);
 
 impl<const C: usize, S: Share<C>> Share<C> for EachAtom<S> {
-    ghost legs = { S.legs };
-
-    ghost width = { S.width };
+    type Block = S::Block;
 
     ghost atoms = { suc S.atoms };
-
-    ghost some = { S.some };
-
-    ghost small = { S.small };
-
-    fn coefficients(m: [f64; 9]) -> [f64; C] {
-        S::coefficients(m)
-    }
 
     fn share(
         res: &mut [f64],
@@ -136,14 +115,14 @@ fn add_pair<const C: usize, S: Share<C>>(
     num_site_sym: usize,
     num_disp: usize,
 )
-    requires order { (S.legs ≡ suc S.atoms) × (S.width ≡ 3 ^ suc S.atoms) }
+    requires order { (S.Block.legs ≡ suc S.atoms) × (S.Block.width ≡ 3 ^ suc S.atoms) }
     requires ready { let D : Deltas = deltas_of deltas.now inv_u.now site_sym_cart.now rot_map_syms.now num_atom num_site_sym num_disp in Ready D (suc S.atoms) }
     requires in_range { (i < num_atom) × (n < num_disp * num_site_sym) × (length res.old ≡ num_atom ^ suc S.atoms * (3 * 3 ^ suc S.atoms)) }
     ensures { let D : Deltas = deltas_of deltas.now inv_u.now site_sym_cart.now rot_map_syms.now num_atom num_site_sym num_disp in res.new ≡ add_pair D S.atoms i n res.old }
 {
     let s = places::column_of(n, num_site_sym);
     let d = places::row_of(n, num_site_sym);
-    let c = S::coefficients(blocks::read9(site_sym_cart, s));
+    let c = S::Block::coefficients(blocks::read9(site_sym_cart, s));
     let u = crate::column(inv_u, n, num_disp * num_site_sym);
     let image = tables::index::entry(rot_map_syms, s * num_atom + i);
     let from = places::index_of(d, num_atom, image);
@@ -162,7 +141,7 @@ fn rotate_row<const C: usize, S: Share<C>>(
     num_site_sym: usize,
     num_disp: usize,
 )
-    requires order { (S.legs ≡ suc S.atoms) × (S.width ≡ 3 ^ suc S.atoms) }
+    requires order { (S.Block.legs ≡ suc S.atoms) × (S.Block.width ≡ 3 ^ suc S.atoms) }
     requires ready { let D : Deltas = deltas_of deltas.now inv_u.now site_sym_cart.now rot_map_syms.now num_atom num_site_sym num_disp in Ready D (suc S.atoms) }
     requires in_range { (i < num_atom) × (length res.old ≡ num_atom ^ suc S.atoms * (3 * 3 ^ suc S.atoms)) }
     ensures { let D : Deltas = deltas_of deltas.now inv_u.now site_sym_cart.now rot_map_syms.now num_atom num_site_sym num_disp in res.new ≡ times (num_disp * num_site_sym) (add_pair D S.atoms i) res.old }
@@ -194,7 +173,7 @@ fn rotate_rows<const C: usize, S: Share<C>>(
     num_site_sym: usize,
     num_disp: usize,
 )
-    requires order { (S.legs ≡ suc S.atoms) × (S.width ≡ 3 ^ suc S.atoms) }
+    requires order { (S.Block.legs ≡ suc S.atoms) × (S.Block.width ≡ 3 ^ suc S.atoms) }
     requires ready { let D : Deltas = deltas_of deltas.now inv_u.now site_sym_cart.now rot_map_syms.now num_atom num_site_sym num_disp in Ready D (suc S.atoms) }
     requires in_range { length res.old ≡ num_atom ^ suc S.atoms * (3 * 3 ^ suc S.atoms) }
     ensures { let D : Deltas = deltas_of deltas.now inv_u.now site_sym_cart.now rot_map_syms.now num_atom num_site_sym num_disp in res.new ≡ rotated_deltas D (suc S.atoms) }
@@ -231,7 +210,7 @@ pub fn rotate_delta<const C: usize, S: Share<C>>(
     num_disp: usize,
 ) -> Result<(), Refusal>
     requires counts { (limit ≤ 256) × (m ≤ 3) × (w ≡ 3 ^ m) }
-    requires order { (m ≡ suc S.atoms) × (S.legs ≡ suc S.atoms) × (S.width ≡ 3 ^ suc S.atoms) }
+    requires order { (m ≡ suc S.atoms) × (S.Block.legs ≡ suc S.atoms) × (S.Block.width ≡ 3 ^ suc S.atoms) }
     ensures { let D : Deltas = deltas_of deltas.now inv_u.now site_sym_cart.now rot_map_syms.now num_atom num_site_sym num_disp in
         (result, res.new, rot_delta.new) ≡ rotate_delta limit m D res.old rot_delta.old }
 {

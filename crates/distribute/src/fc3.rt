@@ -1,28 +1,16 @@
 // distribute_fc3: the target slab receives the blocks of the source slab, rotated.
 ghost use Rattle.std.specs.Prelude.{◌≡◌};
-ghost use Rattle.std.proofs.Common.{lit≤};
 ghost use Rattle.distribute.specs.Fc3.{distribute_fc3};
 
 use crate::slabs::{EachAtom, Fill};
+use rotations::orders::Third;
 use tables::Refusal;
 
-// One block of third order.
-struct Block;
-
-impl Fill<729> for Block {
-    ghost legs = { 3 };
-
-    ghost width = { 27 };
+// A single block of third order.
+impl Fill<729> for Third {
+    type Block = Third;
 
     ghost atoms = { 0 };
-
-    ghost some = { lit≤ tt };
-
-    ghost small = { lit≤ tt };
-
-    fn coefficients(m: [f64; 9]) -> [f64; 729] {
-        rotations::coefficients3(m)
-    }
 
     fn fill(
         fc: &mut [f64],
@@ -50,7 +38,7 @@ pub fn distribute_fc3(
     ensures { (result, fc3.new)
         ≡ distribute_fc3 fc3.old target source atom_mapping.now num_atom rot_cart.now num_first }
 {
-    crate::slabs::distribute::<729, EachAtom<EachAtom<Block>>>(
+    crate::slabs::distribute::<729, EachAtom<EachAtom<Third>>>(
         tables::limits::LIMIT3,
         2,
         fc3,

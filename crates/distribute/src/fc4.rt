@@ -1,28 +1,16 @@
 // distribute_fc4: the target slab receives the blocks of the source slab, rotated.
 ghost use Rattle.std.specs.Prelude.{◌≡◌};
-ghost use Rattle.std.proofs.Common.{lit≤};
 ghost use Rattle.distribute.specs.Fc4.{distribute_fc4};
 
 use crate::slabs::{EachAtom, Fill};
+use rotations::orders::Fourth;
 use tables::Refusal;
 
-// One block of fourth order.
-struct Block;
-
-impl Fill<6561> for Block {
-    ghost legs = { 4 };
-
-    ghost width = { 81 };
+// A single block of fourth order.
+impl Fill<6561> for Fourth {
+    type Block = Fourth;
 
     ghost atoms = { 0 };
-
-    ghost some = { lit≤ tt };
-
-    ghost small = { lit≤ tt };
-
-    fn coefficients(m: [f64; 9]) -> [f64; 6561] {
-        rotations::coefficients4(m)
-    }
 
     fn fill(
         fc: &mut [f64],
@@ -50,7 +38,7 @@ pub fn distribute_fc4(
     ensures { (result, fc4.new)
         ≡ distribute_fc4 fc4.old target source atom_mapping.now num_atom rot_cart.now num_first }
 {
-    crate::slabs::distribute::<6561, EachAtom<EachAtom<EachAtom<Block>>>>(
+    crate::slabs::distribute::<6561, EachAtom<EachAtom<EachAtom<Fourth>>>>(
         tables::limits::LIMIT4,
         3,
         fc4,

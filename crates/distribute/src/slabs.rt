@@ -6,26 +6,16 @@ ghost use Rattle.rotations.specs.Rotation.{coefficients as coefficientsOf, rotat
 ghost use Rattle.blocks.specs.Inside.{BlocksIn};
 ghost use Rattle.distribute.specs.Slab.{judged_slabs, distribute_slab, move};
 
+use rotations::orders::Order;
 use std::marker::PhantomData;
 use tables::Refusal;
 
-// Fills blocks of a set from others of it, rotated: a single block, or all that have some atoms more. C is the number of a rotation's coefficients.
+// Fills blocks of a set from others of it, rotated: a single block, or all that have some atoms more.
 pub trait Fill<const C: usize> {
-    // how many legs a block has, how many numbers, and how many atoms more there are
-    ghost legs: { ℕ };
+    type Block: Order<C>;
 
-    ghost width: { ℕ };
-
+    // how many atoms more
     ghost atoms: { ℕ };
-
-    // a block has numbers, and the coefficients are few
-    ghost some: { 1 ≤ width };
-
-    ghost small: { C ≤ 6561 };
-
-    // The coefficients of a rotation.
-    fn coefficients(m: [f64; 9]) -> [f64; C]
-        ensures { result ≡ coefficientsOf m legs width };
 
     // Fills the blocks below target from those below source: these number the slab and the atoms before. c has the rotation's coefficients.
     fn fill(
@@ -37,29 +27,19 @@ pub trait Fill<const C: usize> {
         source: usize,
     )
         requires index_table { IndexTable num_atom num_atom atom_mapping.now }
-        requires blocks_in { BlocksIn num_atom width atoms target (length fc.old) × BlocksIn num_atom width atoms source (length fc.old) }
+        requires blocks_in { BlocksIn num_atom Self.Block.width atoms target (length fc.old) × BlocksIn num_atom Self.Block.width atoms source (length fc.old) }
         ensures { (m : List Float)
-            → c.now ≡ coefficientsOf m legs width
-            → fc.new ≡ move atom_mapping.now num_atom width (rotated m legs) atoms target source fc.old };
+            → c.now ≡ coefficientsOf m Self.Block.legs Self.Block.width
+            → fc.new ≡ move atom_mapping.now num_atom Self.Block.width (rotated m Self.Block.legs) atoms target source fc.old };
 }
 
 // What F fills, for each atom.
 pub struct EachAtom<F>(PhantomData<F>);
 
 impl<const C: usize, F: Fill<C>> Fill<C> for EachAtom<F> {
-    ghost legs = { F.legs };
-
-    ghost width = { F.width };
+    type Block = F::Block;
 
     ghost atoms = { suc F.atoms };
-
-    ghost some = { F.some };
-
-    ghost small = { F.small };
-
-    fn coefficients(m: [f64; 9]) -> [f64; C] {
-        F::coefficients(m)
-    }
 
     fn fill(
         fc: &mut [f64],
@@ -136,7 +116,7 @@ pub fn distribute<const C: usize, S: Fill<C>>(
     num_first: usize,
 ) -> Result<(), Refusal>
     requires counts { (limit ≤ 1024) × (k ≤ 3) }
-    requires order { (S.atoms ≡ k) × (S.legs ≡ suc k) × (S.width ≡ 3 ^ suc k) }
+    requires order { (S.atoms ≡ k) × (S.Block.legs ≡ suc k) × (S.Block.width ≡ 3 ^ suc k) }
     ensures { (result, fc.new)
         ≡ distribute_slab limit k fc.old target source atom_mapping.now num_atom rot_cart.now num_first }
 {
@@ -151,7 +131,7 @@ pub fn distribute<const C: usize, S: Fill<C>>(
         target,
         source,
     )?;
-    let c = S::coefficients(blocks::read9(rot_cart, 0));
+    let c = S::Block::coefficients(blocks::read9(rot_cart, 0));
     S::fill(fc, &c, atom_mapping, num_atom, target, source);
     Ok(())
 }

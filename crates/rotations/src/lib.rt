@@ -2,6 +2,8 @@
 // many places go side by side. Each sum has the same terms in the same order as if it stood alone.
 #![tactic(auto)]
 
+pub mod orders;
+
 ghost use Rattle.std.specs.Prelude.{◌≡◌, ℕ, ◌+◌, ◌*◌, ◌<◌, ◌≤◌, length, get_or};
 ghost use Rattle.std.specs.Float.{nan};
 ghost use Rattle.blocks.specs.Block.{put_block};

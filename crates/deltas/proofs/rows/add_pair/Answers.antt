@@ -42,7 +42,7 @@ index_of-from-requires g c =
     omega (arith, t.images.few)
 
 pub coefficients-c-requires : goal.coefficients-c-requires
-coefficients-c-requires g c = omega (arith, g.S.Share.small)
+coefficients-c-requires g c = omega (arith, g.S.Block.Order.small)
 
 pub share-requires : goal.share-requires
 share-requires g c =
@@ -56,7 +56,7 @@ share-requires g c =
     ∙ ap₂ (λ x z. x * a.num_atom + z) c.row_of-d.ensures (c.entry-image.ensures ∙ ap (λ x. index_at a.rot_map_syms.now (x * a.num_atom + a.i)) y)
     ∙ source_of_one D a.n a.i c.requires.in_range.0 in
     let z : 0 < a.num_atom = omega (arith, c.requires.in_range.0) in (
-      omega (arith, g.S.Share.small),
+      omega (arith, g.S.Block.Order.small),
       (
         subst (λ (x : ℕ). Images a.rot_map_syms.now (x * a.num_atom) a.num_atom) (sym y) t.images,
         (
@@ -70,8 +70,8 @@ pub returns : goal.returns
 unfolding add_pair
 returns g c =
     let a = c.args in
-    let S = g.S.Share in
-    let k = S.atoms in
+    let b = g.S.Block.Order in
+    let k = g.S.Share.atoms in
     let D : Deltas = deltas_of a.deltas.now a.inv_u.now a.site_sym_cart.now a.rot_map_syms.now a.num_atom a.num_site_sym a.num_disp in
     let R = block 9 (a.n % a.num_site_sym) a.site_sym_cart.now in
     let y = c.column_of-s.ensures in
@@ -79,8 +79,8 @@ returns g c =
     c.index_of-from.ensures
     ∙ ap₂ (λ x z. x * a.num_atom + z) c.row_of-d.ensures (c.entry-image.ensures ∙ ap (λ x. index_at a.rot_map_syms.now (x * a.num_atom + a.i)) y)
     ∙ source_of_one D a.n a.i c.requires.in_range.0 in
-    let ec : c.coefficients-c.result ≡ coefficients R S.legs S.width =
-    c.coefficients-c.ensures ∙ ap (λ x. coefficients x S.legs S.width) (c.read9.ensures ∙ ap (λ x. block 9 x a.site_sym_cart.now) y) in
+    let ec : c.coefficients-c.result ≡ coefficients R b.legs b.width =
+    c.coefficients-c.ensures ∙ ap (λ x. coefficients x b.legs b.width) (c.read9.ensures ∙ ap (λ x. block 9 x a.site_sym_cart.now) y) in
     let spread_of : ℕ → ℕ → ℕ → List Float = λ s m w. spread (λ j. index_at a.rot_map_syms.now (s * a.num_atom + j)) a.num_atom w c.column-u.result (rotated R m) a.deltas.now k a.i c.index_of-from.result a.res.now in
     c.share.ensures R ec
     ∙ ap₂ (spread_of c.column_of-s.result) c.requires.order.0 c.requires.order.1

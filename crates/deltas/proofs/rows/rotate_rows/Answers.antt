@@ -28,4 +28,4 @@ returns g c =
     let D : Deltas = deltas_of a.deltas.now a.inv_u.now a.site_sym_cart.now a.rot_map_syms.now a.num_atom a.num_site_sym a.num_disp in
     let i : l.i ≡ a.num_atom = omega arith in
     l.invariant.2 ∙ ap₂ (λ k x. times k (λ i. times (a.num_disp * a.num_site_sym) (add_pair D g.S.Share.atoms i)) x) i c.clear_floats.ensures
-    ∙ rows_all D g.S.Share.atoms (length a.res.now) (omega (arith, c.requires.order.1, g.S.Share.some)) c.requires.in_range
+    ∙ rows_all D g.S.Share.atoms (length a.res.now) (omega (arith, c.requires.order.1, g.S.Block.Order.some)) c.requires.in_range

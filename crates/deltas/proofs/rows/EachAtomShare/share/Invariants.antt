@@ -11,8 +11,9 @@ use Rattle.deltas.proofs.rows.EachAtomShare.share.Given as goal
 abbrev pub invariant-loop-j : goal.invariant-loop-j
 invariant-loop-j g l =
     let f = g.S.Share in
-    (m : List Float) → l.c ≡ coefficients m f.legs f.width
+    let b = g.S.Block.Order in
+    (m : List Float) → l.c ≡ coefficients m b.legs b.width
     → l.res
     ≡ times l.j
-    (λ j. spread (λ i. index_at l.rot_map_syms (l.s * l.num_atom + i)) l.num_atom f.width l.u (rotated m f.legs) l.deltas f.atoms (l.target * l.num_atom + j) (l.source * l.num_atom + index_at l.rot_map_syms (l.s * l.num_atom + j)))
+    (λ j. spread (λ i. index_at l.rot_map_syms (l.s * l.num_atom + i)) l.num_atom b.width l.u (rotated m b.legs) l.deltas f.atoms (l.target * l.num_atom + j) (l.source * l.num_atom + index_at l.rot_map_syms (l.s * l.num_atom + j)))
     l.initial.res

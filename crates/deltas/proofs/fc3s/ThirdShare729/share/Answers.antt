@@ -4,7 +4,7 @@ use Rattle.blocks.specs.Inside.{inside-block}
 use Rattle.rotations.specs.Rotation.{rotated}
 use Rattle.rotations.specs.Laws.{rotated_by}
 use Rattle.deltas.specs.Rows.{with_share, share, spread}
-use Rattle.deltas.proofs.fc3s.BlockShare729.share.Goals as goal
+use Rattle.deltas.proofs.fc3s.ThirdShare729.share.Goals as goal
 
 pub read27-requires : goal.read27-requires
 read27-requires c = let a = c.args in inside-block a._num_atom 27 a.source _ c.requires.blocks_in.1

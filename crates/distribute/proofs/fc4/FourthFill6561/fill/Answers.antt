@@ -4,7 +4,7 @@ use Rattle.blocks.specs.Inside.{inside-block}
 use Rattle.rotations.specs.Rotation.{rotated}
 use Rattle.rotations.specs.Laws.{rotated_by}
 use Rattle.distribute.specs.Slab.{move, move_block}
-use Rattle.distribute.proofs.fc4.BlockFill6561.fill.Goals as goal
+use Rattle.distribute.proofs.fc4.FourthFill6561.fill.Goals as goal
 
 pub read81-requires : goal.read81-requires
 read81-requires c = let a = c.args in inside-block a._num_atom 81 a.source _ c.requires.blocks_in.1

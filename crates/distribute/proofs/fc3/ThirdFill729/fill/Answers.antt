@@ -4,7 +4,7 @@ use Rattle.blocks.specs.Inside.{inside-block}
 use Rattle.rotations.specs.Rotation.{rotated}
 use Rattle.rotations.specs.Laws.{rotated_by}
 use Rattle.distribute.specs.Slab.{move, move_block}
-use Rattle.distribute.proofs.fc3.BlockFill729.fill.Goals as goal
+use Rattle.distribute.proofs.fc3.ThirdFill729.fill.Goals as goal
 
 pub read27-requires : goal.read27-requires
 read27-requires c = let a = c.args in inside-block a._num_atom 27 a.source _ c.requires.blocks_in.1

@@ -4,7 +4,7 @@ use Rattle.blocks.specs.Inside.{inside-block}
 use Rattle.rotations.specs.Rotation.{rotated}
 use Rattle.rotations.specs.Laws.{rotated_by}
 use Rattle.deltas.specs.Rows.{with_share, share, spread}
-use Rattle.deltas.proofs.fc2s.BlockShare81.share.Goals as goal
+use Rattle.deltas.proofs.fc2s.SecondShare81.share.Goals as goal
 
 pub read9-requires : goal.read9-requires
 read9-requires c = let a = c.args in inside-block a._num_atom 9 a.source _ c.requires.blocks_in.1
