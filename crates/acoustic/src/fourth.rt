@@ -10,12 +10,12 @@ ghost use Rattle.read_out.specs.Blocks.{block_of};
 ghost use Rattle.acoustic.specs.Acoustic.{without, without_drift, without_drifts};
 ghost use Rattle.acoustic.specs.Laws.{Room, less, drift_block, drift_put, row_less};
 
-use tables::shift_tables::ShiftTables;
 use crate::{scale_all, take_all};
 use blocks::{read81, write81};
 use legs::fourth::leg_sums;
 use places::{column_of, index_of, row_of, stored_block3};
 use tables::atoms::{PrimAtom, SuperAtom};
+use tables::shift_tables::ShiftTables;
 
 // The sums over leg `leg` times inv_n, where the other legs have the atoms of block r of third order.
 fn drift_block(fc4: &[f64], tables: &ShiftTables, leg: usize, inv_n: f64, r: usize) -> [f64; 81]
@@ -45,7 +45,14 @@ fn drifts(fc4: &[f64], drift: &mut [f64], tables: &ShiftTables, leg: usize)
 }
 
 // The stored block of third order that the atoms of the legs other than `leg` read out.
-fn other_block(tables: &ShiftTables, leg: usize, i: SuperAtom, j: SuperAtom, k: SuperAtom, l: SuperAtom) -> usize
+fn other_block(
+    tables: &ShiftTables,
+    leg: usize,
+    i: SuperAtom,
+    j: SuperAtom,
+    k: SuperAtom,
+    l: SuperAtom,
+) -> usize
     requires { TablesFit limit4 (given tables.now) × (leg ≤ 3) × (i.0 < tables.now.n_satom) × (j.0 < tables.now.n_satom) × (k.0 < tables.now.n_satom) × (l.0 < tables.now.n_satom) }
     ensures { result ≡ block_of (shifts_of (given tables.now)) (without leg (i.0 ∷ j.0 ∷ k.0 ∷ l.0 ∷ [])) }
 {

@@ -10,13 +10,13 @@ ghost use Rattle.acoustic.specs.Acoustic.{without_drifts, leveled, perm_trans_sy
 ghost use Rattle.acoustic.specs.Laws.{Room};
 ghost use Rattle.acoustic.specs.Fourth.{FullWork};
 
-use tables::shift_tables::ShiftTables;
 use crate::fourth::legs_off;
 use audits::guard::counted;
 use fc4::full::set_permutation_symmetry_fc4;
+use tables::Refusal;
 use tables::limits::{LIMIT_LEVEL, LIMIT4};
 use tables::sets::{judge_full, set_blocks};
-use tables::Refusal;
+use tables::shift_tables::ShiftTables;
 
 // The drift of every leg: a full set is a compact set in which every atom is its own representative.
 fn full_legs_off(fc4: &mut [f64], drift: &mut [f64], n: usize)
@@ -45,7 +45,8 @@ fn full_level(fc4: &mut [f64], done: &mut [u8], drift: &mut [f64], n: usize)
     ensures { fc4.new ≡ leveled mean24 (full_shifts n) 3 perms4 fc4.old }
 {
     full_legs_off(fc4, drift, n);
-    set_permutation_symmetry_fc4(fc4, done, n);
+    // All that it refuses was judged before.
+    let _ = set_permutation_symmetry_fc4(fc4, done, n);
 }
 
 fn full_levels(fc4: &mut [f64], done: &mut [u8], drift: &mut [f64], n: usize, level: usize)
@@ -63,7 +64,8 @@ fn full_symmetrize(fc4: &mut [f64], done: &mut [u8], drift: &mut [f64], n: usize
     ensures { fc4.new ≡ perm_trans_symmetrized mean24 (full_shifts n) 3 perms4 level fc4.old }
 {
     if level == 0 {
-        set_permutation_symmetry_fc4(fc4, done, n);
+        // All that it refuses was judged before.
+        let _ = set_permutation_symmetry_fc4(fc4, done, n);
         return;
     }
     full_levels(fc4, done, drift, n, level);
@@ -84,7 +86,13 @@ fn judge_lengths(set_len: usize, done_len: usize, drift_len: usize, n: usize) ->
 }
 
 // The same with the limit of the level.
-fn judge(set_len: usize, done_len: usize, drift_len: usize, n: usize, level: usize) -> Result<(), Refusal>
+fn judge(
+    set_len: usize,
+    done_len: usize,
+    drift_len: usize,
+    n: usize,
+    level: usize,
+) -> Result<(), Refusal>
     ensures { result ≡ judged_full_work_levels limit4 3 set_len done_len drift_len n level }
 {
     if level > LIMIT_LEVEL {

@@ -10,12 +10,12 @@ ghost use Rattle.read_out.specs.Blocks.{block_of};
 ghost use Rattle.acoustic.specs.Acoustic.{without, without_drift, without_drifts};
 ghost use Rattle.acoustic.specs.Laws.{Room, less, drift_block, drift_put, row_less};
 
-use tables::shift_tables::ShiftTables;
 use crate::{scale_all, take_all};
 use blocks::{read27, write27};
 use legs::third::leg_sums;
 use places::{column_of, index_of, row_of, stored_block2};
 use tables::atoms::{PrimAtom, SuperAtom};
+use tables::shift_tables::ShiftTables;
 
 // The sums over leg `leg` times inv_n, where the other legs have the atoms of block r of second order.
 fn drift_block(fc3: &[f64], tables: &ShiftTables, leg: usize, inv_n: f64, r: usize) -> [f64; 27]

@@ -10,13 +10,13 @@ ghost use Rattle.audits.specs.Guard.{full_tables};
 ghost use Rattle.acoustic.specs.Acoustic.{without_drifts, leveled, perm_trans_symmetrized, drift_length, judged_full_levels, perm_trans_symmetrize_full};
 ghost use Rattle.acoustic.specs.Laws.{Room};
 
-use tables::shift_tables::ShiftTables;
 use crate::third::legs_off;
 use audits::guard::counted;
 use fc3::full::symmetrize;
+use tables::Refusal;
 use tables::limits::{LIMIT_LEVEL, LIMIT3};
 use tables::sets::{judge_full, set_blocks};
-use tables::Refusal;
+use tables::shift_tables::ShiftTables;
 
 // The drift of every leg: a full set is a compact set in which every atom is its own representative.
 fn full_legs_off(fc3: &mut [f64], drift: &mut [f64], n: usize)

@@ -7,7 +7,6 @@ ghost use Rattle.audits.specs.Guard.{Ready, full_tables};
 ghost use Rattle.legs.specs.Legs.{leg_report_compact, leg_report_full};
 ghost use Rattle.legs.specs.Laws.{leg_block, block_sums, leg_seen, all_seen};
 
-use tables::shift_tables::ShiftTables;
 use crate::add_all;
 use audits::guard::counted;
 use places::{column_of, index_of, row_of, stored_block4};
@@ -18,6 +17,7 @@ use tables::Refusal;
 use tables::atoms::SuperAtom;
 use tables::limits::LIMIT4;
 use tables::sets::judge_full;
+use tables::shift_tables::ShiftTables;
 
 // The block with atom i on leg `leg`, and the atoms that t numbers on the others.
 fn leg_block(tables: &ShiftTables, leg: usize, t: usize, i: usize) -> usize

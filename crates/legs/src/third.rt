@@ -7,7 +7,6 @@ ghost use Rattle.audits.specs.Guard.{Ready};
 ghost use Rattle.legs.specs.Legs.{leg_report_compact};
 ghost use Rattle.legs.specs.Laws.{leg_block, block_sums, leg_seen, all_seen};
 
-use tables::shift_tables::ShiftTables;
 use crate::add_all;
 use places::{column_of, index_of, row_of, stored_block3};
 use reports::seen::{Seen, look_numbers, start};
@@ -16,6 +15,7 @@ use shifts::judge_set;
 use tables::Refusal;
 use tables::atoms::SuperAtom;
 use tables::limits::LIMIT3;
+use tables::shift_tables::ShiftTables;
 
 // The block with atom i on leg `leg`, and the atoms that t numbers on the others.
 fn leg_block(tables: &ShiftTables, leg: usize, t: usize, i: usize) -> usize

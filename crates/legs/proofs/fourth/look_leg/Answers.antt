@@ -67,7 +67,7 @@ loop-t-preserved c =
     let T : ShiftTables = given a.tables.now in
     let l = c.loop-t in
     let e : c.index_of-first.result ≡ (a.e * times_power a.tables.now.n_satom 3 1 + l.t) * 81 =
-    c.index_of-first.ensures ∙ zero_more _ ∙ ap (λ x. x * 81) (c.index_of.ensures ∙ ap (λ x. a.e * x + l.t) (power a.tables.now.n_satom)) in 
+    c.index_of-first.ensures ∙ zero_more _ ∙ ap (λ x. x * 81) (c.index_of.ensures ∙ ap (λ x. a.e * x + l.t) (power a.tables.now.n_satom)) in
     times_more l.t _ _ l.invariant (c.look_numbers-seen.ensures ∙ look_is (shifts_of T) 3 a.fc.now 81 a.e l.t l.seen e c.leg_sums-sums.ensures)
 
 pub returns : goal.returns

@@ -64,7 +64,7 @@ loop-t-preserved c =
     let T : ShiftTables = given a.tables.now in
     let l = c.loop-t in
     let e : c.index_of-first.result ≡ (a.e * times_power a.tables.now.n_satom 2 1 + l.t) * 27 =
-    c.index_of-first.ensures ∙ zero_more _ ∙ ap (λ x. x * 27) (c.index_of.ensures ∙ ap (λ x. a.e * x + l.t) (power a.tables.now.n_satom)) in 
+    c.index_of-first.ensures ∙ zero_more _ ∙ ap (λ x. x * 27) (c.index_of.ensures ∙ ap (λ x. a.e * x + l.t) (power a.tables.now.n_satom)) in
     times_more l.t _ _ l.invariant (c.look_numbers-seen.ensures ∙ look_is (shifts_of T) 2 a.fc.now 27 a.e l.t l.seen e c.leg_sums-sums.ensures)
 
 pub returns : goal.returns
