@@ -13,4 +13,4 @@ returns-in-Ok-End c =
 
 pub returns-in-Err : goal.returns-in-Err
 returns-in-Err c =
-    told-refused c.args.b.now c.args.at c.args.slots.now c.in-Err.is c.from.ensures
+    told-refused c.args.b.now c.args.at c.args.slots.now c.in-Err.is c.from-in-Err.ensures

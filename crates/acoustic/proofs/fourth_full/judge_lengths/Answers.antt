@@ -53,7 +53,7 @@ pub returns-then-drift_len-set_blocks : goal.returns-then-drift_len-set_blocks
 returns-then-drift_len-set_blocks c =
     let a = c.args in
     let j = c.judge_full in
-    both_right 64 3 a.set_len a.done_len a.drift_len a.n j.result j.ensures (passes c.in_ok-judge_full.was) (c.if-done_len-set_blocks.false ∙ c.set_blocks.ensures) (c.if-drift_len-set_blocks.true ∙ ap (λ x. x * 81) c.set_blocks-2.ensures ∙ drift81 a.n a.n)
+    sym c.in_ok-judge_full.was ∙ both_right 64 3 a.set_len a.done_len a.drift_len a.n j.result j.ensures (passes c.in_ok-judge_full.was) (c.if-done_len-set_blocks.false ∙ c.set_blocks.ensures) (c.if-drift_len-set_blocks.true ∙ ap (λ x. x * 81) c.set_blocks-2.ensures ∙ drift81 a.n a.n)
 
 pub returns : goal.returns
 returns c =
