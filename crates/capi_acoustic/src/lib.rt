@@ -56,7 +56,9 @@ pub extern "C" fn gf_perm_trans_symmetrize_compact_fc3(
         n_patom,
         num_trans,
     };
-    let a = acoustic::third_compact::perm_trans_symmetrize_compact_fc3(fc3, &tables, done, drift, level);
+    let a = acoustic::third_compact::perm_trans_symmetrize_compact_fc3(
+        fc3, &tables, done, drift, level,
+    );
     tables::number(a)
 }
 
@@ -104,6 +106,8 @@ pub extern "C" fn gf_perm_trans_symmetrize_compact_fc4(
         n_patom,
         num_trans,
     };
-    let a = acoustic::fourth_compact::perm_trans_symmetrize_compact_fc4(fc4, &tables, done, drift, level);
+    let a = acoustic::fourth_compact::perm_trans_symmetrize_compact_fc4(
+        fc4, &tables, done, drift, level,
+    );
     tables::number(a)
 }

@@ -7,11 +7,11 @@ ghost use Rattle.tables.specs.Compact.{shift_tables};
 ghost use Rattle.crystal.specs.Crystal.{crystal_report_compact, crystal_report_full};
 ghost use Rattle.capi_deviations.specs.Slots.{row_length, report_call};
 
-use tables::shift_tables::ShiftTables;
-use tables::Refusal;
 use crate::{put, slots_fit};
 use capi_reports::auditing::{wrong_slots, wrong_slots_full};
+use tables::Refusal;
 use tables::limits::{LIMIT2, LIMIT3, LIMIT4};
+use tables::shift_tables::ShiftTables;
 
 // The places of an operation are as many as the set has numbers; those of a set of none are counted in rows of one.
 fn row_length(len: usize) -> usize
@@ -63,7 +63,9 @@ pub extern "C" fn gf_crystal_report_compact_fc2(
             n_patom,
             num_trans,
         };
-        let r = crystal::second::crystal_report_compact_fc2(fc, &tables, r_carts, operations, num_rot);
+        let r = crystal::second::crystal_report_compact_fc2(
+            fc, &tables, r_carts, operations, num_rot,
+        );
         return put(r, n, value, place);
     }
     wrong(wrong_slots(LIMIT2, n_satom, n_patom, num_trans), num_rot)
@@ -120,7 +122,9 @@ pub extern "C" fn gf_crystal_report_compact_fc3(
             n_patom,
             num_trans,
         };
-        let r = crystal::third::crystal_report_compact_fc3(fc, &tables, r_carts, operations, num_rot);
+        let r = crystal::third::crystal_report_compact_fc3(
+            fc, &tables, r_carts, operations, num_rot,
+        );
         return put(r, n, value, place);
     }
     wrong(wrong_slots(LIMIT3, n_satom, n_patom, num_trans), num_rot)
@@ -177,7 +181,9 @@ pub extern "C" fn gf_crystal_report_compact_fc4(
             n_patom,
             num_trans,
         };
-        let r = crystal::fourth::crystal_report_compact_fc4(fc, &tables, r_carts, operations, num_rot);
+        let r = crystal::fourth::crystal_report_compact_fc4(
+            fc, &tables, r_carts, operations, num_rot,
+        );
         return put(r, n, value, place);
     }
     wrong(wrong_slots(LIMIT4, n_satom, n_patom, num_trans), num_rot)

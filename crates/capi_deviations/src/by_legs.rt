@@ -8,10 +8,10 @@ ghost use Rattle.tables.specs.Compact.{shift_tables};
 ghost use Rattle.legs.specs.Legs.{leg_report_compact, leg_report_full};
 ghost use Rattle.capi_deviations.specs.Slots.{report_call};
 
-use tables::shift_tables::ShiftTables;
 use crate::{put, slots_fit};
 use capi_reports::auditing::{wrong_slots, wrong_slots_full};
 use tables::limits::{LIMIT3, LIMIT4};
+use tables::shift_tables::ShiftTables;
 
 // The sums over each leg of the full set that a compact set reads out to.
 #[unsafe(no_mangle)]

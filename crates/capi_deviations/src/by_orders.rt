@@ -8,10 +8,10 @@ ghost use Rattle.places.specs.Permutations.{perms2, perms3, perms4};
 ghost use Rattle.differences.specs.Difference.{difference_report_compact, difference_report_full};
 ghost use Rattle.capi_deviations.specs.Slots.{report_call};
 
-use tables::shift_tables::ShiftTables;
 use crate::{put, slots_fit};
 use capi_reports::auditing::{wrong_slots, wrong_slots_full};
 use tables::limits::{LIMIT2, LIMIT3, LIMIT4};
+use tables::shift_tables::ShiftTables;
 
 // Both permutations of any two legs of a compact set.
 #[unsafe(no_mangle)]

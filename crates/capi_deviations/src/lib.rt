@@ -10,9 +10,9 @@ ghost use Rattle.std.specs.Prelude.{◌≡◌, false, ◌<◌, length};
 ghost use Rattle.reports.specs.Sets.{set_difference};
 ghost use Rattle.capi_deviations.specs.Slots.{report_slots, report_slots_fit, report_call};
 
-use tables::Refusal;
 use places::{column_of, row_of};
 use reports::Report;
+use tables::Refusal;
 
 // One slot for the value, two for the place.
 pub fn slots_fit(len_value: usize, len_place: usize) -> bool

@@ -12,10 +12,10 @@ ghost use Rattle.tables.specs.Numbered.{numbered, numbered_with};
 ghost use Rattle.capi_fc2.specs.Drift.{drift_slots_fit, drift_slots, drift_call};
 ghost use Rattle.distribute.specs.Fc2.{distribution, distribute_fc2};
 
-use tables::shift_tables::ShiftTables;
-use tables::Refusal;
 use drift::DriftReport;
+use tables::Refusal;
 use tables::limits::LIMIT2;
+use tables::shift_tables::ShiftTables;
 
 // Symmetrizes a full set.
 #[unsafe(no_mangle)]
@@ -82,7 +82,9 @@ pub extern "C" fn gf_set_index_permutation_symmetry_compact_fc(
         n_patom,
         num_trans,
     };
-    let a = fc2_compact::compact::set_index_permutation_symmetry_compact_fc(fc, &tables, done, transpose);
+    let a = fc2_compact::compact::set_index_permutation_symmetry_compact_fc(
+        fc, &tables, done, transpose,
+    );
     tables::number(a)
 }
 

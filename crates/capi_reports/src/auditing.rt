@@ -7,10 +7,10 @@ ghost use Rattle.places.specs.Permutations.{perms2, perms3, perms4};
 ghost use Rattle.audits.specs.Audit.{same_set, audit_compact, audit_full};
 ghost use Rattle.capi_reports.specs.Told.{audit_slots as auditSlotsOf, slots_fit, audit_call};
 
-use tables::shift_tables::ShiftTables;
-use tables::Refusal;
 use audits::Difference;
+use tables::Refusal;
 use tables::limits::{LIMIT2, LIMIT3, LIMIT4};
+use tables::shift_tables::ShiftTables;
 
 // Whether the slots have the stated lengths, two each.
 fn slots_fit(len_place: usize, len_numbers: usize) -> bool

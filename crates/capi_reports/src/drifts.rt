@@ -3,12 +3,12 @@ ghost use Rattle.std.specs.Prelude.{◌≡◌, length};
 ghost use Rattle.tables.specs.Compact.{shift_tables};
 ghost use Rattle.capi_reports.specs.Drifts.{compact_drift_call, leg_reported, leg_slots_fit, leg_drift_call};
 
-use tables::shift_tables::ShiftTables;
-use tables::Refusal;
 use crate::auditing::{wrong_slots, wrong_slots_full};
 use capi_fc2::{report, slots_fit};
 use drift::third::LegReport;
+use tables::Refusal;
 use tables::limits::{LIMIT2, LIMIT3};
+use tables::shift_tables::ShiftTables;
 
 // The drift of each row sum and of each column sum of the full set that a compact set reads out to: 65 still, 66 worst, 67 no number, or the number of
 // the refusal. The slots are those of gf_drift_report.
