@@ -11,8 +11,8 @@ ghost use Rattle.std.specs.Prelude.{◌≡◌, ◌≤◌};
 ghost use Rattle.tables.specs.Answers.{number_of};
 ghost use Rattle.crystal.specs.Crystal.{judged_operations, earlier as earlier_of};
 
+use tables::Refusal;
 use tables::index::all_below;
-use tables::{Refusal, number};
 
 // The most operations of a call.
 const MOST: usize = 1024;
@@ -43,21 +43,15 @@ fn judge_operations(
 }
 
 // Of two answers the refusal that comes first.
+#[tactic(auto, unfolding(crate::specs::Crystal::earlier))]
 fn earlier(a: Result<(), Refusal>, b: Result<(), Refusal>) -> Result<(), Refusal>
     ensures { result ≡ earlier_of a b }
 {
-    let x = number(a);
-    if x == 0 {
-        return b;
+    match (a, b) {
+        (Ok(()), _) => b,
+        (Err(r), Err(q)) if u8::from(q) < u8::from(r) => b,
+        (Err(_), _) => a,
     }
-    let y = number(b);
-    if y == 0 {
-        return a;
-    }
-    if x <= y {
-        return a;
-    }
-    b
 }
 
 // The answer a to the set, and that to the operations on its n atoms. Where a count of the set is above its limit nothing else is looked at.
