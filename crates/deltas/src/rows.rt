@@ -46,6 +46,7 @@ pub fn with_share<const W: usize, const B: usize>(s: [f64; B], x: [f64; W], u: [
 }
 
 // Adds shares of the deltas, rotated, to blocks of the result: to a single block, or to all that have some atoms more.
+// A single block is an impl of its own for each order, since the sums of each size run in an arrangement of their own (crate rotations).
 pub trait Share<const C: usize> {
     type Block: Order<C>;
 

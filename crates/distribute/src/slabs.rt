@@ -11,6 +11,7 @@ use std::marker::PhantomData;
 use tables::Refusal;
 
 // Fills blocks of a set from others of it, rotated: a single block, or all that have some atoms more.
+// A single block is an impl of its own for each order, since the sums of each size run in an arrangement of their own (crate rotations).
 pub trait Fill<const C: usize> {
     type Block: Order<C>;
 
