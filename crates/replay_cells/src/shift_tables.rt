@@ -3,27 +3,15 @@ use capi_cells::capi_explaining::gf_explain_shift_tables;
 use capi_cells::gf_check_shift_tables;
 use replays::Tally;
 use replays::records::{wide, word_of};
-use replays::shift_tables::ShiftTables;
+use replays::shift_tables::shift_tables_of;
 use replays::steps::{count_of, part, size};
 use replays::values::{integers, mix_slots};
+use tables::shift_tables::ShiftTables;
 
 // The verdict of the guard of compact calls, for a set and a work slice of second order.
 fn judge(r: &[u8], t: ShiftTables) -> u64 {
     let limit = size(word_of(r, 5), 1024);
-    let a = shifts::judge_compact(
-        limit,
-        1,
-        count_of(r, 6),
-        1,
-        count_of(r, 7),
-        t.p2s,
-        t.s2pp,
-        t.nsym_list,
-        t.perms,
-        t.n_satom,
-        t.n_patom,
-        t.num_trans,
-    );
+    let a = shifts::judge_compact(limit, 1, count_of(r, 6), 1, count_of(r, 7), &t);
     wide(tables::number(a))
 }
 
@@ -67,6 +55,6 @@ pub fn step(t: Tally, r: &[u8]) -> Tally {
     let mut all = [0i64; 451];
     let mut place = [7usize; 6];
     integers(r, 16, &mut all);
-    let got = verdicts(r, ShiftTables::of(r, 9, 12, &all), part(r, 8, &mut place));
+    let got = verdicts(r, shift_tables_of(r, 9, 12, &all), part(r, 8, &mut place));
     t.compared(r, got[0], &got)
 }

@@ -2,9 +2,10 @@
 use capi_reports::full::{gf_compact_to_full_fc2, gf_compact_to_full_fc3, gf_compact_to_full_fc4};
 use replays::Tally;
 use replays::records::{wide, word_of};
-use replays::shift_tables::ShiftTables;
+use replays::shift_tables::shift_tables_of;
 use replays::steps::{count_of, part};
 use replays::values::{fill, integers, mix_floats};
+use tables::shift_tables::ShiftTables;
 
 // The call of the order that the record names. The answer's number.
 fn read_out(r: &[u8], full: &mut [f64], set: &[f64], t: ShiftTables) -> u8 {
@@ -49,7 +50,7 @@ fn read_out(r: &[u8], full: &mut [f64], set: &[f64], t: ShiftTables) -> u8 {
 fn call(r: &[u8], full: &mut [f64], set: &[f64]) -> u64 {
     let mut all = [0i64; 451];
     integers(r, 16, &mut all);
-    wide(read_out(r, full, set, ShiftTables::of(r, 9, 12, &all)))
+    wide(read_out(r, full, set, shift_tables_of(r, 9, 12, &all)))
 }
 
 // The record r, with room for its sets, which are made from two seeds.

@@ -6,8 +6,8 @@ use capi_reports::auditing::{
 };
 use capi_reports::drifts::{gf_drift_report_compact_fc2, gf_drift_report_fc3};
 use replays::records::word_of;
-use replays::shift_tables::ShiftTables;
 use replays::steps::count_of;
+use tables::shift_tables::ShiftTables;
 
 // A compact set: the audit of the order that the record names, or its drift.
 fn compact(r: &[u8], fc: &[f64], t: ShiftTables, place: &mut [usize], numbers: &mut [f64]) -> u8 {

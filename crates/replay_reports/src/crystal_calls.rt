@@ -4,8 +4,8 @@ use capi_deviations::by_crystal::{
     gf_crystal_report_fc2, gf_crystal_report_fc3, gf_crystal_report_fc4,
 };
 use replays::records::word_of;
-use replays::shift_tables::ShiftTables;
 use replays::steps::count_of;
+use tables::shift_tables::ShiftTables;
 
 // A compact set.
 fn compact(

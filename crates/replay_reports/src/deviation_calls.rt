@@ -9,8 +9,8 @@ use capi_deviations::by_orders::{
 };
 use capi_deviations::gf_set_difference;
 use replays::records::word_of;
-use replays::shift_tables::ShiftTables;
 use replays::steps::count_of;
+use tables::shift_tables::ShiftTables;
 
 // A compact set.
 fn compact(r: &[u8], fc: &[f64], t: ShiftTables, place: &mut [usize], value: &mut [f64]) -> u8 {

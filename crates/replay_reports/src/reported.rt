@@ -2,7 +2,7 @@
 use crate::{audit_calls, crystal_calls, deviation_calls};
 use replays::Tally;
 use replays::records::{float, wide, word_of};
-use replays::shift_tables::ShiftTables;
+use replays::shift_tables::shift_tables_of;
 use replays::steps::{after, count_of, part, size, table, tables_end};
 use replays::values::{fill, floats, integers, mix_floats, mix_slots};
 use std::io;
@@ -44,7 +44,7 @@ fn prepare(r: &[u8], fc: &mut [f64]) {
 fn crystal(r: &[u8], fc: &[f64], all: &[i64], place: &mut [usize], numbers: &mut [f64]) -> u8 {
     let mut m = [0.0f64; 48];
     floats(r, matrices_at(r), &mut m);
-    let t = ShiftTables::of(r, 5, 14, all);
+    let t = shift_tables_of(r, 5, 14, all);
     let maps = table(r, 14, 4, all);
     crystal_calls::call(r, fc, t, maps, part(r, 20, &mut m), place, numbers)
 }
@@ -54,7 +54,7 @@ fn crystal(r: &[u8], fc: &[f64], all: &[i64], place: &mut [usize], numbers: &mut
 fn call(r: &[u8], fc: &[f64], other: &[f64], place: &mut [usize], numbers: &mut [f64]) -> u8 {
     let mut all = [0i64; 160];
     integers(r, 22, &mut all);
-    let t = ShiftTables::of(r, 5, 14, &all);
+    let t = shift_tables_of(r, 5, 14, &all);
     match word_of(r, 4) {
         0..=19 => audit_calls::call(r, fc, other, t, place, numbers),
         41..=59 => crystal(r, fc, &all, place, numbers),

@@ -3,9 +3,10 @@ use capi_fc2::{
     gf_perm_trans_symmetrize_compact_fc, gf_perm_trans_symmetrize_fc,
     gf_set_index_permutation_symmetry_compact_fc,
 };
-use replays::shift_tables::ShiftTables;
+use replays::shift_tables::shift_tables_of;
 use replays::steps::count_of;
 use replays::values::integers;
+use tables::shift_tables::ShiftTables;
 
 // The compact call that the record names. The answer's number. Word 6 is the level, or 1 for a transpose.
 fn compact(r: &[u8], set: &mut [f64], done: &mut [u8], t: ShiftTables) -> u8 {
@@ -45,5 +46,5 @@ pub fn call(r: &[u8], set: &mut [f64], done: &mut [u8]) -> u8 {
     }
     let mut all = [0i64; 640];
     integers(r, 18, &mut all);
-    compact(r, set, done, ShiftTables::of(r, 11, 14, &all))
+    compact(r, set, done, shift_tables_of(r, 11, 14, &all))
 }

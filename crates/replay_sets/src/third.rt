@@ -4,9 +4,10 @@ use capi_fc3::{
     gf_transpose_compact_fc3,
 };
 use replays::records::{integer, word_of};
-use replays::shift_tables::ShiftTables;
+use replays::shift_tables::shift_tables_of;
 use replays::steps::count_of;
 use replays::values::integers;
+use tables::shift_tables::ShiftTables;
 
 // The compact call that the record names. The answer's number.
 fn compact(r: &[u8], set: &mut [f64], done: &mut [u8], t: ShiftTables) -> u8 {
@@ -45,5 +46,5 @@ pub fn call(r: &[u8], set: &mut [f64], done: &mut [u8]) -> u8 {
     }
     let mut all = [0i64; 451];
     integers(r, 18, &mut all);
-    compact(r, set, done, ShiftTables::of(r, 11, 14, &all))
+    compact(r, set, done, shift_tables_of(r, 11, 14, &all))
 }

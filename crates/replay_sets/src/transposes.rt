@@ -3,9 +3,10 @@ use capi_fc2::gf_true_transpose_compact_fc2;
 use capi_fc3::gf_true_transpose_compact_fc3;
 use capi_fc4::{gf_swap_pairs_compact_fc4, gf_true_transpose_compact_fc4};
 use replays::records::{integer, word_of};
-use replays::shift_tables::ShiftTables;
+use replays::shift_tables::shift_tables_of;
 use replays::steps::count_of;
 use replays::values::integers;
+use tables::shift_tables::ShiftTables;
 
 // A swap of two legs, which stand in the place of a type: the first and eight times the second. The answer's number.
 fn swap(r: &[u8], set: &mut [f64], done: &mut [u8], t: ShiftTables) -> u8 {
@@ -73,5 +74,5 @@ fn compact(r: &[u8], set: &mut [f64], done: &mut [u8], t: ShiftTables) -> u8 {
 pub fn call(r: &[u8], set: &mut [f64], done: &mut [u8]) -> u8 {
     let mut all = [0i64; 451];
     integers(r, 18, &mut all);
-    compact(r, set, done, ShiftTables::of(r, 11, 14, &all))
+    compact(r, set, done, shift_tables_of(r, 11, 14, &all))
 }

@@ -2,9 +2,10 @@
 use capi_acoustic::{gf_perm_trans_symmetrize_compact_fc3, gf_perm_trans_symmetrize_fc3};
 use replays::Tally;
 use replays::records::{wide, word_of};
-use replays::shift_tables::ShiftTables;
+use replays::shift_tables::shift_tables_of;
 use replays::steps::{count_of, part, plus};
 use replays::values::{fill, fill_bytes, integers, mix_bytes, mix_floats};
+use tables::shift_tables::ShiftTables;
 
 // A compact set. The answer's number.
 fn compact(r: &[u8], set: &mut [f64], done: &mut [u8], drift: &mut [f64], t: ShiftTables) -> u8 {
@@ -31,7 +32,7 @@ fn call(r: &[u8], set: &mut [f64], done: &mut [u8], drift: &mut [f64]) -> u8 {
     }
     let mut all = [0i64; 160];
     integers(r, 19, &mut all);
-    compact(r, set, done, drift, ShiftTables::of(r, 12, 15, &all))
+    compact(r, set, done, drift, shift_tables_of(r, 12, 15, &all))
 }
 
 // The record r, whose set and work slices are made from its seed.
