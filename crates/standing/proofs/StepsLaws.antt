@@ -177,17 +177,39 @@ gathered-no b w l = refl
 
 -- ---- the loop that appends
 
+drop-next : (l : List ℕ) (m i : ℕ) → i < m → m ≤ length l → drop i (take m l) ≡ (get_or l i 0 ∷ drop (suc i) (take m l))
+drop-next [] m i h k = absurd (omega (arith, h, k))
+drop-next (x ∷ xs) zero i h k = absurd (omega (arith, h))
+drop-next (x ∷ xs) (suc m) zero h k = refl
+drop-next (x ∷ xs) (suc m) (suc i) h k = drop-next xs m i (omega (arith, h)) (omega (arith, k))
+
+drop_all : (l : List ℕ) (m : ℕ) → drop m (take m l) ≡ []
+drop_all l zero = refl
+drop_all [] (suc m) = refl
+drop_all (x ∷ xs) (suc m) = drop_all xs m
+
 pub adds-first : (s l : List ℕ) (count m : ℕ) → add_all s count (take m l) ≡ add_all s count (drop 0 (take m l))
 adds-first s l count m = refl
 
-pub adds-more : (s lent left l : List ℕ) (count long i : ℕ) {r : Result ℕ Refusal} → i < length l → (r, left) ≡ appended lent long (retirement (get_or l i 0))
+pub adds-more : (s lent left l : List ℕ) (count long m i : ℕ) {r : Result ℕ Refusal} → i < m → m ≤ length l → (r, left) ≡ appended lent long (retirement (get_or l i 0))
+    → add_all s count (take m l) ≡ add_all lent long (drop i (take m l)) → add_all s count (take m l) ≡ add_all left (long + 14) (drop (i + 1) (take m l))
+adds-more s lent left l count long m i h k e q =
+    q ∙ ap (add_all lent long) (drop-next l m i h k) ∙ adds_one lent long (get_or l i 0) (drop (suc i) (take m l))
+    ∙ ap₂ (λ z j. add_all z (long + 14) (drop j (take m l))) (ap (λ (t : Result ℕ Refusal × List ℕ). t.1) (sym e)) (sym (add-one i))
+
+pub adds-last : (s lent l : List ℕ) (count long m : ℕ) → add_all s count (take m l) ≡ add_all lent long (drop m (take m l)) → lent ≡ add_all s count (take m l)
+adds-last s lent l count long m q = sym (q ∙ ap (add_all lent long) (drop_all l m) ∙ adds_none lent long)
+
+-- the same of the whole list
+
+pub adds-further : (s lent left l : List ℕ) (count long i : ℕ) {r : Result ℕ Refusal} → i < length l → (r, left) ≡ appended lent long (retirement (get_or l i 0))
     → add_all s count l ≡ add_all lent long (drop i l) → add_all s count l ≡ add_all left (long + 14) (drop (i + 1) l)
-adds-more s lent left l count long i h e q =
+adds-further s lent left l count long i h e q =
     q ∙ ap (add_all lent long) (drop-cons l i 0 h) ∙ adds_one lent long (get_or l i 0) (drop (suc i) l)
     ∙ ap₂ (λ z j. add_all z (long + 14) (drop j l)) (ap (λ (t : Result ℕ Refusal × List ℕ). t.1) (sym e)) (sym (add-one i))
 
-pub adds-last : (s lent l : List ℕ) (count long : ℕ) → add_all s count l ≡ add_all lent long (drop (length l) l) → lent ≡ add_all s count l
-adds-last s lent l count long q = sym (q ∙ ap (add_all lent long) (drop-length l) ∙ adds_none lent long)
+pub adds-end : (s lent l : List ℕ) (count long : ℕ) → add_all s count l ≡ add_all lent long (drop (length l) l) → lent ≡ add_all s count l
+adds-end s lent l count long q = sym (q ∙ ap (add_all lent long) (drop-length l) ∙ adds_none lent long)
 
 -- ---- a roll in the first bytes of a slice
 
