@@ -50,7 +50,7 @@
  *
  * THREADS AND STACK
  *   The library has no state, allocates nothing and keeps no pointer, so any number of threads may call it at the same time, on slices that
- *   overlap only where all of them only read. A call takes at most 161 kB of stack, but gf_find_permutation 427 kB at 1,024 positions:
+ *   overlap only where all of them only read. A call takes at most 213 kB of stack, but gf_find_permutation 378 kB at 1,024 positions:
  *   docs/GUIDE.md has each call's, measured.
  *
  * WORK SLICES
@@ -1100,7 +1100,7 @@ uint8_t gf_compute_permutation(
  * slots it is that one. Near is as above; a NaN distance is not near.
  * GF_DONE: the slots are a bijection of near pairs, the marks zeros. GF_NO_MATCH: none exists; the slots are all -1, and the positions
  * that marks has a 1 for, 0 for the others, have fewer near slots between them than they are. Where several bijections or groups exist
- * any may be returned. A chain takes up to num_pos calls, each a step deeper in the stack: up to 427 kB at 1,024 positions.
+ * any may be returned. A chain takes up to num_pos calls, each a step deeper in the stack: up to 378 kB at 1,024 positions.
  *   rot_atom  num_pos      only written
  *   marks     num_pos      only written
  *   lattice   9            row after row, the basis vectors in the columns
