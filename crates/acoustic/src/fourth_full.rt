@@ -11,32 +11,19 @@ ghost use Rattle.acoustic.specs.Laws.{Room};
 ghost use Rattle.acoustic.specs.Fourth.{FullWork};
 
 use crate::fourth::legs_off;
-use audits::guard::counted;
+use audits::guard::FullTables;
 use fc4::full::set_permutation_symmetry_fc4;
 use tables::Refusal;
 use tables::limits::{LIMIT_LEVEL, LIMIT4};
 use tables::sets::{judge_full, set_blocks};
-use tables::shift_tables::ShiftTables;
 
 // The drift of every leg: a full set is a compact set in which every atom is its own representative.
 fn full_legs_off(fc4: &mut [f64], drift: &mut [f64], n: usize)
     requires { Room limit4 3 (length fc4.old) (length drift.old) (full_tables n) × (n ≤ 64) }
     ensures { fc4.new ≡ without_drifts (shifts_of (full_tables n)) 3 fc4.old }
 {
-    let p2s = counted();
-    let s2pp = counted();
-    let nsym_list = [0i64; 1024];
-    let perms = counted();
-    let tables = ShiftTables {
-        p2s: &p2s[0..n],
-        s2pp: &s2pp[0..n],
-        nsym_list: &nsym_list[0..n],
-        perms: &perms[0..n],
-        n_satom: n,
-        n_patom: n,
-        num_trans: 1,
-    };
-    legs_off(fc4, drift, &tables);
+    let whole = FullTables::new(n);
+    legs_off(fc4, drift, &whole.tables());
 }
 
 // One level.

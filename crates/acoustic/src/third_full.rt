@@ -11,32 +11,19 @@ ghost use Rattle.acoustic.specs.Acoustic.{without_drifts, leveled, perm_trans_sy
 ghost use Rattle.acoustic.specs.Laws.{Room};
 
 use crate::third::legs_off;
-use audits::guard::counted;
+use audits::guard::FullTables;
 use fc3::full::symmetrize;
 use tables::Refusal;
 use tables::limits::{LIMIT_LEVEL, LIMIT3};
 use tables::sets::{judge_full, set_blocks};
-use tables::shift_tables::ShiftTables;
 
 // The drift of every leg: a full set is a compact set in which every atom is its own representative.
 fn full_legs_off(fc3: &mut [f64], drift: &mut [f64], n: usize)
     requires { Room limit3 2 (length fc3.old) (length drift.old) (full_tables n) × (n ≤ 256) }
     ensures { fc3.new ≡ without_drifts (shifts_of (full_tables n)) 2 fc3.old }
 {
-    let p2s = counted();
-    let s2pp = counted();
-    let nsym_list = [0i64; 1024];
-    let perms = counted();
-    let tables = ShiftTables {
-        p2s: &p2s[0..n],
-        s2pp: &s2pp[0..n],
-        nsym_list: &nsym_list[0..n],
-        perms: &perms[0..n],
-        n_satom: n,
-        n_patom: n,
-        num_trans: 1,
-    };
-    legs_off(fc3, drift, &tables);
+    let whole = FullTables::new(n);
+    legs_off(fc3, drift, &whole.tables());
 }
 
 // One level.

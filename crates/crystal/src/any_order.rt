@@ -48,9 +48,9 @@ pub trait Order<const N: usize, const C: usize> {
         requires { TablesFit LIMIT (given tables.now) × Sends tables.now.n_satom operations.now r × (b < times_power tables.now.n_satom RANK tables.now.n_patom) }
         ensures { result ≡ image_block (shifts_of (given tables.now)) RANK operations.now r b };
 
-    // The coefficients of a block rotated by m.
-    fn coefficients(m: [f64; 9]) -> [f64; C]
-        ensures { result ≡ coefficients m (suc RANK) N };
+    // Puts the coefficients of a block rotated by m into c. c is lent: of fourth order it has 52 kB, and no step is to hold a copy.
+    fn coefficients(m: [f64; 9], c: &mut [f64; C])
+        ensures { c.new ≡ coefficients m (suc RANK) N };
 
     // The block that they make of block t.
     fn rotated(c: &[f64; C], t: [f64; N]) -> [f64; N]
@@ -113,8 +113,9 @@ fn scan<const N: usize, const C: usize, O: Order<N, C>>(
     ensures { result ≡ all_seen (shifts_of (given tables.now)) O.RANK r_carts.now operations.now fc.now num_rot }
 {
     let mut seen = start();
+    let mut c = [0.0f64; C];
     for r in 0..num_rot {
-        let c = O::coefficients(blocks::read9(r_carts, r));
+        O::coefficients(blocks::read9(r_carts, r), &mut c);
         seen = look_operation::<N, C, O>(fc, &c, tables, operations, r, seen);
     }
     seen

@@ -10,7 +10,7 @@ ghost use Rattle.crystal.specs.Crystal.{crystal_report_compact, crystal_report_f
 use crate::any_order::{Order, crystal_report, crystal_report_compact, image};
 use places::{column_of, row_of, stored_block4};
 use reports::Report;
-use rotations::{coefficients4, rotated81};
+use rotations::{put_coefficients4, rotated81};
 use tables::Refusal;
 use tables::atoms::{PrimAtom, SuperAtom};
 use tables::limits::LIMIT4;
@@ -43,8 +43,8 @@ impl Order<81, 6561> for Fourth {
         stored_block4(tables, x, y, z, w)
     }
 
-    fn coefficients(m: [f64; 9]) -> [f64; 6561] {
-        coefficients4(m)
+    fn coefficients(m: [f64; 9], c: &mut [f64; 6561]) {
+        put_coefficients4(c, m);
     }
 
     fn rotated(c: &[f64; 6561], t: [f64; 81]) -> [f64; 81]

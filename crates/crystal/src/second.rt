@@ -10,7 +10,7 @@ ghost use Rattle.crystal.specs.Crystal.{crystal_report_compact, crystal_report_f
 use crate::any_order::{Order, crystal_report, crystal_report_compact, image};
 use places::{column_of, row_of, stored_block2};
 use reports::Report;
-use rotations::{coefficients2, rotated9};
+use rotations::{put_coefficients2, rotated9};
 use tables::Refusal;
 use tables::atoms::{PrimAtom, SuperAtom};
 use tables::limits::LIMIT2;
@@ -37,8 +37,8 @@ impl Order<9, 81> for Second {
         stored_block2(tables, x, y)
     }
 
-    fn coefficients(m: [f64; 9]) -> [f64; 81] {
-        coefficients2(m)
+    fn coefficients(m: [f64; 9], c: &mut [f64; 81]) {
+        put_coefficients2(c, m);
     }
 
     fn rotated(c: &[f64; 81], t: [f64; 9]) -> [f64; 9]

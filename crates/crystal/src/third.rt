@@ -10,7 +10,7 @@ ghost use Rattle.crystal.specs.Crystal.{crystal_report_compact, crystal_report_f
 use crate::any_order::{Order, crystal_report, crystal_report_compact, image};
 use places::{column_of, row_of, stored_block3};
 use reports::Report;
-use rotations::{coefficients3, rotated27};
+use rotations::{put_coefficients3, rotated27};
 use tables::Refusal;
 use tables::atoms::{PrimAtom, SuperAtom};
 use tables::limits::LIMIT3;
@@ -40,8 +40,8 @@ impl Order<27, 729> for Third {
         stored_block3(tables, x, y, z)
     }
 
-    fn coefficients(m: [f64; 9]) -> [f64; 729] {
-        coefficients3(m)
+    fn coefficients(m: [f64; 9], c: &mut [f64; 729]) {
+        put_coefficients3(c, m);
     }
 
     fn rotated(c: &[f64; 729], t: [f64; 27]) -> [f64; 27]

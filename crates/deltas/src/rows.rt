@@ -123,7 +123,8 @@ fn add_pair<const C: usize, S: Share<C>>(
 {
     let s = places::column_of(n, num_site_sym);
     let d = places::row_of(n, num_site_sym);
-    let c = S::Block::coefficients(blocks::read9(site_sym_cart, s));
+    let mut c = [0.0f64; C];
+    S::Block::coefficients(blocks::read9(site_sym_cart, s), &mut c);
     let u = crate::column(inv_u, n, num_disp * num_site_sym);
     let image = tables::index::entry(rot_map_syms, s * num_atom + i);
     let from = places::index_of(d, num_atom, image);

@@ -132,7 +132,8 @@ pub fn distribute<const C: usize, S: Fill<C>>(
         target,
         source,
     )?;
-    let c = S::Block::coefficients(blocks::read9(rot_cart, 0));
+    let mut c = [0.0f64; C];
+    S::Block::coefficients(blocks::read9(rot_cart, 0), &mut c);
     S::fill(fc, &c, atom_mapping, num_atom, target, source);
     Ok(())
 }

@@ -96,15 +96,14 @@ fn scan_full(fc: &[f64], n: usize) -> Seen
     requires { Ready limit4 3 (length fc.now) (full_tables n) × (n ≤ 1024) }
     ensures { result ≡ all_seen (shifts_of (full_tables n)) 3 fc.now }
 {
-    let p2s = counted();
-    let s2pp = counted();
-    let nsym_list = [0i64; 1024];
-    let perms = counted();
+    // Two tables serve as four. `FullTables` is handed on by value, which takes 16 kB of stack more.
+    let numbers = counted();
+    let noughts = [0i64; 1024];
     let tables = ShiftTables {
-        p2s: &p2s[0..n],
-        s2pp: &s2pp[0..n],
-        nsym_list: &nsym_list[0..n],
-        perms: &perms[0..n],
+        p2s: &numbers[0..n],
+        s2pp: &numbers[0..n],
+        nsym_list: &noughts[0..n],
+        perms: &numbers[0..n],
         n_satom: n,
         n_patom: n,
         num_trans: 1,

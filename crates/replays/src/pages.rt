@@ -68,6 +68,8 @@ impl<'a> Iterator for Records<'a> {
 }
 
 // Reads the next n pages: the tally after their records, where `step` gives the one after a record more.
+// It is not inlined: a program calls it with one step after another, and its `main` would have room for a page for each.
+#[inline(never)]
 pub fn replay<R: Read, F: FnMut(Tally, &[u8]) -> Tally>(
     input: &mut R,
     n: usize,

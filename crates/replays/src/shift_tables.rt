@@ -1,4 +1,7 @@
 // The shift tables of a record.
+ghost use Rattle.std.specs.Prelude.{◌≡◌, ◌+◌, ◌%◌, ◌^◌};
+ghost use Rattle.replays.specs.Words.{word_of};
+
 use crate::steps::{after, count_of, table};
 use tables::shift_tables::ShiftTables;
 
@@ -9,7 +12,11 @@ pub fn shift_tables_of<'a>(
     counts: usize,
     lengths: usize,
     all: &'a [i64],
-) -> ShiftTables<'a> {
+) -> ShiftTables<'a>
+    ensures satom { result.n_satom ≡ word_of r.now counts }
+    ensures patom { result.n_patom ≡ word_of r.now ((counts + 1) % 2 ^ 64) }
+    ensures trans { result.num_trans ≡ word_of r.now ((counts + 2) % 2 ^ 64) }
+{
     ShiftTables {
         p2s: table(r, lengths, 1, all),
         s2pp: table(r, lengths, 2, all),

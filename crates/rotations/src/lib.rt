@@ -40,13 +40,20 @@ fn widen(into: &mut [f64], before: &[f64], m: &[f64; 9], w: usize)
     }
 }
 
+// Puts the coefficients of a block of two legs into c, whatever it held.
+pub fn put_coefficients2(c: &mut [f64; 81], m: [f64; 9])
+    ensures { c.new ≡ coefficients m 2 9 }
+{
+    let t = blocks::transposed9(m);
+    widen(c, &t, &m, 3);
+}
+
 // The coefficients of a block of two legs.
 pub fn coefficients2(m: [f64; 9]) -> [f64; 81]
     ensures { result ≡ coefficients m 2 9 }
 {
-    let t = blocks::transposed9(m);
     let mut c = [0.0f64; 81];
-    widen(&mut c, &t, &m, 3);
+    put_coefficients2(&mut c, m);
     c
 }
 
@@ -83,23 +90,37 @@ pub fn rotated9(c: &[f64; 81], t: [f64; 9]) -> [f64; 9]
     sums9(c, &t, 0)
 }
 
+// Puts the coefficients of a block of three legs into c, whatever it held.
+pub fn put_coefficients3(c: &mut [f64; 729], m: [f64; 9])
+    ensures { c.new ≡ coefficients m 3 27 }
+{
+    let b = coefficients2(m);
+    widen(c, &b, &m, 9);
+}
+
 // The coefficients of a block of three legs.
 pub fn coefficients3(m: [f64; 9]) -> [f64; 729]
     ensures { result ≡ coefficients m 3 27 }
 {
-    let b = coefficients2(m);
     let mut c = [0.0f64; 729];
-    widen(&mut c, &b, &m, 9);
+    put_coefficients3(&mut c, m);
     c
+}
+
+// Puts the coefficients of a block of four legs into c, whatever it held.
+pub fn put_coefficients4(c: &mut [f64; 6561], m: [f64; 9])
+    ensures { c.new ≡ coefficients m 4 81 }
+{
+    let b = coefficients3(m);
+    widen(c, &b, &m, 27);
 }
 
 // The coefficients of a block of four legs.
 pub fn coefficients4(m: [f64; 9]) -> [f64; 6561]
     ensures { result ≡ coefficients m 4 81 }
 {
-    let b = coefficients3(m);
     let mut c = [0.0f64; 6561];
-    widen(&mut c, &b, &m, 27);
+    put_coefficients4(&mut c, m);
     c
 }
 

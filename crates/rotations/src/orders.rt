@@ -14,8 +14,9 @@ pub trait Order<const C: usize> {
 
     ghost small: { C ≤ 6561 };
 
-    fn coefficients(m: [f64; 9]) -> [f64; C]
-        ensures { result ≡ coefficientsOf m legs width };
+    // Puts the coefficients of a block rotated by m into c. c is lent: of fourth order it has 52 kB, and no step is to hold a copy.
+    fn coefficients(m: [f64; 9], c: &mut [f64; C])
+        ensures { c.new ≡ coefficientsOf m legs width };
 }
 
 pub struct Second;
@@ -33,8 +34,8 @@ impl Order<81> for Second {
 
     ghost small = { lit≤ tt };
 
-    fn coefficients(m: [f64; 9]) -> [f64; 81] {
-        super::coefficients2(m)
+    fn coefficients(m: [f64; 9], c: &mut [f64; 81]) {
+        super::put_coefficients2(c, m);
     }
 }
 
@@ -47,8 +48,8 @@ impl Order<729> for Third {
 
     ghost small = { lit≤ tt };
 
-    fn coefficients(m: [f64; 9]) -> [f64; 729] {
-        super::coefficients3(m)
+    fn coefficients(m: [f64; 9], c: &mut [f64; 729]) {
+        super::put_coefficients3(c, m);
     }
 }
 
@@ -61,7 +62,7 @@ impl Order<6561> for Fourth {
 
     ghost small = { lit≤ tt };
 
-    fn coefficients(m: [f64; 9]) -> [f64; 6561] {
-        super::coefficients4(m)
+    fn coefficients(m: [f64; 9], c: &mut [f64; 6561]) {
+        super::put_coefficients4(c, m);
     }
 }

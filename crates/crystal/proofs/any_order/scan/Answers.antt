@@ -26,7 +26,7 @@ pub loop-r-preserved : goal.loop-r-preserved
 loop-r-preserved g c =
     let a = c.args in
     let l = c.loop-r in
-    (omega arith, times_more l.r _ _ l.invariant.1 (c.look_operation-seen.ensures a.r_carts.now (c.coefficients-c.ensures ∙ ap (λ x. coefficients x (suc g.O.Order.RANK) g.row.N) c.read9.ensures)))
+    (omega arith, times_more l.r _ _ l.invariant.1 (c.look_operation-seen.ensures a.r_carts.now (c.coefficients.ensures ∙ ap (λ x. coefficients x (suc g.O.Order.RANK) g.row.N) c.read9.ensures)))
 
 pub returns : goal.returns
 returns g c =

@@ -41,8 +41,8 @@ index_of-from-requires g c =
     let d : c.row_of-d.result * a.num_atom ≤ 262144 = rw c.row_of-d.ensures t.displacement_few in
     omega (arith, t.images.few)
 
-pub coefficients-c-requires : goal.coefficients-c-requires
-coefficients-c-requires g c = omega (arith, g.S.Block.Order.small)
+pub coefficients-requires : goal.coefficients-requires
+coefficients-requires g c = omega (arith, g.S.Block.Order.small)
 
 pub share-requires : goal.share-requires
 share-requires g c =
@@ -79,8 +79,7 @@ returns g c =
     c.index_of-from.ensures
     ∙ ap₂ (λ x z. x * a.num_atom + z) c.row_of-d.ensures (c.entry-image.ensures ∙ ap (λ x. index_at a.rot_map_syms.now (x * a.num_atom + a.i)) y)
     ∙ source_of_one D a.n a.i c.requires.in_range.0 in
-    let ec : c.coefficients-c.result ≡ coefficients R b.legs b.width =
-    c.coefficients-c.ensures ∙ ap (λ x. coefficients x b.legs b.width) (c.read9.ensures ∙ ap (λ x. block 9 x a.site_sym_cart.now) y) in
+    let ec = c.coefficients.ensures ∙ ap (λ x. coefficients x b.legs b.width) (c.read9.ensures ∙ ap (λ x. block 9 x a.site_sym_cart.now) y) in
     let spread_of : ℕ → ℕ → ℕ → List Float = λ s m w. spread (λ j. index_at a.rot_map_syms.now (s * a.num_atom + j)) a.num_atom w c.column-u.result (rotated R m) a.deltas.now k a.i c.index_of-from.result a.res.now in
     c.share.ensures R ec
     ∙ ap₂ (spread_of c.column_of-s.result) c.requires.order.0 c.requires.order.1

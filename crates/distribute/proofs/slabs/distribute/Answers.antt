@@ -29,8 +29,8 @@ read9-requires g c =
     let R = ready a.limit a.k _ _ _ _ _ _ _ (sym e ∙ is_done c.judge_slabs.result r) in
     omega (arith, R.rotation_length)
 
-pub coefficients-c-requires : goal.coefficients-c-requires
-coefficients-c-requires g c = omega (arith, g.S.Block.Order.small)
+pub coefficients-requires : goal.coefficients-requires
+coefficients-requires g c = omega (arith, g.S.Block.Order.small)
 
 pub fill-requires : goal.fill-requires
 fill-requires g c =
@@ -58,7 +58,7 @@ returns g c =
     let R = ready a.limit a.k _ _ _ _ _ _ _ (sym e ∙ is_done c.judge_slabs.result r) in
     let l = R.set-length ∙ set-blocks a.num_first a.num_atom a.k in
     let o = c.requires.order in
-    let ec = c.coefficients-c.ensures ∙ ap (λ m. coefficients m g.S.Block.Order.legs g.S.Block.Order.width) (c.read9.ensures ∙ whole-block a.rot_cart.now R.rotation_length) in
+    let ec = c.coefficients.ensures ∙ ap (λ m. coefficients m g.S.Block.Order.legs g.S.Block.Order.width) (c.read9.ensures ∙ whole-block a.rot_cart.now R.rotation_length) in
     let moved : c.fill.new.fc ≡ move a.atom_mapping.now a.num_atom (3 ^ suc a.k) (rotated a.rot_cart.now (suc a.k)) a.k a.target a.source a.fc.now =
     c.fill.ensures a.rot_cart.now ec ∙ rw (o.0, o.1, o.2) in
     done_call a.limit a.k a.fc.now a.target a.source a.atom_mapping.now a.num_atom a.rot_cart.now a.num_first c.judge_slabs.result e r

@@ -2,7 +2,7 @@ use mathlib.Core.Path.{sym, ap, ◌∙◌}
 use Rattle.rotations.specs.Rotation.{widened}
 use Rattle.rotations.specs.Laws.{one-leg, widens}
 use native.Mathlib.Omega.{arith}
-use Rattle.rotations.proofs.coefficients2.Goals as goal
+use Rattle.rotations.proofs.put_coefficients2.Goals as goal
 
 pub returns : goal.returns
 returns c =

@@ -2,7 +2,7 @@ use mathlib.Core.Path.{sym, ap, ◌∙◌}
 use native.Mathlib.Omega.{arith}
 use Rattle.rotations.specs.Rotation.{widened}
 use Rattle.rotations.specs.Laws.{widens}
-use Rattle.rotations.proofs.coefficients4.Goals as goal
+use Rattle.rotations.proofs.put_coefficients4.Goals as goal
 
 pub returns : goal.returns
 returns c =
