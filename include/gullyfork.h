@@ -50,7 +50,7 @@
  *
  * THREADS AND STACK
  *   The library has no state, allocates nothing and keeps no pointer, so any number of threads may call it at the same time, on slices that
- *   overlap only where all of them only read. A call takes at most 213 kB of stack, but gf_find_permutation 378 kB at 1,024 positions:
+ *   overlap only where all of them only read. A call takes at most 103 kB of stack, but gf_find_permutation 378 kB at 1,024 positions:
  *   docs/GUIDE.md has each call's, measured.
  *
  * WORK SLICES

@@ -12,7 +12,7 @@
 //! error, [`Refused`], that names the argument which is the reason of a refusal.
 //!
 //! The library has no state and allocates nothing: any number of threads may call it at the same time, each on slices that Rust lets it have.
-//! The plain forms here allocate work memory; those that end in `_with`, and those of [`tables`], allocate nothing. A call takes at most 213 kB of
+//! The plain forms here allocate work memory; those that end in `_with`, and those of [`tables`], allocate nothing. A call takes at most 103 kB of
 //! stack, but [`cells::find_permutation`] 378 kB at 1,024 positions; docs/GUIDE.md has a table.
 //!
 //! Sets are slices of `f64`. A set of order 2, 3 or 4 has a block of 9, 27 or 81 numbers for each pair, triple or quadruple of atoms;
